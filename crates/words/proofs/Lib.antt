@@ -1,0 +1,5 @@
+pub mod Recode
+pub mod Bytes
+pub mod Orders
+pub mod Slices
+pub mod Groups

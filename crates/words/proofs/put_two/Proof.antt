@@ -1,0 +1,46 @@
+use lib.ListN.{length-set}
+use mathlib.Core.Path.{_≡_, sym, ap, _∙_}
+use mathlib.Core.List.{[], _∷_}
+use native.Mathlib.Numerals.{towards-suc}
+use native.Mathlib.Omega.{arith}
+use Rattle.words.proofs.Slices.{put-out, sets-put-at}
+use borrow.Author.Needs.{needs}
+use Rattle.words.proofs.put_two.Statement.{statement}
+use Rattle.words.proofs.put_two.Tie as tie
+
+returns : tie.Need-returns
+returns c = record { lent = sym (put-out _ _ _ (omega arith)) }
+
+sub-if2 : tie.Need-sub-if2
+sub-if2 c = search needs
+
+returns-2 : tie.Need-returns-2
+returns-2 c = record { lent = sym (put-out _ _ _ (omega arith)) }
+
+slice-write-to : tie.Need-slice-write-to
+slice-write-to c = search needs
+
+add-to : tie.Need-add-to
+add-to c = search needs
+
+slice-write-to-2 : tie.Need-slice-write-to-2
+slice-write-to-2 c = simp length-set (omega arith)
+
+same-length : tie.Need-same-length
+same-length c = search needs
+
+returns-3 : tie.Need-returns-3
+returns-3 c = record { lent = simp towards-suc (sets-put-at _ _ (_ ∷ _ ∷ []) (omega arith)) }
+
+pub put-two-spec : {M : Type 1} → statement M
+put-two-spec =
+    tie.close
+    (tie.spec
+    returns
+    sub-if2
+    returns-2
+    slice-write-to
+    add-to
+    slice-write-to-2
+    same-length
+    returns-3)

@@ -1,0 +1,4 @@
+pub mod Promise
+pub mod Numbers
+pub mod Orders
+pub mod Slices

@@ -1,0 +1,145 @@
+// Numbers in lent bytes, the most significant byte first or the least.
+//
+// Every call is total: a number that would not stand wholly in the slice is read as 0 and not written. The end `at + n` is
+// never summed, so that it cannot wrap.
+ghost use mathlib.Core.List.{[], _∷_};
+ghost use mathlib.Core.Path.{_≡_};
+ghost use Rattle.words.specs.Numbers.{join, bytes};
+ghost use Rattle.words.specs.Orders.{inOrder, bytesOf, wordBytes};
+ghost use Rattle.words.specs.Slices.{putAt, numberAt};
+ghost use Rattle.words.specs.Promise.{Gives, Leaves};
+
+// Which byte of a number stands first.
+pub enum Order {
+    MostFirst,
+    LeastFirst,
+}
+
+// Two bytes as one number, the first foremost.
+fn half(a: u8, b: u8) -> u16
+    ensures { λ r. ⌜ r ≡ join (bytes 2) (a ∷ b ∷ []) ⌝ }
+{
+    a as u16 * 256 + b as u16
+}
+
+// Four bytes as one number, the first foremost.
+fn word(a: u8, b: u8, c: u8, d: u8) -> u32
+    ensures { λ r. ⌜ r ≡ join (bytes 4) (a ∷ b ∷ c ∷ d ∷ []) ⌝ }
+{
+    a as u32 * 0x100_0000 + b as u32 * 0x1_0000 + c as u32 * 256 + d as u32
+}
+
+fn half_in(order: Order, a: u8, b: u8) -> u16
+    ensures { λ r. ⌜ r ≡ join (bytes 2) (inOrder order (a ∷ b ∷ [])) ⌝ }
+{
+    match order {
+        Order::MostFirst => half(a, b),
+        Order::LeastFirst => half(b, a),
+    }
+}
+
+fn word_in(order: Order, a: u8, b: u8, c: u8, d: u8) -> u32
+    ensures { λ r. ⌜ r ≡ join (bytes 4) (inOrder order (a ∷ b ∷ c ∷ d ∷ [])) ⌝ }
+{
+    match order {
+        Order::MostFirst => word(a, b, c, d),
+        Order::LeastFirst => word(d, c, b, a),
+    }
+}
+
+// The 16-bit number at a place.
+pub fn get_u16(order: Order, from: &[u8], at: usize) -> u16
+    ensures { λ r. ⌜ Gives (numberAt order 2 (now (from .entry)) at) r ⌝ }
+{
+    if from.len() < 2 {
+        return 0;
+    }
+    if from.len() - 2 < at {
+        return 0;
+    }
+    half_in(order, from[at], from[at + 1])
+}
+
+// The 32-bit number at a place.
+pub fn get_u32(order: Order, from: &[u8], at: usize) -> u32
+    ensures { λ r. ⌜ Gives (numberAt order 4 (now (from .entry)) at) r ⌝ }
+{
+    if from.len() < 4 {
+        return 0;
+    }
+    if from.len() - 4 < at {
+        return 0;
+    }
+    word_in(order, from[at], from[at + 1], from[at + 2], from[at + 3])
+}
+
+fn put_two(to: &mut [u8], at: usize, a: u8, b: u8)
+    ensures { λ _. ⌜ Leaves (putAt (now (to .entry)) at (a ∷ b ∷ [])) (now (to .exit)) ⌝ }
+{
+    if to.len() < 2 {
+        return;
+    }
+    if to.len() - 2 < at {
+        return;
+    }
+    to[at] = a;
+    to[at + 1] = b;
+}
+
+fn put_four(to: &mut [u8], at: usize, a: u8, b: u8, c: u8, d: u8)
+    ensures { λ _. ⌜ Leaves (putAt (now (to .entry)) at (a ∷ b ∷ c ∷ d ∷ [])) (now (to .exit)) ⌝ }
+{
+    if to.len() < 4 {
+        return;
+    }
+    if to.len() - 4 < at {
+        return;
+    }
+    to[at] = a;
+    to[at + 1] = b;
+    to[at + 2] = c;
+    to[at + 3] = d;
+}
+
+// Writes a 16-bit number at a place.
+pub fn put_u16(order: Order, to: &mut [u8], at: usize, v: u16)
+    ensures { λ _. ⌜ Leaves (putAt (now (to .entry)) at (bytesOf order 2 v)) (now (to .exit)) ⌝ }
+{
+    let high = (v / 256 % 256) as u8;
+    let low = (v % 256) as u8;
+    match order {
+        Order::MostFirst => put_two(to, at, high, low),
+        Order::LeastFirst => put_two(to, at, low, high),
+    }
+}
+
+// Writes a 32-bit number at a place.
+pub fn put_u32(order: Order, to: &mut [u8], at: usize, v: u32)
+    ensures { λ _. ⌜ Leaves (putAt (now (to .entry)) at (bytesOf order 4 v)) (now (to .exit)) ⌝ }
+{
+    let a = (v / 0x100_0000 % 256) as u8;
+    let b = (v / 0x1_0000 % 256) as u8;
+    let c = (v / 256 % 256) as u8;
+    let d = (v % 256) as u8;
+    match order {
+        Order::MostFirst => put_four(to, at, a, b, c, d),
+        Order::LeastFirst => put_four(to, at, d, c, b, a),
+    }
+}
+
+// Writes 32-bit numbers one after the other from a place on.
+pub fn put_words(order: Order, to: &mut [u8], at: usize, ws: &[u32])
+    ensures { λ _. ⌜ Leaves (putAt (now (to .entry)) at (wordBytes order (now (ws .entry)))) (now (to .exit)) ⌝ }
+{
+    if to.len() / 4 < ws.len() {
+        return;
+    }
+    if to.len() - 4 * ws.len() < at {
+        return;
+    }
+    let mut i = 0;
+    while i < ws.len() {
+        put_u32(order, to, at + 4 * i, ws[i]);
+        i += 1;
+    }
+}
