@@ -1,0 +1,117 @@
+// Bus addresses and places in the window, kept apart: the window check alone turns one into the other. With them the paper's
+// refusal numbers, of which the check gives the first.
+ghost use Rattle.words.specs.Promise.{Gives};
+ghost use Rattle.bus.specs.Refusal.{refusalNumber};
+ghost use Rattle.bus.specs.Window.{Checked, Sought};
+
+// Why a call is refused, in the order of the paper's table.
+pub enum Refusal {
+    NoRegister,
+    BadMode,
+    BadWindow,
+    OtherWindow,
+    Misaligned,
+    Outside,
+    BadSize,
+    BadImage,
+    OddStream,
+}
+
+impl Refusal {
+    // The paper's number.
+    pub fn number(self) -> u32
+        ensures { λ r. ⌜ Gives (refusalNumber self) r ⌝ }
+    {
+        match self {
+            Refusal::NoRegister => 1,
+            Refusal::BadMode => 2,
+            Refusal::BadWindow => 3,
+            Refusal::OtherWindow => 4,
+            Refusal::Misaligned => 5,
+            Refusal::Outside => 6,
+            Refusal::BadSize => 7,
+            Refusal::BadImage => 8,
+            Refusal::OddStream => 9,
+        }
+    }
+}
+
+// An address on the bus, or a sum of addresses: wide enough that a sum never wraps.
+pub struct BusAddress(pub u64);
+
+// A place in the window. Its number is private, so that nothing but the window check makes one.
+pub struct Place(usize);
+
+impl Place {
+    // The place as an index into the window's bytes.
+    pub fn index(self) -> usize
+        ensures { λ r. ⌜ Gives (self .0) r ⌝ }
+    {
+        self.0
+    }
+}
+
+// Where bytes lie in the window.
+pub enum Located {
+    At(Place),
+    Outside,
+}
+
+// The lent bytes' place on the bus: `length` of them, the first at `base`.
+pub struct Window {
+    pub base: u32,
+    pub length: u32,
+}
+
+// A window within the limits, or BadWindow.
+pub enum CheckedWindow {
+    Good(Window),
+    Refused(Refusal),
+}
+
+impl Window {
+    // The most bytes that a window has.
+    pub const LONGEST: u64 = 65_536;
+
+    // How many addresses the bus has.
+    pub const ADDRESSES: u64 = 4_294_967_296;
+
+    // The window of `length` bytes at `base`, where both keep the limits.
+    pub fn checked(base: u64, length: u64) -> CheckedWindow
+        ensures { λ r. ⌜ Checked base length r ⌝ }
+    {
+        if Window::LONGEST < length {
+            return CheckedWindow::Refused(Refusal::BadWindow);
+        }
+        if Window::ADDRESSES <= base {
+            return CheckedWindow::Refused(Refusal::BadWindow);
+        }
+        if Window::ADDRESSES - length < base {
+            return CheckedWindow::Refused(Refusal::BadWindow);
+        }
+        CheckedWindow::Good(Window {
+            base: base as u32,
+            length: length as u32,
+        })
+    }
+
+    // Where `n` bytes at an address lie. No sum of addresses is taken, so none can wrap.
+    pub fn locate(self, address: BusAddress, n: u64) -> Located
+        ensures { λ r. ⌜ Sought self (address .0) n r ⌝ }
+    {
+        let base = self.base as u64;
+        let length = self.length as u64;
+        let a = address.0;
+        if a < base {
+            return Located::Outside;
+        }
+        let offset = a - base;
+        if length < offset {
+            return Located::Outside;
+        }
+        if length - offset < n {
+            return Located::Outside;
+        }
+        Located::At(Place(offset as usize))
+    }
+}
