@@ -1,11 +1,12 @@
 -- The window's definitions, met through orders of numbers.
 -- Assumes nothing.
 use Prim.Native.Nat.{ℕ, _+_, _≤_, _<_}
-use mathlib.Core.Path.{_≡_, refl, sym, ap, _∙_}
-use mathlib.Core.Bool.{Bool, true, false, _&&_}
+use mathlib.Core.Path.{_≡_, refl, ap, _∙_}
+use mathlib.Core.Bool.{Bool, true, false, cond, _&&_}
 use native.Mathlib.Omega.{arith}
 use lib.Dec.{leb}
 use borrow.Author.Tests.{le-leb, lt-leb, leb-true}
+use Rattle.bus.specs.declared.Place.{Place}
 use Rattle.bus.specs.declared.Window.{Window}
 use Rattle.bus.specs.declared.CheckedWindow.the-variants.{Good, Refused}
 use Rattle.bus.specs.declared.Located.the-variants.{At, Outside}
@@ -42,3 +43,27 @@ module _ (w : Window) (a n : ℕ) where
   pub past-window : w .base ≤ a → w .base + w .length < a + n → locatedOf w a n ≡ Outside
   unfolding locatedOf inWindow
   past-window h i = rw (le-leb (w .base) a h, lt-leb (a + n) (w .base + w .length) i)
+
+good-by : (t : Bool) (v w : Window) → cond t (Good v) (Refused BadWindow) ≡ Good w → (t ≡ true) × (w ≡ v)
+good-by true v w e = (refl, cc)
+good-by false v w e = absurd (let z : _≡_ {A = ℕ} 0 1 = cc in omega arith)
+
+-- a window that was checked is the one asked for, and keeps the limits
+pub checked-is : (base length : ℕ) (w : Window) → checkedOf base length ≡ Good w
+    → (keepsLimits base length ≡ true) × (w ≡ record { base = base; length = length })
+unfolding checkedOf
+checked-is base length w e = good-by (keepsLimits base length) (record { base = base; length = length }) w e
+
+within-by : (s t : Bool) (p q : Place) (w : Window) (a n : ℕ) → leb (w .base) a ≡ s → leb (a + n) (w .base + w .length) ≡ t
+    → p .0 ≡ placeOf w a → cond (s && t) (At p) Outside ≡ At q → (q .0 ≡ placeOf w a) × (q .0 + n ≤ w .length)
+within-by true true p q w a n f g i e =
+    let same : q ≡ p = cc in
+    let z : q .0 ≡ placeOf w a = ap (λ (x : Place). x .0) same ∙ i in
+    (z, omega (arith, leb-true (w .base) a f, leb-true (a + n) (w .base + w .length) g))
+within-by true false p q w a n f g i e = absurd (let z : _≡_ {A = ℕ} 0 1 = cc in omega arith)
+within-by false t p q w a n f g i e = absurd (let z : _≡_ {A = ℕ} 0 1 = cc in omega arith)
+
+-- the place found is the address less the base, and its bytes stand within the window
+pub located-is : (w : Window) (a n : ℕ) (q : Place) → locatedOf w a n ≡ At q → (q .0 ≡ placeOf w a) × (q .0 + n ≤ w .length)
+unfolding locatedOf inWindow
+located-is w a n q e = within-by _ _ (record { 0 = placeOf w a }) q w a n refl refl refl e

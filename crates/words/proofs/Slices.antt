@@ -1,16 +1,16 @@
 -- What is put into a slice, and what is read of it.
 -- Assumes nothing.
-use Prim.Native.Nat.{ℕ, zero, suc, _+_, _≤_, _<_}
+use Prim.Native.Nat.{ℕ, zero, suc, _+_, _-_, _≤_, _<_}
 use mathlib.Core.Path.{_≡_, refl, sym, ap, _∙_}
 use mathlib.Core.List.{List, [], _∷_, _++_, append-assoc}
-use native.Mathlib.Nat.{add-assoc}
+use native.Mathlib.Nat.{add-assoc, add-zero, mul-one, sub-zero, zero-sub, suc-sub-suc}
 use native.Mathlib.Omega.{arith}
-use native.Mathlib.Numerals.{towards-suc}
-use lib.ListN.{length, take, drop, getD, set, length-append, length-drop}
-use lib.Seq.{take-at, drop-at, drop-drop, drop-cons, sets, sets-eq, length-take-le}
+use lib.ListN.{length, take, drop, getD, length-append, length-drop, take-append-drop}
+use lib.Seq.{take-at, drop-at, drop-drop, drop-cons, sets, sets-eq, length-take-le, take-take, take-nil}
 use borrow.Author.Tests.{le-leb, lt-leb}
 use Rattle.words.specs.declared.Order.{Order}
-use Rattle.words.specs.Orders.{numberOf}
+use Rattle.words.specs.declared.Order.the-variants.{MostFirst, LeastFirst}
+use Rattle.words.specs.Orders.{numberOf, rowNumbers}
 use Rattle.words.specs.Slices.{part, put, putAt, numberAt}
 
 module _ (xs : List ℕ) (at : ℕ) where
@@ -70,3 +70,51 @@ elements-number order xs at n h = ap (numberOf order) (elements-part xs at n h) 
 -- bytes stored one after the other are put at their place
 pub sets-put-at : (xs : List ℕ) (at : ℕ) (ys : List ℕ) → at + length ys ≤ length xs → sets xs at ys ≡ putAt xs at ys
 sets-put-at xs at ys h = sets-put xs at ys h ∙ sym (put-in xs at ys h)
+
+drop-take : (k m : ℕ) (xs : List ℕ) → drop k (take m xs) ≡ take (m - k) (drop k xs)
+drop-take zero m xs = rw (sub-zero m)
+drop-take (suc k) zero xs = rw (zero-sub (suc k))
+drop-take (suc k) (suc m) [] = sym (take-nil (suc m - suc k))
+drop-take (suc k) (suc m) (x ∷ xs) = rw (suc-sub-suc m k) (drop-take k m xs)
+
+-- a part of a part
+pub part-part : (xs : List ℕ) (at m k n : ℕ) → k + n ≤ m → part (part xs at m) k n ≡ part xs (at + k) n
+part-part xs at m k n h =
+    ap (take n) (drop-take k m (drop at xs)) ∙ take-take n (m - k) (drop k (drop at xs)) (omega arith) ∙ ap (take n) (drop-drop k at xs)
+
+-- the number at an offset of a part
+pub number-in-part : (order : Order) (xs : List ℕ) (at m k n : ℕ) → at + m ≤ length xs → k + n ≤ m
+    → numberAt order n xs (at + k) ≡ numberOf order (part (part xs at m) k n)
+number-in-part order xs at m k n h i =
+    number-in xs (at + k) order n (omega arith) ∙ sym (ap (numberOf order) (part-part xs at m k n i))
+
+one-byte : (order : Order) (x : ℕ) → numberOf order (x ∷ []) ≡ x
+one-byte MostFirst x = simp (mul-one, add-zero)
+one-byte LeastFirst x = simp (mul-one, add-zero)
+
+-- the byte at an offset of a part
+pub byte-in-part : (order : Order) (xs : List ℕ) (at m k : ℕ) → at + m ≤ length xs → k + 1 ≤ m
+    → getD xs (at + k) 0 ≡ numberOf order (part (part xs at m) k 1)
+byte-in-part order xs at m k h i =
+    sym (one-byte order (getD xs (at + k) 0)) ∙ elements-number order xs (at + k) 1 (omega arith) ∙ number-in-part order xs at m k 1 h i
+
+-- the numbers of a row by the offsets at which they start
+abbrev pub numbersFrom : Order → ℕ → List ℕ → List ℕ → List ℕ
+numbersFrom order at [] xs = []
+numbersFrom order at (n ∷ ns) xs = numberOf order (part xs at n) ∷ numbersFrom order (at + n) ns xs
+
+pub row-from : (order : Order) (at : ℕ) (ns xs : List ℕ) → rowNumbers order ns (drop at xs) ≡ numbersFrom order at ns xs
+row-from order at [] xs = refl
+row-from order at (n ∷ ns) xs =
+    ap (λ (r : List ℕ). numberOf order (part xs at n) ∷ r) (ap (rowNumbers order ns) (drop-drop n at xs) ∙ row-from order (at + n) ns xs)
+
+-- what was put stands there
+pub part-put : (xs : List ℕ) (at : ℕ) (ys : List ℕ) (n : ℕ) → at + length ys ≤ length xs → length ys ≡ n → part (put xs at ys) at n ≡ ys
+part-put xs at ys n h e =
+    ap (take n) (drop-at (take at xs) (ys ++ drop (at + length ys) xs) at (length-take-le at xs (omega arith))) ∙ take-at ys (drop (at + length ys) xs) n e
+
+-- what stands there, put there again, changes nothing
+pub put-part : (xs : List ℕ) (at n : ℕ) → at + n ≤ length xs → put xs at (part xs at n) ≡ xs
+put-part xs at n h =
+    let l : length (part xs at n) ≡ n = length-take-le n (drop at xs) (simp length-drop (omega arith)) in
+    rw (l, ← drop-drop n at xs, take-append-drop n (drop at xs)) (take-append-drop at xs)

@@ -1,4 +1,5 @@
 pub mod Promise
 pub mod Numbers
+pub mod Bits
 pub mod Orders
 pub mod Slices
