@@ -2,10 +2,10 @@
 -- Assumes nothing.
 use Prim.Native.Nat.{ℕ}
 use mathlib.Core.Bool.{Bool, cond}
-use mathlib.Core.List.{List, [], _∷_, map}
+use mathlib.Core.List.{List, [], _∷_, _++_, map}
 use lib.ListN.{getD}
 use lib.Dec.{eqb}
-use Rattle.words.specs.Numbers.{recode, bytes}
+use Rattle.words.specs.Numbers.{split, recode, bytes}
 use Rattle.words.specs.Slices.{part}
 use Rattle.image.specs.declared.Fields.{Fields}
 
@@ -15,7 +15,6 @@ pub record Field : Type 0 where
   pub value : ℕ
 
 infix 70 _bits_
-
 abbrev pub _bits_ : ℕ → ℕ → Field
 w bits v = record { width = w; value = v }
 
@@ -102,3 +101,10 @@ sizesWidths = part widths 15 3
 
 abbrev pub doneWidths : List ℕ
 doneWidths = part widths 18 3
+
+-- the fields of the image's eleven words
+abbrev pub ofWords : (head control pointer base window address source destination sizes done faultat : ℕ) → Fields
+ofWords head control pointer base window address source destination sizes done faultat =
+    fieldsOf
+    (split headWidths head
+    ++ (control ∷ pointer ∷ base ∷ window ∷ address ∷ source ∷ destination ∷ (split sizesWidths sizes ++ (split doneWidths done ++ (faultat ∷ [])))))

@@ -42,15 +42,21 @@ abbrev pub wroteNumber : WroteImage → ℕ
 wroteNumber wrote.Done = 0
 wroteNumber (wrote.Refused r) = refusalNumber r
 
+-- 7 BadSize, then 8 BadImage, else 0
+abbrev pub imageNumber : (right keeps : Bool) → ℕ
+imageNumber right keeps = cond right (cond keeps 0 8) 7
+
 -- ---- the promises
 
 -- read
 pub record WasRead (xs : List ℕ) (r : ReadImage) : Type 0 where
   pub answer : r ≡ readOf xs
+  pub number : readNumber r ≡ imageNumber (sized xs) (keepsRules (fields xs))
 
 -- write
 pub record Wrote (f : Fields) (xs : List ℕ) (r : WroteImage) (xs' : List ℕ) : Type 0 where
   pub answer : r ≡ wroteOf f xs
+  pub number : wroteNumber r ≡ imageNumber (sized xs) (keepsRules f)
   pub lent : xs' ≡ imageOver f xs
 
 pub read-unique : {xs : List ℕ} {r s : ReadImage} → WasRead xs r → WasRead xs s → r ≡ s

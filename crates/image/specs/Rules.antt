@@ -11,12 +11,10 @@ use Rattle.image.specs.declared.Fields.{Fields}
 -- ---- tests put together
 
 infixr 25 _⇒_
-
 abbrev pub _⇒_ : Bool → Bool → Bool
 a ⇒ b = not a || b
 
 infix 25 _exactly_
-
 abbrev pub _exactly_ : Bool → Bool → Bool
 a exactly b = Bool·beq a b
 

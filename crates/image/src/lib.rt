@@ -1,8 +1,15 @@
 // The saved image of a machine: 44 bytes, its fields as numbers, and the rule that each field keeps.
 ghost use mathlib.Core.Path.{_≡_};
-ghost use Rattle.words.specs.Promise.{Gives};
+ghost use mathlib.Core.List.{[], _∷_};
+ghost use lib.ListN.{length};
+ghost use Rattle.words.specs.Numbers.{join, Fit};
+ghost use Rattle.words.specs.Promise.{Gives, Leaves};
+ghost use Rattle.words.specs.Slices.{numberAt};
+ghost use Rattle.words.specs.declared.Order.the-variants.{MostFirst};
 ghost use Rattle.bus.specs.Window.{keepsLimits, inWindow};
+ghost use Rattle.image.specs.Layout.{flag, values, widths, image, fields, headWidths, sizesWidths, doneWidths, ofWords};
 ghost use Rattle.image.specs.Rules.{zeroOutside, phaseKept, faultKept, statusKept, controlKept, addressKept, sizeKept, dcontrolKept, errorsKept, asked, movedKept, eopKept, rules, firstFalse, lowestBroken};
+ghost use Rattle.image.specs.Promise.{WasRead, Wrote};
 use bus::BusAddress;
 use bus::CheckedWindow;
 use bus::Located;
@@ -50,10 +57,15 @@ pub enum WroteImage {
 
 // The phases that the rules speak of.
 const FETCH: u8 = 1;
+
 const MOVE: u8 = 2;
+
 const WRITE_BACK: u8 = 3;
+
 const ENDED: u8 = 4;
+
 const HALTED: u8 = 5;
+
 const FAULTED: u8 = 6;
 
 fn phase_kept(mode: u8, phase: u8) -> bool
@@ -172,7 +184,10 @@ fn eop_kept(mode: u8, phase: u8, whole: u16, moved: u16, eop: bool) -> bool
     let moving = phase == MOVE;
     let done = phase == WRITE_BACK;
     let reads = (mode == 0) | (mode == 1);
-    ((moving | done) | !eop) & (!reads | !eop) & (!moving | !eop) & (!done | ((moved == whole) | eop))
+    ((moving | done) | !eop)
+        & (!reads | !eop)
+        & (!moving | !eop)
+        & (!done | ((moved == whole) | eop))
 }
 
 // Whether each field keeps its rule, in layout order.
@@ -226,4 +241,183 @@ pub fn broken(f: Fields) -> u32
     ensures { λ r. ⌜ Gives (lowestBroken f) r ⌝ }
 {
     first_false(kept(f))
+}
+
+// A bool as its bit.
+fn bit(b: bool) -> u8
+    ensures { λ r. ⌜ r ≡ flag b ⌝ }
+{
+    b as u8
+}
+
+// The first word's fields side by side, in order.
+fn head(
+    edition: u8,
+    mode: u8,
+    phase: u8,
+    armed: u8,
+    pending: u8,
+    fault: u8,
+    status: u8,
+    count: u8,
+) -> u32
+    requires { ⌜ Fit headWidths (edition ∷ mode ∷ phase ∷ armed ∷ pending ∷ fault ∷ status ∷ count ∷ []) ⌝ }
+    ensures { λ r. ⌜ r ≡ join headWidths (edition ∷ mode ∷ phase ∷ armed ∷ pending ∷ fault ∷ status ∷ count ∷ []) ⌝ }
+{
+    let w = edition as u32;
+    let w = w * 4 + mode as u32;
+    let w = w * 8 + phase as u32;
+    let w = w * 2 + armed as u32;
+    let w = w * 2 + pending as u32;
+    let w = w * 32 + fault as u32;
+    let w = w * 256 + status as u32;
+    w * 256 + count as u32
+}
+
+// The ninth word's.
+fn sizes(size: u16, dcontrol: u8, errors: u8) -> u32
+    ensures { λ r. ⌜ r ≡ join sizesWidths (size ∷ dcontrol ∷ errors ∷ []) ⌝ }
+{
+    let w = size as u32;
+    let w = w * 256 + dcontrol as u32;
+    w * 256 + errors as u32
+}
+
+// The tenth word's.
+fn done(moved: u16, eop: u8, rest: u16) -> u32
+    requires { ⌜ Fit doneWidths (moved ∷ eop ∷ rest ∷ []) ⌝ }
+    ensures { λ r. ⌜ r ≡ join doneWidths (moved ∷ eop ∷ rest ∷ []) ⌝ }
+{
+    let w = moved as u32;
+    let w = w * 2 + eop as u32;
+    w * 0x8000 + rest as u32
+}
+
+// Writes the fields of an image, each on its line, in order.
+fn pack(f: Fields, to: &mut [u8])
+    requires { ⌜ length (now to) ≡ 44 ⌝ }
+    requires { ⌜ Fit widths (values f) ⌝ }
+    ensures { λ _. ⌜ Leaves (image f) (now (to .exit)) ⌝ }
+{
+    let words = [
+        head(
+            f.edition,
+            f.mode,
+            f.phase,
+            bit(f.armed),
+            bit(f.pending),
+            f.fault,
+            f.status,
+            f.count,
+        ),
+        f.control,
+        f.pointer,
+        f.base,
+        f.window,
+        f.address,
+        f.source,
+        f.destination,
+        sizes(f.size, f.dcontrol, f.errors),
+        done(f.moved, bit(f.eop), f.rest),
+        f.faultat,
+    ];
+    words::put_words(Order::MostFirst, to, 0, &words);
+}
+
+// The fields that eleven words hold, each on its line, in order.
+fn from_words(
+    head: u32,
+    control: u32,
+    pointer: u32,
+    base: u32,
+    window: u32,
+    address: u32,
+    source: u32,
+    destination: u32,
+    sizes: u32,
+    done: u32,
+    faultat: u32,
+) -> Fields
+    ensures { λ r. ⌜ r ≡ ofWords head control pointer base window address source destination sizes done faultat ⌝ }
+{
+    Fields {
+        edition: (head / 0x1000_0000 % 16) as u8,
+        mode: (head / 0x400_0000 % 4) as u8,
+        phase: (head / 0x80_0000 % 8) as u8,
+        armed: head / 0x40_0000 % 2 == 1,
+        pending: head / 0x20_0000 % 2 == 1,
+        fault: (head / 0x1_0000 % 32) as u8,
+        status: (head / 256 % 256) as u8,
+        count: (head % 256) as u8,
+        control,
+        pointer,
+        base,
+        window,
+        address,
+        source,
+        destination,
+        size: (sizes / 0x1_0000 % 0x1_0000) as u16,
+        dcontrol: (sizes / 256 % 256) as u8,
+        errors: (sizes % 256) as u8,
+        moved: (done / 0x1_0000 % 0x1_0000) as u16,
+        eop: done / 0x8000 % 2 == 1,
+        rest: (done % 0x8000) as u16,
+        faultat,
+    }
+}
+
+fn word(from: &[u8], at: usize) -> u32
+    ensures { λ r. ⌜ Gives (numberAt MostFirst 4 (now (from .entry)) at) r ⌝ }
+{
+    words::get_u32(Order::MostFirst, from, at)
+}
+
+fn unpack(from: &[u8]) -> Fields
+    requires { ⌜ length (now from) ≡ 44 ⌝ }
+    ensures { λ r. ⌜ Gives (fields (now (from .entry))) r ⌝ }
+{
+    from_words(
+        word(from, 0),
+        word(from, 4),
+        word(from, 8),
+        word(from, 12),
+        word(from, 16),
+        word(from, 20),
+        word(from, 24),
+        word(from, 28),
+        word(from, 32),
+        word(from, 36),
+        word(from, 40),
+    )
+}
+
+// The bytes of an image.
+const SIZE: usize = 44;
+
+// Reads an image: its fields, where it has the right size and they keep the rules.
+pub fn read(from: &[u8]) -> ReadImage
+    ensures { λ r. ⌜ WasRead (now (from .entry)) r ⌝ }
+{
+    if from.len() != SIZE {
+        return ReadImage::Refused(Refusal::BadSize);
+    }
+    let f = unpack(from);
+    if broken(f) != 0 {
+        return ReadImage::Refused(Refusal::BadImage);
+    }
+    ReadImage::Good(f)
+}
+
+// Writes the image of fields that keep the rules. Where it is refused nothing is written.
+pub fn write(f: Fields, to: &mut [u8]) -> WroteImage
+    ensures { λ r. ⌜ Wrote f (now (to .entry)) r (now (to .exit)) ⌝ }
+{
+    if to.len() != SIZE {
+        return WroteImage::Refused(Refusal::BadSize);
+    }
+    if broken(f) != 0 {
+        return WroteImage::Refused(Refusal::BadImage);
+    }
+    pack(f, to);
+    WroteImage::Done
 }

@@ -3,20 +3,13 @@ use mathlib.Core.Path.{ap, _∙_}
 use borrow.Author.Needs.{needs}
 use Rattle.image.proofs.broken.Statement.{statement}
 use Rattle.image.proofs.broken.Tie as tie
-use Rattle.image.proofs.broken.Reads as reads
-use Rattle.image.proofs.broken.Lts as lts
-use Rattle.image.proofs.first_false.Reads as first-false-reads
-use Rattle.image.proofs.kept.Reads as kept-reads
 
--- src/lib.rt:216:17
 kept-requires : tie.Need-kept-requires
 kept-requires c κs = search needs
 
--- src/lib.rt:216:5
 first-false-requires : tie.Need-first-false-requires
 first-false-requires c κs = search needs
 
--- src/lib.rt:213:1
 returns : tie.Need-returns
 unfolding lowestBroken
 returns c = record { value = c .first-false .ensures ∙ ap (firstFalse 1) (c .before .kept .ensures) }

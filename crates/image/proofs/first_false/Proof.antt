@@ -11,8 +11,6 @@ use lib.Seq.{drop-cons}
 use Rattle.image.specs.Rules.{firstFalse}
 use Rattle.image.proofs.first_false.Statement.{statement}
 use Rattle.image.proofs.first_false.Tie as tie
-use Rattle.image.proofs.first_false.Reads as reads
-use Rattle.image.proofs.first_false.Lts as lts
 
 -- the first that fails is past those that hold
 past : (bs : List Bool) (i : ℕ) (d : Bool) → i < length bs → getD bs i d ≡ true → firstFalse (i + 1) (drop i bs) ≡ firstFalse (i + 1 + 1) (drop (i + 1) bs)
@@ -30,23 +28,18 @@ Inv-loop kept i₀ i = (i ≤ 22) × (firstFalse 1 kept ≡ firstFalse (i + 1) (
 abbrev μ-loop : tie.MeasureT-loop
 μ-loop kept i₀ i = 22 - i
 
--- src/lib.rt:68:5
 loop-holds : tie.Need-loop-holds Inv-loop μ-loop
 loop-holds c = (search needs, refl)
 
--- src/lib.rt:69:13
 array-read-if1 : tie.Need-array-read-if1 Inv-loop μ-loop
 array-read-if1 c = search needs
 
--- src/lib.rt:70:20
 cast-result : tie.Need-cast-result Inv-loop μ-loop
 cast-result c = search needs
 
--- src/lib.rt:70:20
 add-result : tie.Need-add-result Inv-loop μ-loop
 add-result c = search needs
 
--- src/lib.rt:70:13
 returns : tie.Need-returns Inv-loop μ-loop
 returns c =
     let at = c .before .before in
@@ -54,15 +47,12 @@ returns c =
     let h : at .loop .i < length bs = search needs in
     sym (at .loop .inv .1 ∙ found bs (at .loop .i) _ h (not-true _ (c .if1 .taken)))
 
--- src/lib.rt:72:9
 add-i : tie.Need-add-i Inv-loop μ-loop
 add-i c = search needs
 
--- src/lib.rt:68:5
 loop-less : tie.Need-loop-less Inv-loop μ-loop
 loop-less c = search needs
 
--- src/lib.rt:68:5
 loop-again : tie.Need-loop-again Inv-loop μ-loop
 loop-again c =
     let at = c .before .before in
@@ -70,7 +60,6 @@ loop-again c =
     let h : at .loop .i < length bs = search needs in
     (search needs, at .loop .inv .1 ∙ past bs (at .loop .i) _ h (not-false _ (c .if1 .left)))
 
--- src/lib.rt:64:1
 returns-2 : tie.Need-returns-2 Inv-loop μ-loop
 returns-2 c =
     let at = c .before in

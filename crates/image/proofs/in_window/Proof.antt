@@ -3,27 +3,19 @@ use mathlib.Core.Path.{sym, _∙_}
 use borrow.Author.Needs.{needs}
 use Rattle.image.proofs.in_window.Statement.{statement}
 use Rattle.image.proofs.in_window.Tie as tie
-use Rattle.image.proofs.in_window.Reads as reads
-use Rattle.image.proofs.in_window.Lts as lts
-use Rattle.bus.proofs.Window.locate.Reads as locate-reads
 
--- src/lib.rt:100:11
 locate-requires : tie.Need-locate-requires
 locate-requires c κs = search needs
 
--- src/lib.rt:101:27
 enum-told : tie.Need-enum-told
 enum-told c = search needs
 
--- src/lib.rt:102:29
 enum-told-2 : tie.Need-enum-told-2
 enum-told-2 c = search needs
 
--- src/lib.rt:93:1
 returns : tie.Need-returns
 returns c = sym (at-in _ _ _ _ (sym (c .before .before .locate .ensures .answer) ∙ c .enum-told .given .1))
 
--- src/lib.rt:93:1
 returns-2 : tie.Need-returns-2
 returns-2 c = sym (outside-out _ _ _ (sym (c .before .before .locate .ensures .answer) ∙ c .enum-told2 .given .1))
 

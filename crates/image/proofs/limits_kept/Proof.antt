@@ -3,27 +3,19 @@ use mathlib.Core.Path.{sym, _∙_}
 use borrow.Author.Needs.{needs}
 use Rattle.image.proofs.limits_kept.Statement.{statement}
 use Rattle.image.proofs.limits_kept.Tie as tie
-use Rattle.image.proofs.limits_kept.Reads as reads
-use Rattle.image.proofs.limits_kept.Lts as lts
-use Rattle.bus.proofs.Window.checked.Reads as checked-reads
 
--- src/lib.rt:86:11
 checked-requires : tie.Need-checked-requires
 checked-requires c κs = search needs
 
--- src/lib.rt:87:35
 enum-told : tie.Need-enum-told
 enum-told c = search needs
 
--- src/lib.rt:88:38
 enum-told-2 : tie.Need-enum-told-2
 enum-told-2 c = search needs
 
--- src/lib.rt:83:1
 returns : tie.Need-returns
 returns c = sym (good-keeps _ _ _ (sym (c .before .before .checked .ensures .answer) ∙ c .enum-told .given .1))
 
--- src/lib.rt:83:1
 returns-2 : tie.Need-returns-2
 returns-2 c = sym (refused-breaks _ _ _ (sym (c .before .before .checked .ensures .answer) ∙ c .enum-told2 .given .1))
 
