@@ -1,0 +1,126 @@
+-- What reading and writing answer, by cases; and that an image is read exactly when it keeps the rules.
+-- Assumes nothing.
+use Prim.Native.Nat.{ℕ}
+use mathlib.Core.Path.{_≡_, refl, sym, ap, subst, _∙_}
+use mathlib.Core.Bool.{Bool, true, false, cond}
+use mathlib.Core.List.{List}
+use mathlib.Core.Logic.{_↔_}
+use native.Mathlib.Omega.{arith}
+use lib.ListN.{length}
+use lib.Dec.{eqb}
+use borrow.Author.Tests.{eq-eqb, ne-eqb, eqb-true}
+use Rattle.words.specs.Numbers.{Fit}
+use Rattle.words.proofs.Bytes.{AllBytes}
+use Rattle.bus.specs.declared.Refusal.{Refusal}
+use Rattle.bus.specs.declared.Refusal.the-variants.{BadSize, BadImage}
+use Rattle.image.specs.declared.Fields.{Fields}
+use Rattle.image.specs.declared.ReadImage.{ReadImage}
+use Rattle.image.specs.declared.ReadImage.the-variants as read
+use Rattle.image.specs.declared.WroteImage.{WroteImage}
+use Rattle.image.specs.declared.WroteImage.the-variants as wrote
+use Rattle.image.specs.Layout.{values, widths, image, fields}
+use Rattle.image.specs.Rules.{lowestBroken, keepsRules}
+use Rattle.image.specs.Promise.{sized, readOf, wroteOf, imageOver, readNumber, wroteNumber, imageNumber, WasRead, Wrote}
+use Rattle.image.proofs.RoundTrip.{length-image, fields-image, image-fields, fields-fit}
+use Rattle.image.proofs.Fitting.{Typed, keeps-fit}
+
+pub keeps : (f : Fields) → lowestBroken f ≡ 0 → keepsRules f ≡ true
+unfolding keepsRules
+keeps f e = eq-eqb _ _ e
+
+pub breaks : (f : Fields) → (lowestBroken f ≡ 0 → ⊥) → keepsRules f ≡ false
+unfolding keepsRules
+breaks f e = ne-eqb _ _ e
+
+pub kept-none : (f : Fields) → keepsRules f ≡ true → lowestBroken f ≡ 0
+unfolding keepsRules
+kept-none f e = eqb-true _ _ e
+
+-- ---- reading
+
+pub was-read : {xs : List ℕ} {r : ReadImage} → r ≡ readOf xs → WasRead xs r
+unfolding readOf
+was-read {xs} e = record { answer = e; number = ap readNumber e ∙ number (sized xs) (keepsRules (fields xs)) }
+  where
+    number : (t k : Bool) → readNumber (cond t (cond k (read.Good (fields xs)) (read.Refused BadImage)) (read.Refused BadSize)) ≡ imageNumber t k
+    number true true = refl
+    number true false = refl
+    number false k = refl
+
+module _ (xs : List ℕ) where
+  pub read-size : (length xs ≡ 44 → ⊥) → readOf xs ≡ read.Refused BadSize
+  unfolding readOf
+  read-size h = rw (ne-eqb (length xs) 44 h)
+
+  pub read-broken : length xs ≡ 44 → (lowestBroken (fields xs) ≡ 0 → ⊥) → readOf xs ≡ read.Refused BadImage
+  unfolding readOf
+  read-broken l h = rw (eq-eqb (length xs) 44 l, breaks (fields xs) h)
+
+  pub read-good : length xs ≡ 44 → lowestBroken (fields xs) ≡ 0 → readOf xs ≡ read.Good (fields xs)
+  unfolding readOf
+  read-good l h = rw (eq-eqb (length xs) 44 l, keeps (fields xs) h)
+
+-- what a good answer tells
+good-from : (t k : Bool) (g f : Fields) → cond t (cond k (read.Good g) (read.Refused BadImage)) (read.Refused BadSize) ≡ read.Good f
+    → (t ≡ true) × (k ≡ true) × (f ≡ g)
+good-from true true g f e = (refl, refl, cc)
+good-from true false g f e = absurd (let z : _≡_ {A = ℕ} 0 1 = cc in omega arith)
+good-from false k g f e = absurd (let z : _≡_ {A = ℕ} 0 1 = cc in omega arith)
+
+module _ (xs : List ℕ) (f : Fields) (e : readOf xs ≡ read.Good f) where
+  told : (sized xs ≡ true) × (keepsRules (fields xs) ≡ true) × (f ≡ fields xs)
+  unfolding readOf
+  told = good-from (sized xs) (keepsRules (fields xs)) (fields xs) f e
+
+  pub good-length : length xs ≡ 44
+  good-length = eqb-true _ _ (told .0)
+
+  pub good-fields : f ≡ fields xs
+  good-fields = told .2
+
+  pub good-keeps : lowestBroken f ≡ 0
+  good-keeps = ap lowestBroken (told .2) ∙ kept-none (fields xs) (told .1)
+
+  pub good-fits : Fit widths (values f)
+  good-fits = subst (λ (g : Fields). Fit widths (values g)) (sym (told .2)) (fields-fit xs)
+
+-- the image of fields that keep the rules is read as these fields
+pub read-image : (f : Fields) → Typed f → lowestBroken f ≡ 0 → readOf (image f) ≡ read.Good f
+read-image f t e =
+    let back : fields (image f) ≡ f = fields-image f (keeps-fit f t e) in
+    read-good (image f) (length-image f) (ap lowestBroken back ∙ e) ∙ ap read.Good back
+
+-- bytes are read as f exactly when they are 44, f keeps the rules and they are its image
+pub read-exactly : (xs : List ℕ) (f : Fields) → AllBytes xs → Typed f
+    → (readOf xs ≡ read.Good f) ↔ ((length xs ≡ 44) × (lowestBroken f ≡ 0) × (image f ≡ xs))
+read-exactly xs f g t = (there, back)
+  where
+    there : readOf xs ≡ read.Good f → (length xs ≡ 44) × (lowestBroken f ≡ 0) × (image f ≡ xs)
+    there e = (good-length xs f e, good-keeps xs f e, ap image (good-fields xs f e) ∙ image-fields xs (good-length xs f e) g)
+
+    back : (length xs ≡ 44) × (lowestBroken f ≡ 0) × (image f ≡ xs) → readOf xs ≡ read.Good f
+    back (l, k, i) = ap readOf (sym i) ∙ read-image f t k
+
+-- ---- writing
+
+pub was-wrote : {f : Fields} {xs ys : List ℕ} {r : WroteImage} → r ≡ wroteOf f xs → ys ≡ imageOver f xs → Wrote f xs r ys
+unfolding wroteOf
+was-wrote {f} {xs} e h = record { answer = e; number = ap wroteNumber e ∙ number (sized xs) (keepsRules f); lent = h }
+  where
+    number : (t k : Bool) → wroteNumber (cond t (cond k wrote.Done (wrote.Refused BadImage)) (wrote.Refused BadSize)) ≡ imageNumber t k
+    number true true = refl
+    number true false = refl
+    number false k = refl
+
+module _ (f : Fields) (xs : List ℕ) where
+  pub wrote-size : (length xs ≡ 44 → ⊥) → Wrote f xs (wrote.Refused BadSize) xs
+  unfolding wroteOf imageOver
+  wrote-size h = was-wrote (rw (ne-eqb (length xs) 44 h)) (rw (ne-eqb (length xs) 44 h))
+
+  pub wrote-broken : length xs ≡ 44 → (lowestBroken f ≡ 0 → ⊥) → Wrote f xs (wrote.Refused BadImage) xs
+  unfolding wroteOf imageOver
+  wrote-broken l h = was-wrote (rw (eq-eqb (length xs) 44 l, breaks f h)) (rw (eq-eqb (length xs) 44 l, breaks f h))
+
+  pub wrote-done : length xs ≡ 44 → lowestBroken f ≡ 0 → (ys : List ℕ) → ys ≡ image f → Wrote f xs wrote.Done ys
+  unfolding wroteOf imageOver
+  wrote-done l h ys e = was-wrote (rw (eq-eqb (length xs) 44 l, keeps f h)) (e ∙ rw (eq-eqb (length xs) 44 l, keeps f h))

@@ -1,0 +1,44 @@
+-- Fields that keep the rules fit the layout.
+-- Assumes nothing.
+use Prim.Native.Nat.{_<_}
+use mathlib.Core.Path.{_≡_}
+use mathlib.Core.Bool.{Bool, true, false}
+use native.Mathlib.Omega.{arith}
+use Rattle.words.specs.Numbers.{Fit}
+use Rattle.image.specs.declared.Fields.{Fields}
+use Rattle.image.specs.Layout.{flag, values, widths}
+use Rattle.image.specs.Rules.{lowestBroken}
+use Rattle.image.proofs.Facts.{edition-is, mode-le, phase-le, fault-le, status-lt, count-le, control-lt, base-le, window-le, errors-lt, rest-is}
+
+-- the numbers whose bounds the rules leave to their types
+pub record Typed (f : Fields) : Type 0 where
+  pub pointer : f .pointer < 4294967296
+  pub address : f .address < 4294967296
+  pub source : f .source < 4294967296
+  pub destination : f .destination < 4294967296
+  pub size : f .size < 65536
+  pub dcontrol : f .dcontrol < 256
+  pub moved : f .moved < 65536
+  pub faultat : f .faultat < 4294967296
+
+flag-lt : (b : Bool) → flag b < 2
+flag-lt true = omega arith
+flag-lt false = omega arith
+
+pub keeps-fit : (f : Fields) → Typed f → lowestBroken f ≡ 0 → Fit widths (values f)
+keeps-fit f t e =
+    let edition = edition-is f e in
+    let mode = mode-le f e in
+    let phase = phase-le f e in
+    let fault = fault-le f e in
+    let status = status-lt f e in
+    let count = count-le f e in
+    let control = control-lt f e in
+    let base = base-le f e in
+    let window = window-le f e in
+    let errors = errors-lt f e in
+    let rest = rest-is f e in
+    let armed = flag-lt (f .armed) in
+    let pending = flag-lt (f .pending) in
+    let eop = flag-lt (f .eop) in
+    omega arith

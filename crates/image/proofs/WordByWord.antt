@@ -1,0 +1,122 @@
+-- The image and its fields, met a word of 32 bits at a time, as the code meets them.
+-- Assumes nothing.
+use Prim.Native.Nat.{ℕ, _+_, _*_, _/_, _%_, _^_, _<_, _≤_}
+use mathlib.Core.Path.{_≡_, refl, sym, ap, subst, _∙_}
+use mathlib.Core.List.{List, [], _∷_, _++_, map, append-nil}
+use native.Mathlib.Nat.{zero-add, mul-one, add-zero, div-one, mod-eq-of-lt}
+use native.Mathlib.Omega.{arith}
+use lib.ListN.{length, take, drop, length-drop, drop-of-length-le}
+use lib.Seq.{drop-drop, length-take-le}
+use lib.Dec.{lit≤}
+use Rattle.words.specs.declared.Order.the-variants.{MostFirst}
+use Rattle.words.specs.Numbers.{join, split, recode, bytes, Fit}
+use Rattle.words.specs.Orders.{wordBytes}
+use Rattle.words.specs.Slices.{part, putAt, numberAt}
+use Rattle.words.proofs.Recode.{join-lt}
+use Rattle.words.proofs.Bytes.{AllBytes, drop-bytes}
+use Rattle.words.proofs.Slices.{number-in, put-in}
+use Rattle.words.proofs.Groups.{concat, recodes, Even, Fits, joins, Alike, parts, fours, recode-groups, fits-of, recodes-words, parts-all, parts-fit}
+use Rattle.image.specs.declared.Fields.{Fields}
+use Rattle.image.specs.Layout.{values, widths, fieldsOf, image, fields, headWidths, sizesWidths, doneWidths, ofWords}
+
+-- ---- words of bytes
+
+-- a word is the number of its four bytes
+word-join : (xs : List ℕ) (at : ℕ) → at + 4 ≤ length xs → join (bytes 4) (part xs at 4) ≡ numberAt MostFirst 4 xs at
+word-join xs at h =
+    let l : length (part xs at 4) ≡ 4 = length-take-le 4 (drop at xs) (simp length-drop (omega arith)) in
+    sym (number-in xs at MostFirst 4 h ∙ rw l)
+
+word-lt : (xs : List ℕ) (at : ℕ) → at + 4 ≤ length xs → AllBytes xs → numberAt MostFirst 4 xs at < 2 ^ 32
+word-lt xs at h g =
+    subst (λ (n : ℕ). n < 2 ^ 32) (word-join xs at h)
+    (join-lt (bytes 4) (part xs at 4) (parts-fit (drop at xs) (4 ∷ []) (simp length-drop (omega arith)) (drop-bytes at xs g) .0))
+
+-- four bytes for each run of fields
+abbrev fourEach : List (List ℕ) → List ℕ
+fourEach fs = map (λ f. 4) fs
+
+-- the words of a slice from a place on, as many as there are runs
+abbrev wordsAt : List ℕ → ℕ → List (List ℕ) → List ℕ
+wordsAt xs at [] = []
+wordsAt xs at (f ∷ fs) = numberAt MostFirst 4 xs at ∷ wordsAt xs (at + 4) fs
+
+-- each word cut into its run
+abbrev splits : List (List ℕ) → List ℕ → List ℕ
+splits [] ws = []
+splits (f ∷ fs) [] = []
+splits (f ∷ fs) (w ∷ ws) = split f w ++ splits fs ws
+
+cut-words : (fs : List (List ℕ)) (xs : List ℕ) (at : ℕ) → at + 4 * length fs ≤ length xs
+    → recodes (fours fs) fs (parts (drop at xs) (fourEach fs)) ≡ splits fs (wordsAt xs at fs)
+cut-words [] xs at h = refl
+cut-words (f ∷ fs) xs at h =
+    rw (word-join xs at (omega arith), drop-drop 4 at xs, cut-words fs xs (at + 4) (omega arith))
+
+-- what is put over a whole slice is all that is left in it
+pub put-all : (xs ys : List ℕ) → length ys ≡ length xs → putAt xs 0 ys ≡ ys
+put-all xs ys l =
+    put-in xs 0 ys (omega arith) ∙ rw (zero-add (length ys), drop-of-length-le xs {i = length ys} (omega arith)) (append-nil ys)
+
+-- ---- the layout in words
+
+abbrev one : List ℕ
+one = 32 ∷ []
+
+abbrev words : List (List ℕ)
+words = headWidths ∷ one ∷ one ∷ one ∷ one ∷ one ∷ one ∷ one ∷ sizesWidths ∷ doneWidths ∷ one ∷ []
+
+abbrev wordsOf : Fields → List (List ℕ)
+wordsOf f =
+    part (values f) 0 8 ∷ (f .control ∷ []) ∷ (f .pointer ∷ []) ∷ (f .base ∷ []) ∷ (f .window ∷ []) ∷ (f .address ∷ []) ∷ (f .source ∷ [])
+    ∷ (f .destination ∷ []) ∷ part (values f) 15 3 ∷ part (values f) 18 3 ∷ (f .faultat ∷ []) ∷ []
+
+alike : (f : Fields) → Alike words (wordsOf f)
+alike f = (refl, (refl, (refl, (refl, (refl, (refl, (refl, (refl, (refl, (refl, (refl, tt)))))))))))
+
+even : Even words (fours words)
+even = (refl, (refl, (refl, (refl, (refl, (refl, (refl, (refl, (refl, (refl, (refl, tt)))))))))))
+
+odd : Even (fours words) words
+odd = (refl, (refl, (refl, (refl, (refl, (refl, (refl, (refl, (refl, (refl, (refl, tt)))))))))))
+
+-- the image is the bytes of its words
+pub image-words : (f : Fields) → Fit widths (values f)
+    → image f ≡ wordBytes MostFirst (join headWidths (part (values f) 0 8) ∷ f .control ∷ f .pointer ∷ f .base ∷ f .window ∷ f .address ∷ f .source
+    ∷ f .destination ∷ join sizesWidths (part (values f) 15 3) ∷ join doneWidths (part (values f) 18 3) ∷ f .faultat ∷ [])
+unfolding image
+image-words f p =
+    let singles : joins words (wordsOf f) ≡ join headWidths (part (values f) 0 8) ∷ f .control ∷ f .pointer ∷ f .base ∷ f .window ∷ f .address ∷ f .source
+    ∷ f .destination ∷ join sizesWidths (part (values f) 15 3) ∷ join doneWidths (part (values f) 18 3) ∷ f .faultat ∷ [] = simp (mul-one, add-zero) in
+    recode-groups words (fours words) (wordsOf f) even (fits-of words (wordsOf f) (alike f) p)
+    ∙ recodes-words words (wordsOf f) (alike f) ∙ ap (wordBytes MostFirst) singles
+
+-- the fields are those of the image's words
+module _ (xs : List ℕ) (l : length xs ≡ 44) (g : AllBytes xs) where
+  cut : fields xs ≡ fieldsOf (splits words (wordsAt xs 0 words))
+  unfolding fields
+  cut =
+      ap (λ (ys : List ℕ). fieldsOf (recode (bytes 44) widths ys)) (sym (parts-all xs (fourEach words) l))
+      ∙ ap fieldsOf (recode-groups (fours words) words (parts xs (fourEach words)) odd (parts-fit xs (fourEach words) (omega arith) g))
+      ∙ ap fieldsOf (cut-words words xs 0 (omega arith))
+
+  whole : (at : ℕ) → at + 4 ≤ 44 → numberAt MostFirst 4 xs at % 2 ^ 32 ≡ numberAt MostFirst 4 xs at
+  whole at h = mod-eq-of-lt (word-lt xs at (rw l h) g)
+
+  pub fields-words : fields xs
+      ≡ ofWords (numberAt MostFirst 4 xs 0) (numberAt MostFirst 4 xs 4) (numberAt MostFirst 4 xs 8) (numberAt MostFirst 4 xs 12)
+      (numberAt MostFirst 4 xs 16) (numberAt MostFirst 4 xs 20) (numberAt MostFirst 4 xs 24) (numberAt MostFirst 4 xs 28)
+      (numberAt MostFirst 4 xs 32) (numberAt MostFirst 4 xs 36) (numberAt MostFirst 4 xs 40)
+  fields-words =
+      cut
+      ∙ simp (
+        div-one,
+        whole 4 (lit≤ tt),
+        whole 8 (lit≤ tt),
+        whole 12 (lit≤ tt),
+        whole 16 (lit≤ tt),
+        whole 20 (lit≤ tt),
+        whole 24 (lit≤ tt),
+        whole 28 (lit≤ tt),
+        whole 40 (lit≤ tt),
+      )

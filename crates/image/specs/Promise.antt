@@ -1,0 +1,66 @@
+-- What reading and writing an image promise: the answer, and every lent byte after the call, on refusal too.
+-- Assumes nothing.
+use Prim.Native.Nat.{ℕ}
+use mathlib.Core.Path.{_≡_, sym, _∙_}
+use mathlib.Core.Bool.{Bool, true, false, cond, _&&_}
+use mathlib.Core.List.{List}
+use lib.ListN.{length}
+use lib.Dec.{eqb}
+use Rattle.bus.specs.declared.Refusal.the-variants.{BadSize, BadImage}
+use Rattle.bus.specs.Refusal.{refusalNumber}
+use Rattle.image.specs.declared.Fields.{Fields}
+use Rattle.image.specs.declared.ReadImage.{ReadImage}
+use Rattle.image.specs.declared.ReadImage.the-variants as read
+use Rattle.image.specs.declared.WroteImage.{WroteImage}
+use Rattle.image.specs.declared.WroteImage.the-variants as wrote
+use Rattle.image.specs.Layout.{image, fields}
+use Rattle.image.specs.Rules.{keepsRules}
+
+-- a lent image of the right size
+abbrev pub sized : List ℕ → Bool
+sized xs = eqb (length xs) 44
+
+-- 7 where the size is wrong; else 8 where a rule is broken; else the fields
+unfoldable pub readOf : List ℕ → ReadImage
+readOf xs =
+    cond (sized xs) (cond (keepsRules (fields xs)) (read.Good (fields xs)) (read.Refused BadImage)) (read.Refused BadSize)
+
+-- 7 where the size is wrong; else 8 where the fields break a rule; else done
+unfoldable pub wroteOf : Fields → List ℕ → WroteImage
+wroteOf f xs = cond (sized xs) (cond (keepsRules f) wrote.Done (wrote.Refused BadImage)) (wrote.Refused BadSize)
+
+-- the lent bytes after: the image, or what they were where the call is refused
+unfoldable pub imageOver : Fields → List ℕ → List ℕ
+imageOver f xs = cond (sized xs && keepsRules f) (image f) xs
+
+-- the paper's number of each answer
+abbrev pub readNumber : ReadImage → ℕ
+readNumber (read.Good f) = 0
+readNumber (read.Refused r) = refusalNumber r
+
+abbrev pub wroteNumber : WroteImage → ℕ
+wroteNumber wrote.Done = 0
+wroteNumber (wrote.Refused r) = refusalNumber r
+
+-- 7 BadSize, then 8 BadImage, else 0
+abbrev pub imageNumber : (right keeps : Bool) → ℕ
+imageNumber right keeps = cond right (cond keeps 0 8) 7
+
+-- ---- the promises
+
+-- read
+pub record WasRead (xs : List ℕ) (r : ReadImage) : Type 0 where
+  pub answer : r ≡ readOf xs
+  pub number : readNumber r ≡ imageNumber (sized xs) (keepsRules (fields xs))
+
+-- write
+pub record Wrote (f : Fields) (xs : List ℕ) (r : WroteImage) (xs' : List ℕ) : Type 0 where
+  pub answer : r ≡ wroteOf f xs
+  pub number : wroteNumber r ≡ imageNumber (sized xs) (keepsRules f)
+  pub lent : xs' ≡ imageOver f xs
+
+pub read-unique : {xs : List ℕ} {r s : ReadImage} → WasRead xs r → WasRead xs s → r ≡ s
+read-unique p q = p .answer ∙ sym (q .answer)
+
+pub wrote-unique : {f : Fields} {xs ys zs : List ℕ} {r s : WroteImage} → Wrote f xs r ys → Wrote f xs s zs → (r ≡ s) × (ys ≡ zs)
+wrote-unique p q = (p .answer ∙ sym (q .answer), p .lent ∙ sym (q .lent))

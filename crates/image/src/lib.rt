@@ -1,0 +1,423 @@
+// The saved image of a machine: 44 bytes, its fields as numbers, and the rule that each field keeps.
+ghost use mathlib.Core.Path.{_≡_};
+ghost use mathlib.Core.List.{[], _∷_};
+ghost use lib.ListN.{length};
+ghost use Rattle.words.specs.Numbers.{join, Fit};
+ghost use Rattle.words.specs.Promise.{Gives, Leaves};
+ghost use Rattle.words.specs.Slices.{numberAt};
+ghost use Rattle.words.specs.declared.Order.the-variants.{MostFirst};
+ghost use Rattle.bus.specs.Window.{keepsLimits, inWindow};
+ghost use Rattle.image.specs.Layout.{flag, values, widths, image, fields, headWidths, sizesWidths, doneWidths, ofWords};
+ghost use Rattle.image.specs.Rules.{zeroOutside, phaseKept, faultKept, statusKept, controlKept, addressKept, sizeKept, dcontrolKept, errorsKept, asked, movedKept, eopKept, rules, firstFalse, lowestBroken};
+ghost use Rattle.image.specs.Promise.{WasRead, Wrote};
+use bus::BusAddress;
+use bus::CheckedWindow;
+use bus::Located;
+use bus::Refusal;
+use bus::Window;
+use words::Order;
+
+// The image's fields in layout order. A field of one bit is a bool, so that it fits by its type.
+pub struct Fields {
+    pub edition: u8,
+    pub mode: u8,
+    pub phase: u8,
+    pub armed: bool,
+    pub pending: bool,
+    pub fault: u8,
+    pub status: u8,
+    pub count: u8,
+    pub control: u32,
+    pub pointer: u32,
+    pub base: u32,
+    pub window: u32,
+    pub address: u32,
+    pub source: u32,
+    pub destination: u32,
+    pub size: u16,
+    pub dcontrol: u8,
+    pub errors: u8,
+    pub moved: u16,
+    pub eop: bool,
+    pub rest: u16,
+    pub faultat: u32,
+}
+
+// The fields of an image that keeps the rules, or why it is refused.
+pub enum ReadImage {
+    Good(Fields),
+    Refused(Refusal),
+}
+
+// Whether an image was written, or why not.
+pub enum WroteImage {
+    Done,
+    Refused(Refusal),
+}
+
+// The phases that the rules speak of.
+const FETCH: u8 = 1;
+
+const MOVE: u8 = 2;
+
+const WRITE_BACK: u8 = 3;
+
+const ENDED: u8 = 4;
+
+const HALTED: u8 = 5;
+
+const FAULTED: u8 = 6;
+
+fn phase_kept(mode: u8, phase: u8) -> bool
+    ensures { λ r. ⌜ r ≡ phaseKept mode phase ⌝ }
+{
+    (phase <= FAULTED) & (!(phase == HALTED) | (mode == 2))
+}
+
+fn fault_kept(mode: u8, phase: u8, fault: u8) -> bool
+    ensures { λ r. ⌜ r ≡ faultKept mode phase fault ⌝ }
+{
+    let faulted = phase == FAULTED;
+    let reads = (mode == 0) | (mode == 1);
+    let writes = (mode == 0) | (mode == 2);
+    let code = ((10 <= fault) & (fault <= 14))
+        & (!((fault == 12) | (fault == 13)) | reads)
+        & (!(fault == 14) | writes);
+    (faulted | (fault == 0)) & (!faulted | code)
+}
+
+fn status_kept(mode: u8, phase: u8, status: u8) -> bool
+    ensures { λ r. ⌜ r ≡ statusKept mode phase status ⌝ }
+{
+    let error = status / 1 % 2 == 1;
+    let eop = status / 2 % 2 == 1;
+    let busy = status / 16 % 2 == 1;
+    let active = (FETCH <= phase) & (phase <= ENDED);
+    (status < 32) & (busy == active) & (!(mode != 2) | !(error | eop))
+}
+
+fn control_kept(phase: u8, armed: bool, control: u32) -> bool
+    ensures { λ r. ⌜ r ≡ controlKept phase armed control ⌝ }
+{
+    let reset = control / 0x1_0000 % 2 == 1;
+    let run = control / 32 % 2 == 1;
+    (control < 0x4_0000) & (reset == armed) & (!((phase == ENDED) | (phase == HALTED)) | run)
+}
+
+fn limits_kept(base: u32, window: u32) -> bool
+    ensures { λ r. ⌜ r ≡ keepsLimits base window ⌝ }
+{
+    match Window::checked(base as u64, window as u64) {
+        CheckedWindow::Good(_) => true,
+        CheckedWindow::Refused(_) => false,
+    }
+}
+
+// Whether a descriptor at the address is wholly in the window.
+fn in_window(base: u32, window: u32, address: u32) -> bool
+    ensures { λ r. ⌜ r ≡ inWindow (record { base = base; length = window }) address 32 ⌝ }
+{
+    let w = Window {
+        base,
+        length: window,
+    };
+    match w.locate(BusAddress(address as u64), 32) {
+        Located::At(_) => true,
+        Located::Outside => false,
+    }
+}
+
+fn address_kept(hand: bool, base: u32, window: u32, address: u32) -> bool
+    ensures { λ r. ⌜ r ≡ addressKept hand base window address ⌝ }
+{
+    let inside = in_window(base, window, address);
+    (hand | (address == 0)) & (!hand | ((address % 4 == 0) & inside))
+}
+
+fn zero_outside(hand: bool, x: u32) -> bool
+    ensures { λ r. ⌜ r ≡ zeroOutside hand x ⌝ }
+{
+    hand | (x == 0)
+}
+
+fn size_kept(mode: u8, hand: bool, size: u16) -> bool
+    ensures { λ r. ⌜ r ≡ sizeKept mode hand size ⌝ }
+{
+    let reads = (mode == 0) | (mode == 1);
+    (hand | (size == 0)) & (!(hand & reads) | !(size == 0))
+}
+
+fn dcontrol_kept(hand: bool, dcontrol: u8) -> bool
+    ensures { λ r. ⌜ r ≡ dcontrolKept hand dcontrol ⌝ }
+{
+    (hand | (dcontrol == 0)) & (!hand | (dcontrol / 128 % 2 == 1))
+}
+
+fn errors_kept(mode: u8, hand: bool, errors: u8) -> bool
+    ensures { λ r. ⌜ r ≡ errorsKept mode hand errors ⌝ }
+{
+    let reads = (mode == 0) | (mode == 1);
+    (hand | (errors == 0)) & (!reads | (errors == 0)) & (errors < 128)
+}
+
+// How many bytes the descriptor asks for.
+fn whole(mode: u8, size: u16) -> u16
+    ensures { λ r. ⌜ r ≡ asked mode size ⌝ }
+{
+    let open = (mode == 2) & (size == 0);
+    if open { 65_535 } else { size }
+}
+
+fn moved_kept(phase: u8, whole: u16, errors: u8, moved: u16) -> bool
+    ensures { λ r. ⌜ r ≡ movedKept phase whole errors moved ⌝ }
+{
+    let moving = phase == MOVE;
+    let done = phase == WRITE_BACK;
+    ((moving | done) | (moved == 0))
+        & (!moving | ((moved < whole) & (!(moved == 0) | (errors == 0))))
+        & (!done | ((1 <= moved) & (moved <= whole)))
+}
+
+fn eop_kept(mode: u8, phase: u8, whole: u16, moved: u16, eop: bool) -> bool
+    ensures { λ r. ⌜ r ≡ eopKept mode phase whole moved eop ⌝ }
+{
+    let moving = phase == MOVE;
+    let done = phase == WRITE_BACK;
+    let reads = (mode == 0) | (mode == 1);
+    ((moving | done) | !eop)
+        & (!reads | !eop)
+        & (!moving | !eop)
+        & (!done | ((moved == whole) | eop))
+}
+
+// Whether each field keeps its rule, in layout order.
+fn kept(f: Fields) -> [bool; 22]
+    ensures { λ r. ⌜ r ≡ rules f ⌝ }
+{
+    let hand = (f.phase == MOVE) | (f.phase == WRITE_BACK);
+    let whole = whole(f.mode, f.size);
+    [
+        f.edition == 1,
+        f.mode <= 2,
+        phase_kept(f.mode, f.phase),
+        true,
+        true,
+        fault_kept(f.mode, f.phase, f.fault),
+        status_kept(f.mode, f.phase, f.status),
+        f.count <= 254,
+        control_kept(f.phase, f.armed, f.control),
+        true,
+        true,
+        limits_kept(f.base, f.window),
+        address_kept(hand, f.base, f.window, f.address),
+        zero_outside(hand, f.source),
+        zero_outside(hand, f.destination),
+        size_kept(f.mode, hand, f.size),
+        dcontrol_kept(hand, f.dcontrol),
+        errors_kept(f.mode, hand, f.errors),
+        moved_kept(f.phase, whole, f.errors, f.moved),
+        eop_kept(f.mode, f.phase, whole, f.moved, f.eop),
+        f.rest == 0,
+        (f.phase == FAULTED) | (f.faultat == 0),
+    ]
+}
+
+// The place of the first that is false, counted from 1, or 0.
+fn first_false(kept: [bool; 22]) -> u32
+    ensures { λ r. ⌜ r ≡ firstFalse 1 kept ⌝ }
+{
+    let mut i: usize = 0;
+    while i < 22 {
+        if !kept[i] {
+            return i as u32 + 1;
+        }
+        i += 1;
+    }
+    0
+}
+
+// The lowest field that breaks a rule, counted from 1, or 0.
+pub fn broken(f: Fields) -> u32
+    ensures { λ r. ⌜ Gives (lowestBroken f) r ⌝ }
+{
+    first_false(kept(f))
+}
+
+// A bool as its bit.
+fn bit(b: bool) -> u8
+    ensures { λ r. ⌜ r ≡ flag b ⌝ }
+{
+    b as u8
+}
+
+// The first word's fields side by side, in order.
+fn head(
+    edition: u8,
+    mode: u8,
+    phase: u8,
+    armed: u8,
+    pending: u8,
+    fault: u8,
+    status: u8,
+    count: u8,
+) -> u32
+    requires { ⌜ Fit headWidths (edition ∷ mode ∷ phase ∷ armed ∷ pending ∷ fault ∷ status ∷ count ∷ []) ⌝ }
+    ensures { λ r. ⌜ r ≡ join headWidths (edition ∷ mode ∷ phase ∷ armed ∷ pending ∷ fault ∷ status ∷ count ∷ []) ⌝ }
+{
+    let w = edition as u32;
+    let w = w * 4 + mode as u32;
+    let w = w * 8 + phase as u32;
+    let w = w * 2 + armed as u32;
+    let w = w * 2 + pending as u32;
+    let w = w * 32 + fault as u32;
+    let w = w * 256 + status as u32;
+    w * 256 + count as u32
+}
+
+// The ninth word's.
+fn sizes(size: u16, dcontrol: u8, errors: u8) -> u32
+    ensures { λ r. ⌜ r ≡ join sizesWidths (size ∷ dcontrol ∷ errors ∷ []) ⌝ }
+{
+    let w = size as u32;
+    let w = w * 256 + dcontrol as u32;
+    w * 256 + errors as u32
+}
+
+// The tenth word's.
+fn done(moved: u16, eop: u8, rest: u16) -> u32
+    requires { ⌜ Fit doneWidths (moved ∷ eop ∷ rest ∷ []) ⌝ }
+    ensures { λ r. ⌜ r ≡ join doneWidths (moved ∷ eop ∷ rest ∷ []) ⌝ }
+{
+    let w = moved as u32;
+    let w = w * 2 + eop as u32;
+    w * 0x8000 + rest as u32
+}
+
+// Writes the fields of an image, each on its line, in order.
+fn pack(f: Fields, to: &mut [u8])
+    requires { ⌜ length (now to) ≡ 44 ⌝ }
+    requires { ⌜ Fit widths (values f) ⌝ }
+    ensures { λ _. ⌜ Leaves (image f) (now (to .exit)) ⌝ }
+{
+    let words = [
+        head(
+            f.edition,
+            f.mode,
+            f.phase,
+            bit(f.armed),
+            bit(f.pending),
+            f.fault,
+            f.status,
+            f.count,
+        ),
+        f.control,
+        f.pointer,
+        f.base,
+        f.window,
+        f.address,
+        f.source,
+        f.destination,
+        sizes(f.size, f.dcontrol, f.errors),
+        done(f.moved, bit(f.eop), f.rest),
+        f.faultat,
+    ];
+    words::put_words(Order::MostFirst, to, 0, &words);
+}
+
+// The fields that eleven words hold, each on its line, in order.
+fn from_words(
+    head: u32,
+    control: u32,
+    pointer: u32,
+    base: u32,
+    window: u32,
+    address: u32,
+    source: u32,
+    destination: u32,
+    sizes: u32,
+    done: u32,
+    faultat: u32,
+) -> Fields
+    ensures { λ r. ⌜ r ≡ ofWords head control pointer base window address source destination sizes done faultat ⌝ }
+{
+    Fields {
+        edition: (head / 0x1000_0000 % 16) as u8,
+        mode: (head / 0x400_0000 % 4) as u8,
+        phase: (head / 0x80_0000 % 8) as u8,
+        armed: head / 0x40_0000 % 2 == 1,
+        pending: head / 0x20_0000 % 2 == 1,
+        fault: (head / 0x1_0000 % 32) as u8,
+        status: (head / 256 % 256) as u8,
+        count: (head % 256) as u8,
+        control,
+        pointer,
+        base,
+        window,
+        address,
+        source,
+        destination,
+        size: (sizes / 0x1_0000 % 0x1_0000) as u16,
+        dcontrol: (sizes / 256 % 256) as u8,
+        errors: (sizes % 256) as u8,
+        moved: (done / 0x1_0000 % 0x1_0000) as u16,
+        eop: done / 0x8000 % 2 == 1,
+        rest: (done % 0x8000) as u16,
+        faultat,
+    }
+}
+
+fn word(from: &[u8], at: usize) -> u32
+    ensures { λ r. ⌜ Gives (numberAt MostFirst 4 (now (from .entry)) at) r ⌝ }
+{
+    words::get_u32(Order::MostFirst, from, at)
+}
+
+fn unpack(from: &[u8]) -> Fields
+    requires { ⌜ length (now from) ≡ 44 ⌝ }
+    ensures { λ r. ⌜ Gives (fields (now (from .entry))) r ⌝ }
+{
+    from_words(
+        word(from, 0),
+        word(from, 4),
+        word(from, 8),
+        word(from, 12),
+        word(from, 16),
+        word(from, 20),
+        word(from, 24),
+        word(from, 28),
+        word(from, 32),
+        word(from, 36),
+        word(from, 40),
+    )
+}
+
+// The bytes of an image.
+const SIZE: usize = 44;
+
+// Reads an image: its fields, where it has the right size and they keep the rules.
+pub fn read(from: &[u8]) -> ReadImage
+    ensures { λ r. ⌜ WasRead (now (from .entry)) r ⌝ }
+{
+    if from.len() != SIZE {
+        return ReadImage::Refused(Refusal::BadSize);
+    }
+    let f = unpack(from);
+    if broken(f) != 0 {
+        return ReadImage::Refused(Refusal::BadImage);
+    }
+    ReadImage::Good(f)
+}
+
+// Writes the image of fields that keep the rules. Where it is refused nothing is written.
+pub fn write(f: Fields, to: &mut [u8]) -> WroteImage
+    ensures { λ r. ⌜ Wrote f (now (to .entry)) r (now (to .exit)) ⌝ }
+{
+    if to.len() != SIZE {
+        return WroteImage::Refused(Refusal::BadSize);
+    }
+    if broken(f) != 0 {
+        return WroteImage::Refused(Refusal::BadImage);
+    }
+    pack(f, to);
+    WroteImage::Done
+}
