@@ -1,0 +1,20 @@
+-- The choice among the three registers, by the tests that led there.
+-- Assumes nothing.
+use Prim.Native.Nat.{ℕ}
+use mathlib.Core.Path.{_≡_}
+use mathlib.Core.Bool.{Bool, true}
+use borrow.Author.Tests.{ne-eqb}
+use Rattle.machine.specs.Registers.{chosen}
+
+module _ {A : Type 0} (status control pointer none broken : A) (keeps : Bool) (offset : ℕ) (k : keeps ≡ true) where
+  pub at-status : offset ≡ 0 → chosen keeps broken offset status control pointer none ≡ status
+  at-status e = rw (k, e)
+
+  pub at-control : offset ≡ 4 → chosen keeps broken offset status control pointer none ≡ control
+  at-control e = rw (k, e)
+
+  pub at-pointer : offset ≡ 8 → chosen keeps broken offset status control pointer none ≡ pointer
+  at-pointer e = rw (k, e)
+
+  pub at-none : (offset ≡ 0 → ⊥) → (offset ≡ 4 → ⊥) → (offset ≡ 8 → ⊥) → chosen keeps broken offset status control pointer none ≡ none
+  at-none e f g = rw (k, ne-eqb offset 0 e, ne-eqb offset 4 f, ne-eqb offset 8 g)

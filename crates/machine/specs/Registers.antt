@@ -1,0 +1,115 @@
+-- The paper's "Registers".
+-- Assumes nothing.
+use Prim.Native.Nat.{ℕ, _%_, _^_}
+use mathlib.Core.Path.{_≡_, sym, _∙_}
+use mathlib.Core.Bool.{Bool, true, false, not, cond, _&&_}
+use lib.Dec.{eqb}
+use Rattle.words.specs.Bits.{bit}
+use Rattle.bus.specs.Refusal.{refusalNumber}
+use Rattle.bus.specs.declared.Refusal.the-variants.{NoRegister, BadImage}
+use Rattle.machine.specs.declared.Machine.{Machine}
+use Rattle.machine.specs.declared.Status.{Status}
+use Rattle.machine.specs.declared.Phase.{Phase}
+use Rattle.machine.specs.declared.Phase.the-variants.{Rest, Fetch, Move, WriteBack, Ended, Halted, Faulted}
+use Rattle.machine.specs.declared.registers.ReadRegister.{ReadRegister}
+use Rattle.machine.specs.declared.registers.ReadRegister.the-variants as read
+use Rattle.machine.specs.declared.registers.WroteRegister.{WroteRegister}
+use Rattle.machine.specs.declared.registers.WroteRegister.the-variants as wrote
+use Rattle.machine.specs.declared.registers.Line.{Line}
+use Rattle.machine.specs.declared.registers.Line.the-variants as line
+use Rattle.machine.specs.State.{statusNumber, ieGlobal, run, swReset, withStatus, withPointer, withControl, rested, fresh}
+use Rattle.machine.specs.Saved.{keeps}
+
+-- offsets 0 status, 4 control, 8 next_descriptor_pointer; any other is none. A machine that breaks a rule comes before that
+abbrev pub chosen {ℓ} : {A : Type ℓ} → (keeps : Bool) (broken : A) (offset : ℕ) (status control pointer none : A) → A
+chosen keeps broken offset status control pointer none =
+    cond keeps (cond (eqb offset 0) status (cond (eqb offset 4) control (cond (eqb offset 8) pointer none))) broken
+
+-- ---- writing
+
+-- writing 1 clears bits 0 to 3; other written bits do nothing
+abbrev pub statusWritten : ℕ → Machine → Machine
+statusWritten v m =
+    withStatus
+    (record {
+      error = m .status .error && not (bit 0 v);
+      eop = m .status .eop && not (bit 1 v);
+      descriptor = m .status .descriptor && not (bit 2 v);
+      chain = m .status .chain && not (bit 3 v);
+      busy = m .status .busy;
+    })
+    m
+
+-- bits 0..17 are stored; bit 31 clears the pending interrupt; RUN going 0 to 1 sets the descriptor count to 0
+abbrev pub stored : ℕ → Machine → Machine
+stored v m =
+    withControl (v % 2 ^ 18) (m .pending && not (bit 31 v)) (cond (not (run (m .control)) && bit 5 v) 0 (m .count)) m
+
+-- Ended or Halted goes to Rest with BUSY 0
+abbrev pub released : Phase → Machine → Machine
+released Rest m = m
+released Fetch m = m
+released (Move k) m = m
+released (WriteBack k) m = m
+released Ended m = rested m
+released Halted m = rested m
+released (Faulted f) m = m
+
+-- in order: the reset, where bit 16 is written and already reads 1, and then the rest of the value is ignored; otherwise what
+-- is stored, and RUN 0
+unfoldable pub controlWritten : ℕ → Machine → Machine
+controlWritten v m =
+    cond (bit 16 v && swReset (m .control)) (fresh (m .mode) (m .window))
+    (cond (bit 5 v) (stored v m) (released (m .phase) (stored v m)))
+
+unfoldable pub writeOf : Machine → (offset v : ℕ) → WroteRegister
+writeOf m offset v =
+    chosen (keeps m) (wrote.Refused BadImage) offset (wrote.Done (statusWritten v m)) (wrote.Done (controlWritten v m))
+    (wrote.Done (withPointer v m)) (wrote.Refused NoRegister)
+
+-- ---- reading changes nothing
+
+unfoldable pub readOf : Machine → (offset : ℕ) → ReadRegister
+readOf m offset =
+    chosen (keeps m) (read.Refused BadImage) offset (read.Value (statusNumber (m .status))) (read.Value (m .control .0))
+    (read.Value (m .pointer .0)) (read.Refused NoRegister)
+
+-- ---- the line is up exactly when an interrupt is pending and IE_GLOBAL is 1
+
+unfoldable pub lineOf : Machine → Line
+lineOf m = cond (keeps m) (cond (m .pending && ieGlobal (m .control)) line.Up line.Down) (line.Refused BadImage)
+
+-- ---- the paper's number of each answer
+
+abbrev pub readNumber : ReadRegister → ℕ
+readNumber (read.Value v) = 0
+readNumber (read.Refused why) = refusalNumber why
+
+abbrev pub wroteNumber : WroteRegister → ℕ
+wroteNumber (wrote.Done m) = 0
+wroteNumber (wrote.Refused why) = refusalNumber why
+
+abbrev pub lineNumber : Line → ℕ
+lineNumber line.Up = 0
+lineNumber line.Down = 0
+lineNumber (line.Refused why) = refusalNumber why
+
+-- ---- the promises
+
+pub record WasRead (m : Machine) (offset : ℕ) (r : ReadRegister) : Type 0 where
+  pub answer : r ≡ readOf m offset
+
+pub record WasWritten (m : Machine) (offset v : ℕ) (r : WroteRegister) : Type 0 where
+  pub answer : r ≡ writeOf m offset v
+
+pub record WasLine (m : Machine) (r : Line) : Type 0 where
+  pub answer : r ≡ lineOf m
+
+pub read-unique : {m : Machine} {offset : ℕ} {r s : ReadRegister} → WasRead m offset r → WasRead m offset s → r ≡ s
+read-unique p q = p .answer ∙ sym (q .answer)
+
+pub written-unique : {m : Machine} {offset v : ℕ} {r s : WroteRegister} → WasWritten m offset v r → WasWritten m offset v s → r ≡ s
+written-unique p q = p .answer ∙ sym (q .answer)
+
+pub line-unique : {m : Machine} {r s : Line} → WasLine m r → WasLine m s → r ≡ s
+line-unique p q = p .answer ∙ sym (q .answer)

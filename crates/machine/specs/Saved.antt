@@ -1,0 +1,179 @@
+-- The machine as the fields of its image, and back; what load and save promise.
+-- Assumes nothing.
+use Prim.Native.Nat.{ℕ}
+use mathlib.Core.Path.{_≡_, sym, _∙_}
+use mathlib.Core.Bool.{Bool, false}
+use mathlib.Core.List.{List, [], _∷_}
+use lib.ListN.{getD}
+use Rattle.words.specs.Bits.{bit}
+use Rattle.bus.specs.Refusal.{refusalNumber}
+use Rattle.image.specs.declared.Fields.{Fields}
+use Rattle.image.specs.declared.ReadImage.{ReadImage}
+use Rattle.image.specs.declared.ReadImage.the-variants as read
+use Rattle.image.specs.declared.WroteImage.{WroteImage}
+use Rattle.image.specs.declared.WroteImage.the-variants as wrote
+use Rattle.image.specs.Rules.{keepsRules}
+use Rattle.image.specs.Promise.{readOf, wroteOf, imageOver}
+use Rattle.machine.specs.declared.Machine.{Machine}
+use Rattle.machine.specs.declared.Mode.{Mode}
+use Rattle.machine.specs.declared.Mode.the-variants.{MemoryToMemory, MemoryToStream, StreamToMemory}
+use Rattle.machine.specs.declared.Status.{Status}
+use Rattle.machine.specs.declared.Work.{Work}
+use Rattle.machine.specs.declared.Fault.{Fault}
+use Rattle.machine.specs.declared.Phase.{Phase}
+use Rattle.machine.specs.declared.Phase.the-variants.{Rest, Fetch, Move, WriteBack, Ended, Halted, Faulted}
+use Rattle.machine.specs.declared.LoadedMachine.{LoadedMachine}
+use Rattle.machine.specs.declared.LoadedMachine.the-variants.{Good, Refused}
+use Rattle.machine.specs.declared.SavedMachine.{SavedMachine}
+use Rattle.machine.specs.declared.SavedMachine.the-variants as saved
+use Rattle.machine.specs.State.{modeNumber, phaseNumber, statusNumber, swReset}
+
+-- ---- a machine's fields
+
+abbrev pub none : Work
+none =
+    record {
+      at = 0;
+      source = 0;
+      destination = 0;
+      length = 0;
+      control = record { 0 = 0 };
+      errors = 0;
+      moved = 0;
+      eop = false;
+    }
+
+abbrev pub noFault : Fault
+noFault = record { code = 0; address = 0 }
+
+-- the descriptor in hand; zeros outside Move and WriteBack
+abbrev pub inHand : Phase → Work
+inHand (Move k) = k
+inHand (WriteBack k) = k
+inHand Rest = none
+inHand Fetch = none
+inHand Ended = none
+inHand Halted = none
+inHand (Faulted f) = none
+
+-- the fault; zeros outside Faulted
+abbrev pub faultIn : Phase → Fault
+faultIn (Faulted f) = f
+faultIn Rest = noFault
+faultIn Fetch = noFault
+faultIn (Move k) = noFault
+faultIn (WriteBack k) = noFault
+faultIn Ended = noFault
+faultIn Halted = noFault
+
+abbrev pub fieldsOf : Machine → Fields
+fieldsOf m =
+    record {
+      edition = 1;
+      mode = modeNumber (m .mode);
+      phase = phaseNumber (m .phase);
+      armed = swReset (m .control);
+      pending = m .pending;
+      fault = faultIn (m .phase) .code;
+      status = statusNumber (m .status);
+      count = m .count;
+      control = m .control .0;
+      pointer = m .pointer .0;
+      base = m .window .base;
+      window = m .window .length;
+      address = inHand (m .phase) .at;
+      source = inHand (m .phase) .source;
+      destination = inHand (m .phase) .destination;
+      size = inHand (m .phase) .length;
+      dcontrol = inHand (m .phase) .control .0;
+      errors = inHand (m .phase) .errors;
+      moved = inHand (m .phase) .moved;
+      eop = inHand (m .phase) .eop;
+      rest = 0;
+      faultat = faultIn (m .phase) .address;
+    }
+
+-- the machine keeps the image rules
+abbrev pub keeps : Machine → Bool
+keeps m = keepsRules (fieldsOf m)
+
+-- ---- the machine that fields are
+
+abbrev pub modeOf : ℕ → Mode
+modeOf n = getD (MemoryToMemory ∷ MemoryToStream ∷ []) n StreamToMemory
+
+abbrev pub statusOf : ℕ → Status
+statusOf n = record { error = bit 0 n; eop = bit 1 n; descriptor = bit 2 n; chain = bit 3 n; busy = bit 4 n }
+
+abbrev pub workOf : Fields → Work
+workOf f =
+    record {
+      at = f .address;
+      source = f .source;
+      destination = f .destination;
+      length = f .size;
+      control = record { 0 = f .dcontrol };
+      errors = f .errors;
+      moved = f .moved;
+      eop = f .eop;
+    }
+
+abbrev pub phaseOf : Fields → Phase
+phaseOf f =
+    getD (Rest ∷ Fetch ∷ Move (workOf f) ∷ WriteBack (workOf f) ∷ Ended ∷ Halted ∷ []) (f .phase)
+    (Faulted (record { code = f .fault; address = f .faultat }))
+
+abbrev pub machineOf : Fields → Machine
+machineOf f =
+    record {
+      mode = modeOf (f .mode);
+      window = record { base = f .base; length = f .window };
+      status = statusOf (f .status);
+      control = record { 0 = f .control };
+      pointer = record { 0 = f .pointer };
+      phase = phaseOf f;
+      pending = f .pending;
+      count = f .count;
+    }
+
+-- ---- load and save
+
+-- an image loads exactly when it keeps the rules; else 7 or 8
+abbrev pub loadedAs : ReadImage → LoadedMachine
+loadedAs (read.Good f) = Good (machineOf f)
+loadedAs (read.Refused why) = Refused why
+
+unfoldable pub loadOf : List ℕ → LoadedMachine
+loadOf xs = loadedAs (readOf xs)
+
+abbrev pub savedAs : WroteImage → SavedMachine
+savedAs wrote.Done = saved.Done
+savedAs (wrote.Refused why) = saved.Refused why
+
+unfoldable pub saveOf : Machine → List ℕ → SavedMachine
+saveOf m xs = savedAs (wroteOf (fieldsOf m) xs)
+
+-- the paper's number of each answer
+abbrev pub loadNumber : LoadedMachine → ℕ
+loadNumber (Good m) = 0
+loadNumber (Refused why) = refusalNumber why
+
+abbrev pub saveNumber : SavedMachine → ℕ
+saveNumber saved.Done = 0
+saveNumber (saved.Refused why) = refusalNumber why
+
+-- ---- the promises
+
+pub record WasLoaded (xs : List ℕ) (r : LoadedMachine) : Type 0 where
+  pub answer : r ≡ loadOf xs
+
+pub record WasSaved (m : Machine) (xs : List ℕ) (r : SavedMachine) (after : List ℕ) : Type 0 where
+  pub answer : r ≡ saveOf m xs
+  pub lent : after ≡ imageOver (fieldsOf m) xs
+
+pub loaded-unique : {xs : List ℕ} {r s : LoadedMachine} → WasLoaded xs r → WasLoaded xs s → r ≡ s
+loaded-unique p q = p .answer ∙ sym (q .answer)
+
+pub saved-unique : {m : Machine} {xs ys zs : List ℕ} {r s : SavedMachine}
+    → WasSaved m xs r ys → WasSaved m xs s zs → (r ≡ s) × (ys ≡ zs)
+saved-unique p q = (p .answer ∙ sym (q .answer), p .lent ∙ sym (q .lent))

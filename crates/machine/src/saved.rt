@@ -1,0 +1,231 @@
+// The machine as the fields of its image, and back; load and save.
+ghost use mathlib.Core.Path.{_≡_};
+ghost use Rattle.machine.specs.State.{modeNumber, phaseNumber, statusNumber};
+ghost use Rattle.machine.specs.Saved.{inHand, faultIn, fieldsOf, keeps as keepsOf, modeOf, statusOf, workOf, phaseOf, machineOf, WasLoaded, WasSaved};
+use crate::Control;
+use crate::Fault;
+use crate::LoadedMachine;
+use crate::Machine;
+use crate::Mode;
+use crate::Phase;
+use crate::Pointer;
+use crate::SavedMachine;
+use crate::Status;
+use crate::Work;
+use crate::has;
+use bus::Window;
+use descriptor::DescControl;
+use image::Fields;
+use image::ReadImage;
+use image::WroteImage;
+
+const NONE: Work = Work {
+    at: 0,
+    source: 0,
+    destination: 0,
+    length: 0,
+    control: DescControl(0),
+    errors: 0,
+    moved: 0,
+    eop: false,
+};
+
+const NO_FAULT: Fault = Fault {
+    code: 0,
+    address: 0,
+};
+
+fn mode_number(mode: Mode) -> u8
+    ensures { λ r. ⌜ r ≡ modeNumber mode ⌝ }
+{
+    match mode {
+        Mode::MemoryToMemory => 0,
+        Mode::MemoryToStream => 1,
+        Mode::StreamToMemory => 2,
+    }
+}
+
+fn phase_number(phase: Phase) -> u8
+    ensures { λ r. ⌜ r ≡ phaseNumber phase ⌝ }
+{
+    match phase {
+        Phase::Rest => 0,
+        Phase::Fetch => 1,
+        Phase::Move(_) => 2,
+        Phase::WriteBack(_) => 3,
+        Phase::Ended => 4,
+        Phase::Halted => 5,
+        Phase::Faulted(_) => 6,
+    }
+}
+
+// The descriptor in hand, or zeros.
+fn in_hand(phase: Phase) -> Work
+    ensures { λ r. ⌜ r ≡ inHand phase ⌝ }
+{
+    match phase {
+        Phase::Move(k) => k,
+        Phase::WriteBack(k) => k,
+        Phase::Rest => NONE,
+        Phase::Fetch => NONE,
+        Phase::Ended => NONE,
+        Phase::Halted => NONE,
+        Phase::Faulted(_) => NONE,
+    }
+}
+
+// The fault, or zeros.
+fn fault_in(phase: Phase) -> Fault
+    ensures { λ r. ⌜ r ≡ faultIn phase ⌝ }
+{
+    match phase {
+        Phase::Faulted(f) => f,
+        Phase::Rest => NO_FAULT,
+        Phase::Fetch => NO_FAULT,
+        Phase::Move(_) => NO_FAULT,
+        Phase::WriteBack(_) => NO_FAULT,
+        Phase::Ended => NO_FAULT,
+        Phase::Halted => NO_FAULT,
+    }
+}
+
+fn mode_of(n: u8) -> Mode
+    ensures { λ r. ⌜ r ≡ modeOf n ⌝ }
+{
+    match n {
+        0 => Mode::MemoryToMemory,
+        1 => Mode::MemoryToStream,
+        _ => Mode::StreamToMemory,
+    }
+}
+
+fn status_of(n: u8) -> Status
+    ensures { λ r. ⌜ r ≡ statusOf n ⌝ }
+{
+    let bits = n as u32;
+    Status {
+        error: has(bits, Status::ERROR),
+        eop: has(bits, Status::EOP_ENCOUNTERED),
+        descriptor: has(bits, Status::DESCRIPTOR_COMPLETED),
+        chain: has(bits, Status::CHAIN_COMPLETED),
+        busy: has(bits, Status::BUSY),
+    }
+}
+
+fn work_of(f: Fields) -> Work
+    ensures { λ r. ⌜ r ≡ workOf f ⌝ }
+{
+    Work {
+        at: f.address,
+        source: f.source,
+        destination: f.destination,
+        length: f.size,
+        control: DescControl(f.dcontrol),
+        errors: f.errors,
+        moved: f.moved,
+        eop: f.eop,
+    }
+}
+
+fn phase_of(f: Fields) -> Phase
+    ensures { λ r. ⌜ r ≡ phaseOf f ⌝ }
+{
+    let n = f.phase;
+    match n {
+        0 => Phase::Rest,
+        1 => Phase::Fetch,
+        2 => Phase::Move(work_of(f)),
+        3 => Phase::WriteBack(work_of(f)),
+        4 => Phase::Ended,
+        5 => Phase::Halted,
+        _ => Phase::Faulted(Fault {
+            code: f.fault,
+            address: f.faultat,
+        }),
+    }
+}
+
+fn machine_of(f: Fields) -> Machine
+    ensures { λ r. ⌜ r ≡ machineOf f ⌝ }
+{
+    Machine {
+        mode: mode_of(f.mode),
+        window: Window {
+            base: f.base,
+            length: f.window,
+        },
+        status: status_of(f.status),
+        control: Control(f.control),
+        pointer: Pointer(f.pointer),
+        phase: phase_of(f),
+        pending: f.pending,
+        count: f.count,
+    }
+}
+
+impl Machine {
+    // The fields of its image.
+    fn fields(self) -> Fields
+        ensures { λ r. ⌜ r ≡ fieldsOf self ⌝ }
+    {
+        let mode = self.mode;
+        let phase = self.phase;
+        let work = in_hand(phase);
+        let fault = fault_in(phase);
+        let status = self.status;
+        let control = self.control.0;
+        Fields {
+            edition: 1,
+            mode: mode_number(mode),
+            phase: phase_number(phase),
+            armed: has(control, Control::SW_RESET),
+            pending: self.pending,
+            fault: fault.code,
+            status: status.number() as u8,
+            count: self.count,
+            control,
+            pointer: self.pointer.0,
+            base: self.window.base,
+            window: self.window.length,
+            address: work.at,
+            source: work.source,
+            destination: work.destination,
+            size: work.length,
+            dcontrol: work.control.0,
+            errors: work.errors,
+            moved: work.moved,
+            eop: work.eop,
+            rest: 0,
+            faultat: fault.address,
+        }
+    }
+
+    // Whether it keeps the image rules.
+    pub(crate) fn keeps(self) -> bool
+        ensures { λ r. ⌜ r ≡ keepsOf self ⌝ }
+    {
+        image::broken(self.fields()) == 0
+    }
+
+    // The machine of 44 bytes that keep the rules.
+    pub fn load(from: &[u8]) -> LoadedMachine
+        ensures { λ r. ⌜ WasLoaded (now (from .entry)) r ⌝ }
+    {
+        let found = image::read(from);
+        match found {
+            ReadImage::Good(f) => LoadedMachine::Good(machine_of(f)),
+            ReadImage::Refused(why) => LoadedMachine::Refused(why),
+        }
+    }
+
+    // Writes the 44 bytes of a machine that keeps the rules; where it is refused nothing is written.
+    pub fn save(self, to: &mut [u8]) -> SavedMachine
+        ensures { λ r. ⌜ WasSaved self (now (to .entry)) r (now (to .exit)) ⌝ }
+    {
+        let done = image::write(self.fields(), to);
+        match done {
+            WroteImage::Done => SavedMachine::Done,
+            WroteImage::Refused(why) => SavedMachine::Refused(why),
+        }
+    }
+}
