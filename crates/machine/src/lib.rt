@@ -122,6 +122,52 @@ pub struct Machine {
     pub count: u8,
 }
 
+// Why a run ends; numbered 0 to 6.
+pub enum Reason {
+    Rest,
+    Ended,
+    Halted,
+    Faulted,
+    NeedsInput,
+    OutputFull,
+    Budget,
+}
+
+// The count of descriptors after one more, and whether it reached MAX_DESC_PROCESSED.
+pub struct Count {
+    pub count: u8,
+    pub full: bool,
+}
+
+// The machine after a step, with the beats that the step took and made.
+pub struct Progress {
+    pub machine: Machine,
+    pub taken: usize,
+    pub made: usize,
+}
+
+// What one step answers.
+pub enum StepAnswer {
+    Taken(Progress),
+    Stopped(Reason),
+    Refused(Refusal),
+}
+
+// The machine after a run, the reason found there, and the steps, beats taken and beats made.
+pub struct Ran {
+    pub machine: Machine,
+    pub reason: Reason,
+    pub steps: u32,
+    pub taken: usize,
+    pub made: usize,
+}
+
+// What a run answers.
+pub enum RunAnswer {
+    Done(Ran),
+    Refused(Refusal),
+}
+
 // The machine of an image, or why it is refused.
 pub enum LoadedMachine {
     Good(Machine),

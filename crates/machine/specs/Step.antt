@@ -1,0 +1,272 @@
+-- The paper's "Steps": the rule of one step, by phase, in the paper's order and words.
+-- Assumes nothing.
+use Prim.Native.Nat.{ℕ, zero, suc, _+_, _%_, _^_}
+use mathlib.Core.Bool.{Bool, true, false, not, cond, _&&_, _||_}
+use mathlib.Core.List.{List, [], _∷_, _++_}
+use lib.Bits.{bitOr}
+use lib.Dec.{eqb, leb}
+use lib.ListN.{getD, set}
+use Rattle.words.specs.Slices.{putAt}
+use Rattle.bus.specs.Window.{inWindow, placeOf}
+use Rattle.descriptor.specs.declared.Descriptor.{Descriptor}
+use Rattle.descriptor.specs.Layout.{generateEop, readFixed, writeFixed, owned, descriptorAt, lastFour}
+use Rattle.image.specs.Rules.{asked}
+use Rattle.machine.specs.declared.Machine.{Machine}
+use Rattle.machine.specs.declared.Mode.{Mode}
+use Rattle.machine.specs.declared.Mode.the-variants.{MemoryToMemory, MemoryToStream, StreamToMemory}
+use Rattle.machine.specs.declared.Work.{Work}
+use Rattle.machine.specs.declared.Phase.{Phase}
+use Rattle.machine.specs.declared.Phase.the-variants.{Rest, Fetch, Move, WriteBack, Ended, Halted, Faulted}
+use Rattle.machine.specs.declared.Reason.{Reason}
+use Rattle.machine.specs.declared.Reason.the-variants as reason
+use Rattle.machine.specs.declared.Count.{Count}
+use Rattle.machine.specs.State.{modeNumber, ieError, ieEop, ieDescriptor, ieChain, run, stopDmaEr, ieMax, maxDescProcessed, park, withStatus, withPointer, withPhase, withBusy, pend, rested}
+use Rattle.machine.specs.Beats.{beatError, beatEop, beatData, outputBeat}
+
+-- the world of a step: the machine; the window's bytes; the beats not yet taken; the beats made, and the room for more
+pub record World : Type 0 where
+  pub machine : Machine
+  pub memory : List ℕ
+  pub input : List ℕ
+  pub output : List ℕ
+  pub room : ℕ
+
+-- a step is taken, or it cannot be, and why
+pub data Answer : Type 0 where
+  taken : World → Answer
+  stopped : Reason → Answer
+
+-- the machine alone changes
+abbrev pub became : World → Machine → World
+became w m = record { machine = m; memory = w .memory; input = w .input; output = w .output; room = w .room }
+
+-- a fault sets BUSY 0, keeps code and address, and writes nothing
+abbrev pub faulted : World → (code address : ℕ) → Answer
+faulted w code address =
+    taken (became w (withPhase (Faulted (record { code = code; address = address })) (withBusy false (w .machine))))
+
+-- ---- Rest. RUN 0: no step. RUN 1: BUSY 1, go to Fetch.
+
+unfoldable pub restStep : World → Answer
+restStep w =
+    cond (run (w .machine .control)) (taken (became w (withPhase Fetch (withBusy true (w .machine))))) (stopped reason.Rest)
+
+-- ---- Fetch
+
+-- OWNED 0: set CHAIN_COMPLETED, pend if IE_CHAIN, go to Ended (BUSY stays 1, pointer stays)
+abbrev pub ended : Machine → Machine
+ended m =
+    withPhase Ended
+    (pend (ieChain (m .control))
+    (withStatus
+    (record {
+      error = m .status .error;
+      eop = m .status .eop;
+      descriptor = m .status .descriptor;
+      chain = true;
+      busy = m .status .busy;
+    })
+    m))
+
+-- modes 0 and 1 take no length of 0
+abbrev pub wantsLength : Mode → Bool
+wantsLength MemoryToMemory = true
+wantsLength MemoryToStream = true
+wantsLength StreamToMemory = false
+
+-- the fields kept
+abbrev pub begun : ℕ → Descriptor → Work
+begun a d =
+    record {
+      at = a;
+      source = d .source;
+      destination = d .destination;
+      length = d .length;
+      control = d .control;
+      errors = 0;
+      moved = 0;
+      eop = false;
+    }
+
+-- OWNED 0, then length 0 in mode 0 or 1, fault 12; otherwise keep the fields, set the pointer to next_desc_ptr, go to Move
+unfoldable pub fetched : World → Descriptor → Answer
+fetched w d =
+    let m = w .machine in
+    let a = w .machine .pointer .0 in
+    cond (owned (d .control .0))
+    (cond (wantsLength (m .mode) && eqb (d .length) 0) (faulted w 12 a)
+    (taken (became w (withPhase (Move (begun a d)) (withPointer (d .next) m)))))
+    (taken (became w (ended m)))
+
+-- RUN 0: Rest, BUSY 0. Otherwise read 32 bytes at the pointer: misaligned, fault 10; not wholly in the window, fault 11
+unfoldable pub fetchStep : World → Answer
+fetchStep w =
+    let m = w .machine in
+    let a = w .machine .pointer .0 in
+    cond (run (m .control))
+    (cond (eqb (a % 4) 0)
+    (cond (inWindow (m .window) a 32) (fetched w (descriptorAt (w .memory) (placeOf (m .window) a))) (faulted w 11 a))
+    (faulted w 10 a))
+    (taken (became w (rested m)))
+
+-- ---- Move
+
+-- L is bytes_to_transfer; in mode 2 a 0 means 65,535
+abbrev pub whole : Machine → Work → ℕ
+whole m k = asked (modeNumber (m .mode)) (k .length)
+
+-- byte i is at start + i, without i under the FIXED bit
+abbrev pub byteAddress : Bool → (start i : ℕ) → ℕ
+byteAddress fixed start i = cond fixed start (start + i)
+
+unfoldable pub sourceOf : Work → ℕ
+sourceOf k = byteAddress (readFixed (k .control .0)) (k .source) (k .moved)
+
+unfoldable pub destinationOf : Work → ℕ
+destinationOf k = byteAddress (writeFixed (k .control .0)) (k .destination) (k .moved)
+
+-- one byte more, its errors gathered by OR
+abbrev pub withByte : (errors : ℕ) (eop : Bool) → Work → Work
+withByte errors eop k =
+    record {
+      at = k .at;
+      source = k .source;
+      destination = k .destination;
+      length = k .length;
+      control = k .control;
+      errors = bitOr (k .errors) errors;
+      moved = k .moved + 1;
+      eop = eop;
+    }
+
+-- when L bytes are moved or a taken beat had EOP, go to WriteBack
+unfoldable pub onward : Machine → Work → Machine
+onward m k = withPhase (cond (k .eop || eqb (k .moved) (whole m k)) (WriteBack k) (Move k)) m
+
+-- mode 0: source outside, 13; destination outside, 14
+unfoldable pub copyStep : World → Work → Answer
+copyStep w k =
+    let m = w .machine in
+    cond (inWindow (m .window) (sourceOf k) 1)
+    (cond (inWindow (m .window) (destinationOf k) 1)
+    (taken (record {
+      machine = onward m (withByte 0 false k);
+      memory = set (w .memory) (placeOf (m .window) (destinationOf k)) (getD (w .memory) (placeOf (m .window) (sourceOf k)) 0);
+      input = w .input;
+      output = w .output;
+      room = w .room;
+    }))
+    (faulted w 14 (destinationOf k % 2 ^ 32)))
+    (faulted w 13 (sourceOf k % 2 ^ 32))
+
+-- SOP on byte 0 if WRITE_FIXED, EOP on byte L-1 if GENERATE_EOP
+unfoldable pub beatFor : Work → ℕ → ℕ
+beatFor k byte =
+    outputBeat (writeFixed (k .control .0) && eqb (k .moved) 0) (generateEop (k .control .0) && eqb (k .moved + 1) (k .length)) byte
+
+-- no room, no step
+abbrev pub sendTo : World → Work → (room : ℕ) → Answer
+sendTo w k zero = stopped reason.OutputFull
+sendTo w k (suc left) =
+    let m = w .machine in
+    taken (record {
+      machine = onward m (withByte 0 false k);
+      memory = w .memory;
+      input = w .input;
+      output = w .output ++ beatFor k (getD (w .memory) (placeOf (m .window) (sourceOf k)) 0) ∷ [];
+      room = left;
+    })
+
+-- mode 1: 13, then no room, no step
+unfoldable pub sendStep : World → Work → Answer
+sendStep w k = cond (inWindow (w .machine .window) (sourceOf k) 1) (sendTo w k (w .room)) (faulted w 13 (sourceOf k % 2 ^ 32))
+
+-- mode 2: no beat, no step; then 14, beat not taken
+abbrev pub receiveFrom : World → Work → (input : List ℕ) → Answer
+receiveFrom w k [] = stopped reason.NeedsInput
+receiveFrom w k (b ∷ bs) =
+    let m = w .machine in
+    cond (inWindow (m .window) (destinationOf k) 1)
+    (taken (record {
+      machine = onward m (withByte (beatError b) (beatEop b) k);
+      memory = set (w .memory) (placeOf (m .window) (destinationOf k)) (beatData b);
+      input = bs;
+      output = w .output;
+      room = w .room;
+    }))
+    (faulted w 14 (destinationOf k % 2 ^ 32))
+
+abbrev pub moveStep : Mode → World → Work → Answer
+moveStep MemoryToMemory w k = copyStep w k
+moveStep MemoryToStream w k = sendStep w k
+moveStep StreamToMemory w k = receiveFrom w k (w .input)
+
+-- ---- WriteBack
+
+-- control as fetched with bit 7 cleared unless PARK
+unfoldable pub writtenControl : Machine → Work → ℕ
+writtenControl m k = cond (park (m .control)) (k .control .0) (k .control .0 % 128)
+
+-- write the last four descriptor bytes only: actual, errors, control
+unfoldable pub writtenBack : World → Work → List ℕ
+writtenBack w k =
+    putAt (w .memory) (placeOf (w .machine .window) (k .at) + 28) (lastFour (k .moved) (k .errors) (writtenControl (w .machine) k))
+
+-- if MAX is 0 it becomes 0; else add 1, and on reaching MAX or more it becomes 0 and IE_MAX pends
+unfoldable pub counted : (count max : ℕ) → Count
+counted count max =
+    cond (eqb max 0) (record { count = 0; full = false })
+    (cond (leb max (count + 1)) (record { count = 0; full = true }) (record { count = count + 1; full = false }))
+
+-- RUN 0: Rest, BUSY 0; errors with STOP_DMA_ER: Halted, BUSY 0; else Fetch
+abbrev pub afterBack : (run halts : Bool) → Phase
+afterBack run halts = cond run (cond halts Halted Fetch) Rest
+
+-- set DESCRIPTOR_COMPLETED; EOP_ENCOUNTERED if the last beat had EOP; ERROR if errors are not 0; each event pends only under
+-- its own enable
+unfoldable pub completed : Machine → Work → Machine
+completed m k =
+    let c = m .control in
+    let failed : Bool = not (eqb (k .errors) 0) in
+    let halts : Bool = failed && stopDmaEr c in
+    let n : Count = counted (m .count) (maxDescProcessed c) in
+    record {
+      mode = m .mode;
+      window = m .window;
+      status = record {
+        error = m .status .error || failed;
+        eop = m .status .eop || k .eop;
+        descriptor = true;
+        chain = m .status .chain;
+        busy = run c && not halts;
+      };
+      control = c;
+      pointer = m .pointer;
+      phase = afterBack (run c) halts;
+      pending = m .pending || ieDescriptor c || (ieEop c && k .eop) || (ieError c && failed) || (ieMax c && n .full);
+      count = n .count;
+    }
+
+unfoldable pub writeBackStep : World → Work → Answer
+writeBackStep w k =
+    taken (record {
+      machine = completed (w .machine) k;
+      memory = writtenBack w k;
+      input = w .input;
+      output = w .output;
+      room = w .room;
+    })
+
+-- ---- the step
+
+abbrev pub stepIn : Phase → World → Answer
+stepIn Rest w = restStep w
+stepIn Fetch w = fetchStep w
+stepIn (Move k) w = moveStep (w .machine .mode) w k
+stepIn (WriteBack k) w = writeBackStep w k
+stepIn Ended w = stopped reason.Ended
+stepIn Halted w = stopped reason.Halted
+stepIn (Faulted f) w = stopped reason.Faulted
+
+unfoldable pub step : World → Answer
+step w = stepIn (w .machine .phase) w
