@@ -1,0 +1,148 @@
+-- Cases worked out from the paper by hand, for what its eleven runs do not touch. A scene starts with D at 4096 in a window of
+-- 256 bytes at 4096, unless said; `held` are the bytes from 4224 on. A chain of descriptors of one byte each goes to 4224.
+-- Assumes nothing.
+use Prim.Native.Nat.{ℕ}
+use mathlib.Core.Bool.{Bool, true, false}
+use mathlib.Core.List.{List, [], _∷_, _++_}
+use Rattle.words.specs.Slices.{put}
+use Rattle.known_runs.specs.Scene.{Act, write, go, Fact, reason, steps, taken, out, status, control, pointer, phase, pending, line, count, fault, bytes, Scene, desc, zeros, window}
+use Rattle.known_runs.specs.Known.{D, four, once, received}
+
+-- modes 0 and 1: a descriptor, the bytes held from 4224 on, and room for so many beats
+abbrev pub copied : (first held : List ℕ) → List Act → List Fact → Scene
+copied first held acts facts =
+    record { mode = 0; base = 4096; window = window first held; beats = []; room = 0; acts = acts; facts = facts }
+
+abbrev pub sent : (first held : List ℕ) (room : ℕ) → List Act → List Fact → Scene
+sent first held room acts facts =
+    record { mode = 1; base = 4096; window = window first held; beats = []; room = room; acts = acts; facts = facts }
+
+abbrev pub ABCD : List ℕ
+ABCD = 0xAA ∷ 0xBB ∷ 0xCC ∷ 0xDD ∷ []
+
+-- three descriptors of one byte each at 4096, 4128 and 4160, the chain's end at 4192
+abbrev pub three : List ℕ
+three = desc 0 4224 4128 1 0x80 ++ desc 0 4224 4160 1 0x80 ++ desc 0 4224 4192 1 0x80
+
+-- one of one byte
+abbrev pub single : List ℕ
+single = desc 0 4224 4128 1 0x80
+
+-- reset: armed by the first write, which leaves RUN as it is, and done by the second
+abbrev pub resets : List Act → List Act
+resets before = before ++ write 4 0x10060 ∷ write 4 0x10000 ∷ []
+
+abbrev pub isFresh : List Fact
+isFresh =
+    status 0 ∷ control 0 ∷ pointer 0 ∷ phase 0 ∷ pending false ∷ count 0 ∷ fault 0 0 ∷ []
+
+abbrev pub worked : List Scene
+worked =
+    -- 1 to 6: faults 13 and 14 in mode 0; 13 in mode 1 without room and with it; 12 in mode 1; what a fault keeps
+    copied (desc 4352 4224 4128 4 0x80) [] (once 4096 0x20 100) (reason 3 ∷ steps 3 ∷ fault 13 4352 ∷ status 0 ∷ pointer 4128 ∷ [])
+    ∷ copied (desc 4224 4350 4128 4 0x80) ABCD (once 4096 0x20 100)
+    (reason 3 ∷ steps 5 ∷ fault 14 4352 ∷ status 0 ∷ bytes 254 (0xAA ∷ 0xBB ∷ []) ∷ bytes 31 (0x80 ∷ []) ∷ [])
+    ∷ sent (desc 4352 0 4128 4 0x80) [] 0 (once 4096 0x20 100) (reason 3 ∷ steps 3 ∷ fault 13 4352 ∷ out [] ∷ [])
+    ∷ sent (desc 4350 0 4128 4 0x80) [] 4 (once 4096 0x20 100) (reason 3 ∷ steps 5 ∷ fault 13 4352 ∷ out (0 ∷ 0 ∷ []) ∷ [])
+    ∷ sent (desc 4224 0 4128 0 0x80) [] 4 (once 4096 0x20 100) (reason 3 ∷ steps 2 ∷ fault 12 4096 ∷ pointer 4096 ∷ [])
+    ∷ received (desc 0 4224 4130 1 0x80) (0x0211 ∷ []) (once 4096 0x325 100)
+    (reason 3 ∷ steps 5 ∷ fault 10 4130 ∷ status 0x05 ∷ pending true ∷ count 1 ∷ control 0x325 ∷ pointer 4130 ∷ [])
+    -- 7, 8: no room, no step, however often it is asked
+    ∷ sent (desc 4224 0 4128 4 0x80) ABCD 2 (once 4096 0x20 100) (reason 5 ∷ steps 4 ∷ out (0x00AA ∷ 0x00BB ∷ []) ∷ status 0x10 ∷ phase 2 ∷ [])
+    ∷ sent (desc 4224 0 4128 4 0x80) ABCD 2 (once 4096 0x20 100 ++ go 5 ∷ []) (reason 5 ∷ steps 0 ∷ out (0x00AA ∷ 0x00BB ∷ []) ∷ [])
+    -- 9, 10: a length of 0 is open in mode 2 and ends at EOP; an unowned descriptor of length 0 ends the chain in every mode
+    ∷ received (desc 0 4224 4128 0 0x80) (0x0011 ∷ 0x0022 ∷ 0x0133 ∷ 0x0044 ∷ []) (once 4096 0x20 100)
+    (reason 1 ∷ steps 7 ∷ taken 3 ∷ status 0x1E ∷ bytes 28 (0x03 ∷ 0x00 ∷ 0x00 ∷ 0x00 ∷ []) ∷ bytes 128 (0x11 ∷ 0x22 ∷ 0x33 ∷ 0x00 ∷ []) ∷ [])
+    ∷ copied (desc 0 0 0 0 0x00) [] (once 4096 0x20 100) (reason 1 ∷ steps 2 ∷ status 0x18 ∷ pointer 4096 ∷ [])
+    -- 11 to 15: MAX_DESC_PROCESSED 2 reached; after the first descriptor; without IE_MAX; lowered below the count; 0
+    ∷ received (desc 0 4224 4128 1 0x80 ++ desc 0 4224 4160 1 0x80) four (once 4096 0x2A0 100)
+    (reason 1 ∷ steps 8 ∷ taken 2 ∷ status 0x1C ∷ count 0 ∷ pending true ∷ line false ∷ [])
+    ∷ received (desc 0 4224 4128 1 0x80 ++ desc 0 4224 4160 1 0x80) four (once 4096 0x2A0 4) (reason 6 ∷ steps 4 ∷ count 1 ∷ pending false ∷ [])
+    ∷ received (desc 0 4224 4128 1 0x80 ++ desc 0 4224 4160 1 0x80) four (once 4096 0x220 100) (reason 1 ∷ count 0 ∷ pending false ∷ [])
+    ∷ received three four (once 4096 0x3A0 7 ++ write 4 0x1A0 ∷ go 3 ∷ []) (reason 6 ∷ steps 3 ∷ count 0 ∷ pending true ∷ [])
+    ∷ received three four (once 4096 0x3A0 7 ++ write 4 0x0A0 ∷ go 3 ∷ []) (reason 6 ∷ steps 3 ∷ count 0 ∷ pending false ∷ [])
+    -- 16 to 25: each enable alone, with its event and without; none, with every event
+    ∷ received single (0x0211 ∷ []) (once 4096 0x21 100) (status 0x1D ∷ pending true ∷ [])
+    ∷ received single (0x0111 ∷ []) (once 4096 0x21 100) (status 0x1E ∷ pending false ∷ [])
+    ∷ received single (0x0111 ∷ []) (once 4096 0x22 100) (status 0x1E ∷ pending true ∷ [])
+    ∷ received single (0x0211 ∷ []) (once 4096 0x22 100) (status 0x1D ∷ pending false ∷ [])
+    ∷ received single (0x0011 ∷ []) (once 4096 0x24 4) (reason 6 ∷ status 0x14 ∷ pending true ∷ [])
+    ∷ received single (0x0011 ∷ []) (once 4128 0x24 100) (reason 1 ∷ status 0x18 ∷ pending false ∷ [])
+    ∷ received single (0x0011 ∷ []) (once 4128 0x28 100) (reason 1 ∷ status 0x18 ∷ pending true ∷ [])
+    ∷ received single (0x0011 ∷ []) (once 4096 0x28 4) (reason 6 ∷ status 0x14 ∷ pending false ∷ [])
+    ∷ received single (0x0011 ∷ []) (once 4096 0x1A0 4) (reason 6 ∷ pending true ∷ [])
+    ∷ received single (0x0311 ∷ []) (once 4096 0x120 100) (reason 1 ∷ status 0x1F ∷ pending false ∷ [])
+    -- 26 to 29: the line wants IE_GLOBAL; bit 31 clears what pends, a status write does not
+    ∷ received D four (once 4128 0x28 100) (pending true ∷ line false ∷ [])
+    ∷ received D four (once 4128 0x38 100) (pending true ∷ line true ∷ [])
+    ∷ received D four (once 4128 0x38 100 ++ write 0 0xFFFFFFFF ∷ []) (status 0x10 ∷ pending true ∷ line true ∷ [])
+    ∷ received D four (once 4128 0x38 100 ++ write 4 0x80000038 ∷ []) (control 0x38 ∷ pending false ∷ line false ∷ [])
+    -- 30 to 32: RUN cleared in Move finishes that descriptor and leaves the next one owned; in Fetch it rests; errors with
+    -- STOP_DMA_ER and RUN 0 go to Rest, after the whole length
+    ∷ received (desc 0 4224 4128 4 0x80 ++ desc 0 4224 4160 1 0x80) (four ++ four) (once 4096 0x20 3 ++ write 4 0 ∷ go 100 ∷ [])
+    (reason 0 ∷ steps 4 ∷ taken 4 ∷ status 0x04 ∷ phase 0 ∷ pointer 4128 ∷ bytes 28 (0x04 ∷ 0x00 ∷ 0x00 ∷ 0x00 ∷ []) ∷ bytes 60 (0x00 ∷ 0x00 ∷ 0x00 ∷ 0x80 ∷ []) ∷ [])
+    ∷ received D four (once 4096 0x20 1 ++ write 4 0 ∷ go 100 ∷ []) (reason 0 ∷ steps 1 ∷ taken 0 ∷ status 0 ∷ phase 0 ∷ pointer 4096 ∷ [])
+    ∷ received (desc 0 4224 4128 2 0x80) (0x0211 ∷ 0x0422 ∷ []) (once 4096 0x60 4 ++ write 4 0x40 ∷ go 100 ∷ [])
+    (reason 0 ∷ steps 1 ∷ status 0x05 ∷ phase 0 ∷ bytes 28 (0x02 ∷ 0x00 ∷ 0x03 ∷ 0x00 ∷ []) ∷ [])
+    -- 33 to 35: PARK keeps OWNED, in each mode, and is read at the write-back; bits 3 to 6 of the control byte are kept
+    ∷ copied (desc 4224 4232 4128 2 0x80) ABCD (once 4096 0x20020 100)
+    (reason 1 ∷ steps 6 ∷ status 0x1C ∷ bytes 28 (0x02 ∷ 0x00 ∷ 0x00 ∷ 0x80 ∷ []) ∷ bytes 136 (0xAA ∷ 0xBB ∷ 0x00 ∷ []) ∷ [])
+    ∷ sent (desc 4224 0 4128 2 0xF8) ABCD 2 (once 4096 0x20020 100) (reason 1 ∷ steps 6 ∷ out (0x00AA ∷ 0x00BB ∷ []) ∷ bytes 28 (0x02 ∷ 0x00 ∷ 0x00 ∷ 0xF8 ∷ []) ∷ [])
+    ∷ received (desc 0 4224 4128 1 0xF8) four (once 4096 0x20020 3 ++ write 4 0x20 ∷ go 1 ∷ []) (reason 6 ∷ bytes 28 (0x01 ∷ 0x00 ∷ 0x00 ∷ 0x78 ∷ []) ∷ [])
+    -- 36 to 42: reset in each phase: Rest, Fetch, Move, WriteBack, Ended, Halted, Faulted
+    ∷ received D four (resets (write 8 4096 ∷ [])) isFresh
+    ∷ received D four (resets (once 4096 0x20 1)) isFresh
+    ∷ received D four (resets (once 4096 0x20 4)) isFresh
+    ∷ received D four (resets (once 4096 0x3A7 6)) isFresh
+    ∷ received D four (resets (once 4096 0x3AF 100)) isFresh
+    ∷ received D (0x0211 ∷ four) (resets (once 4096 0x3E1 100)) isFresh
+    ∷ received D four (resets (once 4098 0x20 100)) isFresh
+    -- 43 to 45: one write of SW_RESET arms and works as any other; written as 0 it disarms; after a reset it must be armed anew
+    ∷ received D four (once 4096 0x20 1 ++ write 4 0x10020 ∷ []) (control 0x10020 ∷ phase 1 ∷ status 0x10 ∷ pointer 4096 ∷ [])
+    ∷ received D four (once 4096 0x20 1 ++ write 4 0x10020 ∷ write 4 0x20 ∷ write 4 0x10020 ∷ []) (control 0x10020 ∷ phase 1 ∷ [])
+    ∷ received D four (resets (once 4096 0x20 1) ++ write 4 0x10020 ∷ []) (control 0x10020 ∷ phase 0 ∷ pointer 0 ∷ [])
+    -- 46 to 49: READ_FIXED and WRITE_FIXED
+    ∷ copied (desc 4224 4232 4128 3 0x82) ABCD (once 4096 0x20 100) (reason 1 ∷ steps 7 ∷ bytes 136 (0xAA ∷ 0xAA ∷ 0xAA ∷ 0x00 ∷ []) ∷ [])
+    ∷ copied (desc 4224 4232 4128 3 0x84) ABCD (once 4096 0x20 100) (reason 1 ∷ steps 7 ∷ bytes 136 (0xCC ∷ 0x00 ∷ 0x00 ∷ []) ∷ [])
+    ∷ sent (desc 4224 0 4128 2 0x82) ABCD 2 (once 4096 0x20 100) (reason 1 ∷ steps 6 ∷ out (0x00AA ∷ 0x00AA ∷ []) ∷ [])
+    ∷ received (desc 0 4224 4128 4 0x84) four (once 4096 0x20 100) (reason 1 ∷ steps 8 ∷ bytes 128 (0x44 ∷ 0x00 ∷ []) ∷ bytes 28 (0x04 ∷ 0x00 ∷ 0x00 ∷ 0x04 ∷ []) ∷ [])
+    -- 50: an address whose sum passes 2^32: fault 14 at 2^32 modulo 2^32
+    ∷ record {
+      mode = 2;
+      base = 4294967040;
+      window = window (desc 0 4294967294 4294967072 4 0x80) [];
+      beats = four;
+      room = 0;
+      acts = once 4294967040 0x20 100;
+      facts = reason 3 ∷ steps 5 ∷ taken 2 ∷ fault 14 0 ∷ bytes 254 (0x11 ∷ 0x22 ∷ []) ∷ pointer 4294967072 ∷ [];
+    }
+    -- 51: an overlapping copy repeats its pattern
+    ∷ copied (desc 4224 4225 4128 3 0x80) ABCD (once 4096 0x20 100) (reason 1 ∷ steps 7 ∷ bytes 128 (0xAA ∷ 0xAA ∷ 0xAA ∷ 0xAA ∷ []) ∷ [])
+    -- 52: data on the descriptor itself after its fetch; what is written back was kept at the fetch
+    ∷ received (desc 0 4120 4128 8 0x80) (four ++ 0x0055 ∷ 0x0066 ∷ 0x0077 ∷ 0x0088 ∷ []) (once 4096 0x20 100)
+    (reason 1 ∷ steps 12 ∷ taken 8 ∷ pointer 4128 ∷ bytes 24 (0x11 ∷ 0x22 ∷ 0x33 ∷ 0x44 ∷ 0x08 ∷ 0x00 ∷ 0x00 ∷ 0x00 ∷ []) ∷ [])
+    -- 53 to 55: status bits 0 to 3 are cleared by writing 1, and no others; RUN 0 in Ended and Halted rests
+    ∷ received D four (once 4096 0x20 100 ++ write 0 0x04 ∷ []) (status 0x18 ∷ phase 4 ∷ [])
+    ∷ received D four (once 4096 0x20 100 ++ write 4 0 ∷ []) (status 0x0C ∷ phase 0 ∷ pointer 4128 ∷ [])
+    ∷ received D (0x0211 ∷ four) (once 4096 0x60 100 ++ write 4 0x40 ∷ go 3 ∷ []) (reason 0 ∷ steps 0 ∷ status 0x05 ∷ phase 0 ∷ [])
+    -- 56, 57: Faulted is left by no register write but reset, and Ended by no pointer write
+    ∷ received D four (once 4098 0x20 100 ++ write 8 4096 ∷ write 4 0 ∷ write 4 0x20 ∷ go 10 ∷ []) (reason 3 ∷ steps 0 ∷ fault 10 4098 ∷ pointer 4096 ∷ [])
+    ∷ received D four (once 4128 0x20 100 ++ write 8 4096 ∷ go 10 ∷ []) (reason 1 ∷ steps 0 ∷ pointer 4096 ∷ [])
+    -- 58, 59: RUN going 0 to 1 zeroes the count, RUN staying 1 does not
+    ∷ received D four (once 4096 0x3A0 7 ++ write 4 0x3A0 ∷ []) (count 1 ∷ [])
+    ∷ received D four (once 4096 0x3A0 7 ++ write 4 0x380 ∷ write 4 0x3A0 ∷ []) (count 0 ∷ [])
+    -- 60: alignment is of the bus address, whatever the base
+    ∷ record {
+      mode = 2;
+      base = 4097;
+      window = put zeros 3 (desc 0 4224 4132 4 0x80);
+      beats = four;
+      room = 0;
+      acts = once 4100 0x20 100;
+      facts = reason 1 ∷ steps 8 ∷ pointer 4132 ∷ bytes 31 (0x04 ∷ 0x00 ∷ 0x00 ∷ 0x00 ∷ []) ∷ bytes 127 (0x11 ∷ 0x22 ∷ 0x33 ∷ 0x44 ∷ []) ∷ [];
+    }
+    -- 61 to 63: a budget of 0, where a step is possible and where none is; a fault to come is a step that is possible
+    ∷ received D four (once 4096 0x20 0) (reason 6 ∷ steps 0 ∷ phase 0 ∷ [])
+    ∷ received D four (once 4096 0x00 0) (reason 0 ∷ steps 0 ∷ [])
+    ∷ received D four (once 4098 0x20 1) (reason 6 ∷ steps 1 ∷ phase 1 ∷ [])
+    ∷ []
