@@ -11,7 +11,7 @@ use lib.Dec.{leb, ltb, eqb}
 use borrow.Author.Tests.{leb-true, ltb-true, eqb-true, eqb-false, eq-eqb, ne-eqb, not-true}
 use Rattle.bus.specs.Window.{keepsLimits, inWindow}
 use Rattle.image.specs.declared.Fields.{Fields}
-use Rattle.image.specs.Rules.{_⇒_, _exactly_, either, between, bit, zeroFrom, zeroOutside, inMove, inWriteBack, inEnded, inHalted, inFaulted, inHand, error, eopEncountered, busy, run, swReset, editionKept, modeKept, phaseKept, faultCode, faultKept, statusKept, countKept, controlKept, addressKept, sizeKept, dcontrolKept, errorsKept, asked, movedKept, eopKept, rules, firstFalse, lowestBroken}
+use Rattle.image.specs.Rules.{_⇒_, _exactly_, _outside_, either, between, bit, zeroFrom, zeroOutside, inMove, inWriteBack, inEnded, inHalted, inFaulted, inHand, error, eopEncountered, busy, run, swReset, ownedByHw, editionKept, modeKept, phaseKept, faultCode, faultKept, statusKept, countKept, controlKept, addressKept, sizeKept, dcontrolKept, errorsKept, asked, movedKept, eopKept, rules, firstFalse, lowestBroken}
 
 -- ---- tests put together
 
@@ -98,7 +98,7 @@ pub record Each (f : Fields) : Type 0 where
   pub moved : movedKept (f .phase) (asked (f .mode) (f .size)) (f .errors) (f .moved) ≡ true
   pub eop : eopKept (f .mode) (f .phase) (asked (f .mode) (f .size)) (f .moved) (f .eop) ≡ true
   pub rest : eqb (f .rest) 0 ≡ true
-  pub faultat : zeroOutside (inFaulted (f .phase)) (f .faultat) ≡ true
+  pub faultat : (eqb (f .faultat) 0 outside inFaulted (f .phase)) ≡ true
 
 pub each-rule : (f : Fields) → lowestBroken f ≡ 0 → Each f
 unfolding rules
@@ -152,9 +152,9 @@ each-keeps f k = rw (
 zero-there : (inside : Bool) (x : ℕ) → zeroOutside inside x ≡ true → inside ≡ false → x ≡ 0
 zero-there inside x e h = eqb-true x 0 (else inside (eqb x 0) e h)
 
-fault-in : (faulted : Bool) (n : ℕ) (a b : Bool) → (zeroOutside faulted n && (faulted ⇒ between 10 14 n && a && b)) ≡ true → n ≤ 14
-fault-in true n a b e = leb-true _ _ (and-right (leb 10 n) _ (and-left _ a (and-left _ b e)))
-fault-in false n a b e = let z : n ≡ 0 = eqb-true _ _ (and-left _ true e) in omega arith
+fault-in : (faulted : Bool) (n : ℕ) (a b : Bool) → ((faulted ⇒ between 10 14 n && a && b) && (eqb n 0 outside faulted)) ≡ true → n ≤ 14
+fault-in true n a b e = leb-true _ _ (and-right (leb 10 n) _ (and-left _ a (and-left _ b (and-left _ true e))))
+fault-in false n a b e = let z : n ≡ 0 = eqb-true _ _ e in omega arith
 
 limits : (base window : ℕ) → keepsLimits base window ≡ true → (window ≤ 65536) × (base ≤ 4294967295) × (base + window ≤ 4294967296)
 unfolding keepsLimits
@@ -191,10 +191,11 @@ module _ (f : Fields) (e : lowestBroken f ≡ 0) where
   halted-mode h = eqb-true _ _ (then _ _ (and-right (leb (f .phase) 6) _ (each-rule f e .phase)) (eq-eqb _ _ h))
 
   pub fault-code : f .phase ≡ 6 → faultCode (f .mode) (f .fault) ≡ true
-  fault-code h = then _ _ (and-right (zeroOutside (inFaulted (f .phase)) (f .fault)) _ (each-rule f e .fault)) (eq-eqb _ _ h)
+  fault-code h = then _ _ (and-left _ _ (each-rule f e .fault)) (eq-eqb _ _ h)
 
   pub fault-none : (f .phase ≡ 6 → ⊥) → f .fault ≡ 0
-  fault-none h = zero-there (inFaulted (f .phase)) _ (and-left _ _ (each-rule f e .fault)) (ne-eqb _ _ h)
+  fault-none h =
+      zero-there (inFaulted (f .phase)) _ (and-right (inFaulted (f .phase) ⇒ faultCode (f .mode) (f .fault)) _ (each-rule f e .fault)) (ne-eqb _ _ h)
 
   pub faultat-none : (f .phase ≡ 6 → ⊥) → f .faultat ≡ 0
   faultat-none h = zero-there (inFaulted (f .phase)) _ (each-rule f e .faultat) (ne-eqb _ _ h)
@@ -206,7 +207,12 @@ module _ (f : Fields) (e : lowestBroken f ≡ 0) where
   status-lt = ltb-true _ _ (and-left _ _ (and-left _ _ (each-rule f e .status)))
 
   pub busy-is : busy (f .status) ≡ between 1 4 (f .phase)
-  busy-is = exactly-same _ _ (second (zeroFrom 5 (f .status)) _ (not (eqb (f .mode) 2) ⇒ not (error (f .status) || eopEncountered (f .status))) (each-rule f e .status))
+  busy-is = exactly-same _ _ (second (zeroFrom 5 (f .status)) _ (not (error (f .status) || eopEncountered (f .status)) outside eqb (f .mode) 2) (each-rule f e .status))
+
+  -- ERROR and EOP_ENCOUNTERED 0 outside mode 2
+  pub no-marks : eqb (f .mode) 2 ≡ false → (error (f .status) || eopEncountered (f .status)) ≡ false
+  no-marks h =
+      not-true _ (else (eqb (f .mode) 2) _ (and-right (zeroFrom 5 (f .status) && (busy (f .status) exactly between 1 4 (f .phase))) _ (each-rule f e .status)) h)
 
   pub count-le : f .count ≤ 254
   count-le = leb-true _ _ (each-rule f e .count)
@@ -272,7 +278,7 @@ module _ (f : Fields) (e : lowestBroken f ≡ 0) where
     pub address-inside : inWindow (record { base = f .base; length = f .window }) (f .address) 32 ≡ true
     address-inside = and-right (eqb (f .address % 4) 0) _ placed
 
-    pub dcontrol-owned : bit (f .dcontrol) 7 ≡ true
+    pub dcontrol-owned : ownedByHw (f .dcontrol) ≡ true
     dcontrol-owned = then _ _ (and-right (zeroOutside (inHand (f .phase)) (f .dcontrol)) _ (each-rule f e .dcontrol)) h
 
   -- in modes 0 and 1 length not 0, errors and EOP seen 0

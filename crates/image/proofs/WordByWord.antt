@@ -17,7 +17,8 @@ use Rattle.words.proofs.Bytes.{AllBytes, drop-bytes}
 use Rattle.words.proofs.Slices.{number-in, put-in}
 use Rattle.words.proofs.Groups.{concat, recodes, Even, Fits, joins, Alike, parts, fours, recode-groups, fits-of, recodes-words, parts-all, parts-fit}
 use Rattle.image.specs.declared.Fields.{Fields}
-use Rattle.image.specs.Layout.{values, widths, fieldsOf, image, fields, headWidths, sizesWidths, doneWidths, ofWords}
+use Rattle.image.specs.Layout.{values, widths, fieldsOf, image, fields}
+use Rattle.image.specs.InWords.{headWidths, sizesWidths, doneWidths, ofWords}
 
 -- ---- words of bytes
 
