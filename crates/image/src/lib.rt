@@ -82,6 +82,8 @@ const SW_RESET: u32 = 0x1_0000;
 
 const OWNED_BY_HW: u8 = 128;
 
+// A function for each rule of several parts. The definition that it ensures has the paper's sentence. `hand` is true in Move and
+// WriteBack, where a descriptor is in hand; `reads` in the modes 0 and 1, which read memory; `writes` in 0 and 2.
 fn phase_kept(mode: u8, phase: u8) -> bool
     ensures { λ r. ⌜ r ≡ phaseKept mode phase ⌝ }
 {
@@ -178,8 +180,8 @@ fn errors_kept(mode: u8, hand: bool, errors: u8) -> bool
 fn whole(mode: u8, size: u16) -> u16
     ensures { λ r. ⌜ r ≡ asked mode size ⌝ }
 {
-    let open = (mode == 2) & (size == 0);
-    if open { 65_535 } else { size }
+    let most = (mode == 2) & (size == 0);
+    if most { 65_535 } else { size }
 }
 
 fn moved_kept(phase: u8, whole: u16, errors: u8, moved: u16) -> bool
@@ -214,14 +216,14 @@ fn kept(f: Fields) -> [bool; 22]
         f.edition == 1,
         f.mode <= 2,
         phase_kept(f.mode, f.phase),
-        true,
-        true,
+        true, // armed
+        true, // pending
         fault_kept(f.mode, f.phase, f.fault),
         status_kept(f.mode, f.phase, f.status),
         f.count <= 254,
         control_kept(f.phase, f.armed, f.control),
-        true,
-        true,
+        true, // pointer
+        true, // base
         limits_kept(f.base, f.window),
         address_kept(hand, f.base, f.window, f.address),
         zero_outside(hand, f.source),
