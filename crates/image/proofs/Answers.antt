@@ -7,11 +7,9 @@ use mathlib.Core.List.{List}
 use mathlib.Core.Logic.{_↔_}
 use native.Mathlib.Omega.{arith}
 use lib.ListN.{length}
-use lib.Dec.{eqb}
 use borrow.Author.Tests.{eq-eqb, ne-eqb, eqb-true}
 use Rattle.words.specs.Numbers.{Fit}
 use Rattle.words.proofs.Bytes.{AllBytes}
-use Rattle.bus.specs.declared.Refusal.{Refusal}
 use Rattle.bus.specs.declared.Refusal.the-variants.{BadSize, BadImage}
 use Rattle.image.specs.declared.Fields.{Fields}
 use Rattle.image.specs.declared.ReadImage.{ReadImage}

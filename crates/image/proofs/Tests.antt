@@ -1,7 +1,7 @@
 -- What tests put together tell of their parts.
 -- Assumes nothing.
 use mathlib.Core.Path.{_≡_, refl, sym}
-use mathlib.Core.Bool.{Bool, true, false, not, _&&_, _||_, true≢false}
+use mathlib.Core.Bool.{Bool, true, false, _&&_, _||_, true≢false}
 use Rattle.image.specs.Rules.{_⇒_, _exactly_}
 
 pub and-left : (a b : Bool) → (a && b) ≡ true → a ≡ true
