@@ -7,11 +7,9 @@ use mathlib.Core.List.{List}
 use mathlib.Core.Logic.{_↔_}
 use native.Mathlib.Omega.{arith}
 use lib.ListN.{length}
-use lib.Dec.{eqb}
 use borrow.Author.Tests.{eq-eqb, ne-eqb, eqb-true}
 use Rattle.words.specs.Numbers.{Fit}
 use Rattle.words.proofs.Bytes.{AllBytes}
-use Rattle.bus.specs.declared.Refusal.{Refusal}
 use Rattle.bus.specs.declared.Refusal.the-variants.{BadSize, BadImage}
 use Rattle.image.specs.declared.Fields.{Fields}
 use Rattle.image.specs.declared.ReadImage.{ReadImage}
@@ -22,7 +20,7 @@ use Rattle.image.specs.Layout.{values, widths, image, fields}
 use Rattle.image.specs.Rules.{lowestBroken, keepsRules}
 use Rattle.image.specs.Promise.{sized, readOf, wroteOf, imageOver, readNumber, wroteNumber, imageNumber, WasRead, Wrote}
 use Rattle.image.proofs.RoundTrip.{length-image, fields-image, image-fields, fields-fit}
-use Rattle.image.proofs.Fitting.{Typed, keeps-fit}
+use Rattle.image.proofs.Fitting.{Typed, keeps-fit, fit-typed}
 
 pub keeps : (f : Fields) → lowestBroken f ≡ 0 → keepsRules f ≡ true
 unfolding keepsRules
@@ -81,8 +79,14 @@ module _ (xs : List ℕ) (f : Fields) (e : readOf xs ≡ read.Good f) where
   pub good-keeps : lowestBroken f ≡ 0
   good-keeps = ap lowestBroken (told .2) ∙ kept-none (fields xs) (told .1)
 
+  pub good-image : AllBytes xs → image f ≡ xs
+  good-image g = ap image good-fields ∙ image-fields xs good-length g
+
   pub good-fits : Fit widths (values f)
   good-fits = subst (λ (g : Fields). Fit widths (values g)) (sym (told .2)) (fields-fit xs)
+
+  pub good-typed : Typed f
+  good-typed = fit-typed f good-fits
 
 -- the image of fields that keep the rules is read as these fields
 pub read-image : (f : Fields) → Typed f → lowestBroken f ≡ 0 → readOf (image f) ≡ read.Good f
@@ -96,7 +100,7 @@ pub read-exactly : (xs : List ℕ) (f : Fields) → AllBytes xs → Typed f
 read-exactly xs f g t = (there, back)
   where
     there : readOf xs ≡ read.Good f → (length xs ≡ 44) × (lowestBroken f ≡ 0) × (image f ≡ xs)
-    there e = (good-length xs f e, good-keeps xs f e, ap image (good-fields xs f e) ∙ image-fields xs (good-length xs f e) g)
+    there e = (good-length xs f e, good-keeps xs f e, good-image xs f e g)
 
     back : (length xs ≡ 44) × (lowestBroken f ≡ 0) × (image f ≡ xs) → readOf xs ≡ read.Good f
     back (l, k, i) = ap readOf (sym i) ∙ read-image f t k
@@ -124,3 +128,25 @@ module _ (f : Fields) (xs : List ℕ) where
   pub wrote-done : length xs ≡ 44 → lowestBroken f ≡ 0 → (ys : List ℕ) → ys ≡ image f → Wrote f xs wrote.Done ys
   unfolding wroteOf imageOver
   wrote-done l h ys e = was-wrote (rw (eq-eqb (length xs) 44 l, keeps f h)) (e ∙ rw (eq-eqb (length xs) 44 l, keeps f h))
+
+-- what a done answer tells
+done-from : (t k : Bool) → wrote.Done ≡ cond t (cond k wrote.Done (wrote.Refused BadImage)) (wrote.Refused BadSize) → (t ≡ true) × (k ≡ true)
+done-from true true e = (refl, refl)
+done-from true false e = absurd (let z : _≡_ {A = ℕ} 0 1 = cc in omega arith)
+done-from false k e = absurd (let z : _≡_ {A = ℕ} 0 1 = cc in omega arith)
+
+module _ (f : Fields) (xs ys : List ℕ) (w : Wrote f xs wrote.Done ys) where
+  done-told : (sized xs ≡ true) × (keepsRules f ≡ true)
+  unfolding wroteOf
+  done-told = done-from (sized xs) (keepsRules f) (w .answer)
+
+  pub done-keeps : lowestBroken f ≡ 0
+  done-keeps = kept-none f (done-told .1)
+
+  pub done-image : ys ≡ image f
+  unfolding imageOver
+  done-image = w .lent ∙ rw (done-told .0, done-told .1)
+
+  -- what was written is read back
+  pub done-read : Typed f → readOf ys ≡ read.Good f
+  done-read t = ap readOf done-image ∙ read-image f t done-keeps

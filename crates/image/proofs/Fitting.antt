@@ -4,6 +4,7 @@ use Prim.Native.Nat.{_<_}
 use mathlib.Core.Path.{_≡_}
 use mathlib.Core.Bool.{Bool, true, false}
 use native.Mathlib.Omega.{arith}
+use borrow.Author.Needs.{needs}
 use Rattle.words.specs.Numbers.{Fit}
 use Rattle.image.specs.declared.Fields.{Fields}
 use Rattle.image.specs.Layout.{flag, values, widths}
@@ -42,3 +43,7 @@ keeps-fit f t e =
     let pending = flag-lt (f .pending) in
     let eop = flag-lt (f .eop) in
     omega arith
+
+-- what fits the layout fits its types
+pub fit-typed : (f : Fields) → Fit widths (values f) → Typed f
+fit-typed f p = search needs

@@ -55,3 +55,11 @@ unfolding fields
 fields-fit xs =
     subst (λ (vs : List ℕ). Fit widths vs) (sym (values-of (join (bytes 44) xs)))
     (recode-fit (bytes 44) widths xs)
+
+fit-bytes : (n : ℕ) (xs : List ℕ) → Fit (bytes n) xs → AllBytes xs
+fit-bytes zero [] p = tt
+fit-bytes (suc n) (x ∷ xs) p = (p .0, fit-bytes n xs (p .1))
+
+pub image-bytes : (f : Fields) → AllBytes (image f)
+unfolding image
+image-bytes f = fit-bytes 44 (image f) (recode-fit widths (bytes 44) (values f))

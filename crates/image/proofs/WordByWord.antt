@@ -1,11 +1,11 @@
 -- The image and its fields, met a word of 32 bits at a time, as the code meets them.
 -- Assumes nothing.
-use Prim.Native.Nat.{ℕ, _+_, _*_, _/_, _%_, _^_, _<_, _≤_}
+use Prim.Native.Nat.{ℕ, _+_, _*_, _%_, _^_, _<_, _≤_}
 use mathlib.Core.Path.{_≡_, refl, sym, ap, subst, _∙_}
 use mathlib.Core.List.{List, [], _∷_, _++_, map, append-nil}
 use native.Mathlib.Nat.{zero-add, mul-one, add-zero, div-one, mod-eq-of-lt}
 use native.Mathlib.Omega.{arith}
-use lib.ListN.{length, take, drop, length-drop, drop-of-length-le}
+use lib.ListN.{length, drop, length-drop, drop-of-length-le}
 use lib.Seq.{drop-drop, length-take-le}
 use lib.Dec.{lit≤}
 use Rattle.words.specs.declared.Order.the-variants.{MostFirst}
@@ -15,9 +15,10 @@ use Rattle.words.specs.Slices.{part, putAt, numberAt}
 use Rattle.words.proofs.Recode.{join-lt}
 use Rattle.words.proofs.Bytes.{AllBytes, drop-bytes}
 use Rattle.words.proofs.Slices.{number-in, put-in}
-use Rattle.words.proofs.Groups.{concat, recodes, Even, Fits, joins, Alike, parts, fours, recode-groups, fits-of, recodes-words, parts-all, parts-fit}
+use Rattle.words.proofs.Groups.{recodes, Even, joins, Alike, parts, fours, recode-groups, fits-of, recodes-words, parts-all, parts-fit}
 use Rattle.image.specs.declared.Fields.{Fields}
-use Rattle.image.specs.Layout.{values, widths, fieldsOf, image, fields, headWidths, sizesWidths, doneWidths, ofWords}
+use Rattle.image.specs.Layout.{values, widths, fieldsOf, image, fields}
+use Rattle.image.specs.InWords.{headWidths, sizesWidths, doneWidths, ofWords}
 
 -- ---- words of bytes
 

@@ -2,11 +2,10 @@
 -- Assumes nothing.
 use Prim.Native.Nat.{ℕ}
 use mathlib.Core.Bool.{Bool, cond}
-use mathlib.Core.List.{List, [], _∷_, _++_, map}
+use mathlib.Core.List.{List, [], _∷_, map}
 use lib.ListN.{getD}
 use lib.Dec.{eqb}
-use Rattle.words.specs.Numbers.{split, recode, bytes}
-use Rattle.words.specs.Slices.{part}
+use Rattle.words.specs.Numbers.{recode, bytes}
 use Rattle.image.specs.declared.Fields.{Fields}
 
 -- a field of the layout: its width, and the number that stands there
@@ -22,7 +21,7 @@ w bits v = record { width = w; value = v }
 abbrev pub flag : Bool → ℕ
 flag b = cond b 1 0
 
--- the table
+-- the table: each field's width and value
 abbrev pub layout : Fields → List Field
 layout f =
     4 bits f .edition ∷  --  1 edition
@@ -91,20 +90,3 @@ image f = recode widths (bytes 44) (values f)
 
 unfoldable pub fields : List ℕ → Fields
 fields xs = fieldsOf (recode (bytes 44) widths xs)
-
--- the widths of the fields in those of its words of 32 bits that hold several: the first, the ninth and the tenth
-abbrev pub headWidths : List ℕ
-headWidths = part widths 0 8
-
-abbrev pub sizesWidths : List ℕ
-sizesWidths = part widths 15 3
-
-abbrev pub doneWidths : List ℕ
-doneWidths = part widths 18 3
-
--- the fields of the image's eleven words
-abbrev pub ofWords : (head control pointer base window address source destination sizes done faultat : ℕ) → Fields
-ofWords head control pointer base window address source destination sizes done faultat =
-    fieldsOf
-    (split headWidths head
-    ++ (control ∷ pointer ∷ base ∷ window ∷ address ∷ source ∷ destination ∷ (split sizesWidths sizes ++ (split doneWidths done ++ (faultat ∷ [])))))

@@ -10,13 +10,19 @@ use Rattle.image.specs.declared.Fields.{Fields}
 
 -- ---- tests put together
 
-infixr 25 _⇒_
-abbrev pub _⇒_ : Bool → Bool → Bool
-a ⇒ b = not a || b
-
+infix 25 _⇒_
 infix 25 _exactly_
+infix 25 _outside_
+-- a where b
+abbrev pub _⇒_ : Bool → Bool → Bool
+b ⇒ a = not b || a
+
 abbrev pub _exactly_ : Bool → Bool → Bool
 a exactly b = Bool·beq a b
+
+-- a where not b
+abbrev pub _outside_ : Bool → Bool → Bool
+a outside b = b || a
 
 -- n is a or b
 abbrev pub either : (a b n : ℕ) → Bool
@@ -33,10 +39,6 @@ bit x i = eqb (x / 2 ^ i % 2) 1
 -- the bits of x from i on are zero
 abbrev pub zeroFrom : (i x : ℕ) → Bool
 zeroFrom i x = ltb x (2 ^ i)
-
--- x is zero outside the phases that the test is for
-abbrev pub zeroOutside : Bool → ℕ → Bool
-zeroOutside inside x = inside || eqb x 0
 
 -- ---- phases, and bits of the registers
 
@@ -74,6 +76,9 @@ run control = bit control 5
 abbrev pub swReset : ℕ → Bool
 swReset control = bit control 16
 
+abbrev pub ownedByHw : ℕ → Bool
+ownedByHw dcontrol = bit dcontrol 7
+
 -- ---- the rules
 
 -- edition 1
@@ -95,12 +100,12 @@ faultCode mode fault =
 
 -- Faulted: such a code; else code 0
 abbrev pub faultKept : (mode phase fault : ℕ) → Bool
-faultKept mode phase fault = zeroOutside (inFaulted phase) fault && (inFaulted phase ⇒ faultCode mode fault)
+faultKept mode phase fault = (inFaulted phase ⇒ faultCode mode fault) && (eqb fault 0 outside inFaulted phase)
 
 -- status bits 5..7 zero; BUSY 1 exactly in phases 1 to 4; ERROR and EOP_ENCOUNTERED 0 outside mode 2
 abbrev pub statusKept : (mode phase status : ℕ) → Bool
 statusKept mode phase status =
-    zeroFrom 5 status && (busy status exactly between 1 4 phase) && (not (eqb mode 2) ⇒ not (error status || eopEncountered status))
+    zeroFrom 5 status && (busy status exactly between 1 4 phase) && (not (error status || eopEncountered status) outside eqb mode 2)
 
 -- count at most 254
 abbrev pub countKept : ℕ → Bool
@@ -111,7 +116,11 @@ abbrev pub controlKept : (phase : ℕ) (armed : Bool) (control : ℕ) → Bool
 controlKept phase armed control =
     zeroFrom 18 control && (swReset control exactly armed) && (inEnded phase || inHalted phase ⇒ run control)
 
--- descriptor fields zero outside Move and WriteBack; there: address aligned and in the window
+-- zero outside Move and WriteBack
+abbrev pub zeroOutside : (hand : Bool) → ℕ → Bool
+zeroOutside hand x = eqb x 0 outside hand
+
+-- zero outside; there: address aligned and in the window, with all 32 bytes
 abbrev pub addressKept : (hand : Bool) (base window address : ℕ) → Bool
 addressKept hand base window address =
     zeroOutside hand address && (hand ⇒ eqb (address % 4) 0 && inWindow (record { base = base; length = window }) address 32)
@@ -122,7 +131,7 @@ sizeKept mode hand size = zeroOutside hand size && (hand && either 0 1 mode ⇒ 
 
 -- zero outside; there control bit 7 set
 abbrev pub dcontrolKept : (hand : Bool) (dcontrol : ℕ) → Bool
-dcontrolKept hand dcontrol = zeroOutside hand dcontrol && (hand ⇒ bit dcontrol 7)
+dcontrolKept hand dcontrol = zeroOutside hand dcontrol && (hand ⇒ ownedByHw dcontrol)
 
 -- zero outside; in modes 0 and 1 errors 0; errors bit 7 zero
 abbrev pub errorsKept : (mode : ℕ) (hand : Bool) (errors : ℕ) → Bool
@@ -137,11 +146,12 @@ abbrev pub movedKept : (phase L errors moved : ℕ) → Bool
 movedKept phase L errors moved =
     zeroOutside (inHand phase) moved && (inMove phase ⇒ ltb moved L && (eqb moved 0 ⇒ eqb errors 0)) && (inWriteBack phase ⇒ between 1 L moved)
 
--- EOP seen 0 outside, in modes 0 and 1, and in Move; WriteBack: moved = L or EOP seen
+-- zero outside; EOP seen 0 in modes 0 and 1; Move: EOP seen 0; WriteBack: moved = L or EOP seen
 abbrev pub eopKept : (mode phase L moved : ℕ) (eop : Bool) → Bool
 eopKept mode phase L moved eop =
-    (inHand phase || not eop) && (either 0 1 mode ⇒ not eop) && (inMove phase ⇒ not eop) && (inWriteBack phase ⇒ eqb moved L || eop)
+    (not eop outside inHand phase) && (either 0 1 mode ⇒ not eop) && (inMove phase ⇒ not eop) && (inWriteBack phase ⇒ eqb moved L || eop)
 
+-- the table
 unfoldable pub rules : Fields → List Bool
 rules f =
     editionKept (f .edition) ∷  --  1 edition
@@ -155,7 +165,7 @@ rules f =
     controlKept (f .phase) (f .armed) (f .control) ∷  --  9 control
     true ∷  -- 10 pointer
     true ∷  -- 11 base
-    keepsLimits (f .base) (f .window) ∷  -- 12 window length: window as above
+    keepsLimits (f .base) (f .window) ∷  -- 12 window length: the window's limits
     addressKept (inHand (f .phase)) (f .base) (f .window) (f .address) ∷  -- 13 descriptor address
     zeroOutside (inHand (f .phase)) (f .source) ∷  -- 14 source
     zeroOutside (inHand (f .phase)) (f .destination) ∷  -- 15 destination
@@ -164,8 +174,8 @@ rules f =
     errorsKept (f .mode) (inHand (f .phase)) (f .errors) ∷  -- 18 errors
     movedKept (f .phase) (asked (f .mode) (f .size)) (f .errors) (f .moved) ∷  -- 19 moved
     eopKept (f .mode) (f .phase) (asked (f .mode) (f .size)) (f .moved) (f .eop) ∷  -- 20 EOP seen
-    eqb (f .rest) 0 ∷  -- 21 zero bits are zero
-    zeroOutside (inFaulted (f .phase)) (f .faultat) ∷  -- 22 fault address
+    eqb (f .rest) 0 ∷  -- 21 zero: zero bits are zero
+    (eqb (f .faultat) 0 outside inFaulted (f .phase)) ∷  -- 22 fault address: 0 outside Faulted
     []
 
 -- the place, counted from k, of the first test that fails, or 0

@@ -7,7 +7,8 @@ ghost use Rattle.words.specs.Promise.{Gives, Leaves};
 ghost use Rattle.words.specs.Slices.{numberAt};
 ghost use Rattle.words.specs.declared.Order.the-variants.{MostFirst};
 ghost use Rattle.bus.specs.Window.{keepsLimits, inWindow};
-ghost use Rattle.image.specs.Layout.{flag, values, widths, image, fields, headWidths, sizesWidths, doneWidths, ofWords};
+ghost use Rattle.image.specs.Layout.{flag, values, widths, image, fields};
+ghost use Rattle.image.specs.InWords.{headWidths, sizesWidths, doneWidths, ofWords};
 ghost use Rattle.image.specs.Rules.{zeroOutside, phaseKept, faultKept, statusKept, controlKept, addressKept, sizeKept, dcontrolKept, errorsKept, asked, movedKept, eopKept, rules, firstFalse, lowestBroken};
 ghost use Rattle.image.specs.Promise.{WasRead, Wrote};
 use bus::BusAddress;
@@ -68,6 +69,21 @@ const HALTED: u8 = 5;
 
 const FAULTED: u8 = 6;
 
+// The register bits that the rules speak of, by their weights.
+const ERROR: u8 = 1;
+
+const EOP_ENCOUNTERED: u8 = 2;
+
+const BUSY: u8 = 16;
+
+const RUN: u32 = 0x20;
+
+const SW_RESET: u32 = 0x1_0000;
+
+const OWNED_BY_HW: u8 = 128;
+
+// A function for each rule of several parts. The definition that it ensures has the paper's sentence. `hand` is true in Move and
+// WriteBack, where a descriptor is in hand; `reads` in the modes 0 and 1, which read memory; `writes` in 0 and 2.
 fn phase_kept(mode: u8, phase: u8) -> bool
     ensures { λ r. ⌜ r ≡ phaseKept mode phase ⌝ }
 {
@@ -83,24 +99,24 @@ fn fault_kept(mode: u8, phase: u8, fault: u8) -> bool
     let code = ((10 <= fault) & (fault <= 14))
         & (!((fault == 12) | (fault == 13)) | reads)
         & (!(fault == 14) | writes);
-    (faulted | (fault == 0)) & (!faulted | code)
+    (!faulted | code) & (faulted | (fault == 0))
 }
 
 fn status_kept(mode: u8, phase: u8, status: u8) -> bool
     ensures { λ r. ⌜ r ≡ statusKept mode phase status ⌝ }
 {
-    let error = status / 1 % 2 == 1;
-    let eop = status / 2 % 2 == 1;
-    let busy = status / 16 % 2 == 1;
+    let error = status / ERROR % 2 == 1;
+    let eop = status / EOP_ENCOUNTERED % 2 == 1;
+    let busy = status / BUSY % 2 == 1;
     let active = (FETCH <= phase) & (phase <= ENDED);
-    (status < 32) & (busy == active) & (!(mode != 2) | !(error | eop))
+    (status < 32) & (busy == active) & ((mode == 2) | !(error | eop))
 }
 
 fn control_kept(phase: u8, armed: bool, control: u32) -> bool
     ensures { λ r. ⌜ r ≡ controlKept phase armed control ⌝ }
 {
-    let reset = control / 0x1_0000 % 2 == 1;
-    let run = control / 32 % 2 == 1;
+    let reset = control / SW_RESET % 2 == 1;
+    let run = control / RUN % 2 == 1;
     (control < 0x4_0000) & (reset == armed) & (!((phase == ENDED) | (phase == HALTED)) | run)
 }
 
@@ -150,7 +166,7 @@ fn size_kept(mode: u8, hand: bool, size: u16) -> bool
 fn dcontrol_kept(hand: bool, dcontrol: u8) -> bool
     ensures { λ r. ⌜ r ≡ dcontrolKept hand dcontrol ⌝ }
 {
-    (hand | (dcontrol == 0)) & (!hand | (dcontrol / 128 % 2 == 1))
+    (hand | (dcontrol == 0)) & (!hand | (dcontrol / OWNED_BY_HW % 2 == 1))
 }
 
 fn errors_kept(mode: u8, hand: bool, errors: u8) -> bool
@@ -164,8 +180,8 @@ fn errors_kept(mode: u8, hand: bool, errors: u8) -> bool
 fn whole(mode: u8, size: u16) -> u16
     ensures { λ r. ⌜ r ≡ asked mode size ⌝ }
 {
-    let open = (mode == 2) & (size == 0);
-    if open { 65_535 } else { size }
+    let most = (mode == 2) & (size == 0);
+    if most { 65_535 } else { size }
 }
 
 fn moved_kept(phase: u8, whole: u16, errors: u8, moved: u16) -> bool
@@ -200,14 +216,14 @@ fn kept(f: Fields) -> [bool; 22]
         f.edition == 1,
         f.mode <= 2,
         phase_kept(f.mode, f.phase),
-        true,
-        true,
+        true, // armed
+        true, // pending
         fault_kept(f.mode, f.phase, f.fault),
         status_kept(f.mode, f.phase, f.status),
         f.count <= 254,
         control_kept(f.phase, f.armed, f.control),
-        true,
-        true,
+        true, // pointer
+        true, // base
         limits_kept(f.base, f.window),
         address_kept(hand, f.base, f.window, f.address),
         zero_outside(hand, f.source),

@@ -1,7 +1,7 @@
 use Rattle.image.specs.declared.ReadImage.the-variants.{Good}
 use Rattle.image.proofs.Answers.{was-read, read-size, read-broken, read-good}
 use Rattle.image.specs.Rules.{lowestBroken}
-use mathlib.Core.Path.{_≡_, sym, ap, _∙_}
+use mathlib.Core.Path.{sym, ap, _∙_}
 use borrow.Author.Needs.{needs}
 use Rattle.image.proofs.read.Statement.{statement}
 use Rattle.image.proofs.read.Tie as tie

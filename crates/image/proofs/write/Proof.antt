@@ -1,6 +1,6 @@
 use Rattle.image.proofs.Fitting.{Typed, keeps-fit}
 use Rattle.image.proofs.Answers.{wrote-size, wrote-broken, wrote-done}
-use mathlib.Core.Path.{_≡_, sym, ap, _∙_}
+use mathlib.Core.Path.{sym, _∙_}
 use borrow.Author.Needs.{needs}
 use Rattle.image.proofs.write.Statement.{statement}
 use Rattle.image.proofs.write.Tie as tie

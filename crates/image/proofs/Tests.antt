@@ -1,0 +1,41 @@
+-- What tests put together tell of their parts.
+-- Assumes nothing.
+use mathlib.Core.Path.{_≡_, refl, sym}
+use mathlib.Core.Bool.{Bool, true, false, _&&_, _||_, true≢false}
+use Rattle.image.specs.Rules.{_⇒_, _exactly_}
+
+pub and-left : (a b : Bool) → (a && b) ≡ true → a ≡ true
+and-left true b e = refl
+and-left false b e = e
+
+pub and-right : (a b : Bool) → (a && b) ≡ true → b ≡ true
+and-right true b e = e
+and-right false b e = absurd (true≢false (sym e))
+
+pub second : (a b c : Bool) → (a && b && c) ≡ true → b ≡ true
+second a b c e = and-right a b (and-left (a && b) c e)
+
+pub three : (a b c : Bool) → (a && b && c) ≡ true → (a ≡ true) × (b ≡ true) × (c ≡ true)
+three true b c e = (refl, and-left b c e, and-right b c e)
+three false b c e = absurd (true≢false (sym e))
+
+pub four : (a b c d : Bool) → (a && b && c && d) ≡ true → (a ≡ true) × (b ≡ true) × (c ≡ true) × (d ≡ true)
+four true b c d e = (refl, three b c d e .0, three b c d e .1, three b c d e .2)
+four false b c d e = absurd (true≢false (sym e))
+
+pub both : {a b : Bool} → a ≡ true → b ≡ true → (a && b) ≡ true
+both p q = rw (p, q)
+
+pub then : (a b : Bool) → (a ⇒ b) ≡ true → a ≡ true → b ≡ true
+then true b e h = e
+then false b e h = absurd (true≢false (sym h))
+
+pub else : (a b : Bool) → (a || b) ≡ true → a ≡ false → b ≡ true
+else true b e h = absurd (true≢false h)
+else false b e h = e
+
+pub exactly-same : (a b : Bool) → (a exactly b) ≡ true → a ≡ b
+exactly-same true true e = refl
+exactly-same true false e = sym e
+exactly-same false true e = e
+exactly-same false false e = refl

@@ -1,0 +1,25 @@
+-- The image in words of 32 bits, as the code's private parts meet it. No promise speaks of it.
+-- Assumes nothing.
+use Prim.Native.Nat.{ℕ}
+use mathlib.Core.List.{List, [], _∷_, _++_}
+use Rattle.words.specs.Numbers.{split}
+use Rattle.words.specs.Slices.{part}
+use Rattle.image.specs.declared.Fields.{Fields}
+use Rattle.image.specs.Layout.{widths, fieldsOf}
+
+-- the widths in those words that hold several fields: the first, the ninth and the tenth
+abbrev pub headWidths : List ℕ
+headWidths = part widths 0 8
+
+abbrev pub sizesWidths : List ℕ
+sizesWidths = part widths 15 3
+
+abbrev pub doneWidths : List ℕ
+doneWidths = part widths 18 3
+
+-- the fields of the eleven words
+abbrev pub ofWords : (head control pointer base window address source destination sizes done faultat : ℕ) → Fields
+ofWords head control pointer base window address source destination sizes done faultat =
+    fieldsOf
+    (split headWidths head
+    ++ (control ∷ pointer ∷ base ∷ window ∷ address ∷ source ∷ destination ∷ (split sizesWidths sizes ++ (split doneWidths done ++ (faultat ∷ [])))))
