@@ -2,10 +2,12 @@
 -- Assumes nothing.
 use Prim.Native.Nat.{ℕ}
 use mathlib.Core.Path.{_≡_, sym, _∙_}
-use mathlib.Core.Bool.{Bool, false}
+use mathlib.Core.Bool.{Bool, false, cond}
 use mathlib.Core.List.{List, [], _∷_}
+use lib.Dec.{leb}
 use lib.ListN.{getD}
 use Rattle.words.specs.Bits.{bit}
+use Rattle.bus.specs.declared.Refusal.the-variants.{BadMode}
 use Rattle.bus.specs.Refusal.{refusalNumber}
 use Rattle.image.specs.declared.Fields.{Fields}
 use Rattle.image.specs.declared.ReadImage.{ReadImage}
@@ -17,6 +19,8 @@ use Rattle.image.specs.Promise.{readOf, wroteOf, imageOver}
 use Rattle.machine.specs.declared.Machine.{Machine}
 use Rattle.machine.specs.declared.Mode.{Mode}
 use Rattle.machine.specs.declared.Mode.the-variants.{MemoryToMemory, MemoryToStream, StreamToMemory}
+use Rattle.machine.specs.declared.CheckedMode.{CheckedMode}
+use Rattle.machine.specs.declared.CheckedMode.the-variants as mode
 use Rattle.machine.specs.declared.Status.{Status}
 use Rattle.machine.specs.declared.Work.{Work}
 use Rattle.machine.specs.declared.Fault.{Fault}
@@ -101,6 +105,10 @@ keeps m = keepsRules (fieldsOf m)
 
 abbrev pub modeOf : ℕ → Mode
 modeOf n = getD (MemoryToMemory ∷ MemoryToStream ∷ []) n StreamToMemory
+
+-- 2 BadMode: mode above 2
+unfoldable pub checkedMode : ℕ → CheckedMode
+checkedMode n = cond (leb n 2) (mode.Good (modeOf n)) (mode.Refused BadMode)
 
 abbrev pub statusOf : ℕ → Status
 statusOf n = record { error = bit 0 n; eop = bit 1 n; descriptor = bit 2 n; chain = bit 3 n; busy = bit 4 n }

@@ -17,6 +17,12 @@ pub enum Mode {
     StreamToMemory,
 }
 
+// A mode, or BadMode.
+pub enum CheckedMode {
+    Good(Mode),
+    Refused(Refusal),
+}
+
 // The status register.
 pub struct Status {
     pub error: bool,

@@ -1,7 +1,9 @@
 // The machine as the fields of its image, and back; load and save.
 ghost use mathlib.Core.Path.{_≡_};
+ghost use Rattle.words.specs.Promise.{Gives};
 ghost use Rattle.machine.specs.State.{modeNumber, phaseNumber, statusNumber};
-ghost use Rattle.machine.specs.Saved.{inHand, faultIn, fieldsOf, keeps as keepsOf, modeOf, statusOf, workOf, phaseOf, machineOf, WasLoaded, WasSaved};
+ghost use Rattle.machine.specs.Saved.{checkedMode, inHand, faultIn, fieldsOf, keeps as keepsOf, modeOf, statusOf, workOf, phaseOf, machineOf, WasLoaded, WasSaved};
+use crate::CheckedMode;
 use crate::Control;
 use crate::Fault;
 use crate::LoadedMachine;
@@ -13,6 +15,7 @@ use crate::SavedMachine;
 use crate::Status;
 use crate::Work;
 use crate::has;
+use bus::Refusal;
 use bus::Window;
 use descriptor::DescControl;
 use image::Fields;
@@ -89,13 +92,25 @@ fn fault_in(phase: Phase) -> Fault
     }
 }
 
-fn mode_of(n: u8) -> Mode
+fn mode_of(n: u32) -> Mode
     ensures { λ r. ⌜ r ≡ modeOf n ⌝ }
 {
     match n {
         0 => Mode::MemoryToMemory,
         1 => Mode::MemoryToStream,
         _ => Mode::StreamToMemory,
+    }
+}
+
+impl Mode {
+    // The mode of a number, which is at most 2.
+    pub fn checked(n: u32) -> CheckedMode
+        ensures { λ r. ⌜ Gives (checkedMode n) r ⌝ }
+    {
+        if 2 < n {
+            return CheckedMode::Refused(Refusal::BadMode);
+        }
+        CheckedMode::Good(mode_of(n))
     }
 }
 
@@ -149,7 +164,7 @@ fn machine_of(f: Fields) -> Machine
     ensures { λ r. ⌜ r ≡ machineOf f ⌝ }
 {
     Machine {
-        mode: mode_of(f.mode),
+        mode: mode_of(f.mode as u32),
         window: Window {
             base: f.base,
             length: f.window,

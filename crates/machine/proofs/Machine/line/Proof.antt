@@ -7,30 +7,21 @@ use mathlib.Core.Path.{_≡_, sym, ap, _∙_}
 use borrow.Author.Needs.{needs}
 use Rattle.machine.proofs.Machine.line.Statement.{statement}
 use Rattle.machine.proofs.Machine.line.Tie as tie
-use Rattle.machine.proofs.Machine.line.Reads as reads
-use Rattle.machine.proofs.Machine.line.Lts as lts
-use Rattle.machine.proofs.Machine.keeps.Reads as keeps-reads
-use Rattle.machine.proofs.has.Reads as has-reads
 
--- src/registers.rt:210:13
 keeps-requires : tie.Need-keeps-requires
 keeps-requires c κs = search needs
 
--- src/registers.rt:211:13
 returns : tie.Need-returns
 unfolding lineOf
 returns c = record { answer = rw (sym (c .before .keeps .ensures) ∙ not-true _ (c .if1 .taken)) }
 
--- src/registers.rt:213:33
 has-requires : tie.Need-has-requires
 has-requires c κs = search needs
 
--- src/registers.rt:207:5
 returns-2 : tie.Need-returns-2
 unfolding lineOf
 returns-2 c = let m = c .before .before .before .before .before .args .self in let t : (m .pending && ieGlobal (m .control)) ≡ true = cc in record { answer = rw (sym (c .before .before .before .before .keeps .ensures) ∙ not-false _ (c .before .before .before .if1 .left), t) }
 
--- src/registers.rt:207:5
 returns-3 : tie.Need-returns-3
 unfolding lineOf
 returns-3 c = let m = c .before .before .before .before .before .args .self in let t : (m .pending && ieGlobal (m .control)) ≡ false = cc in record { answer = rw (sym (c .before .before .before .before .keeps .ensures) ∙ not-false _ (c .before .before .before .if1 .left), t) }

@@ -4,33 +4,23 @@ use mathlib.Core.Path.{_≡_, sym, ap, _∙_}
 use borrow.Author.Needs.{needs}
 use Rattle.machine.proofs.Machine.load.Statement.{statement}
 use Rattle.machine.proofs.Machine.load.Tie as tie
-use Rattle.machine.proofs.Machine.load.Reads as reads
-use Rattle.machine.proofs.Machine.load.Lts as lts
-use Rattle.image.proofs.read.Reads as read-reads
-use Rattle.machine.proofs.saved.machine_of.Reads as machine-of-reads
 
--- src/saved.rt:214:13
 read-requires : tie.Need-read-requires
 read-requires c κs = search needs
 
--- src/saved.rt:216:29
 enum-known-found : tie.Need-enum-known-found
 enum-known-found c = search needs
 
--- src/saved.rt:216:55
 machine-of-requires : tie.Need-machine-of-requires
 machine-of-requires c κs = search needs
 
--- src/saved.rt:217:32
 enum-known-found-2 : tie.Need-enum-known-found-2
 enum-known-found-2 c = search needs
 
--- src/saved.rt:211:5
 returns : tie.Need-returns
 unfolding loadOf
 returns c = record { answer = ap Good (c .machine-of .ensures) ∙ sym (ap loadedAs (sym (c .before .before .before .before .read .ensures .answer) ∙ c .before .before .found .given .1)) }
 
--- src/saved.rt:211:5
 returns-2 : tie.Need-returns-2
 unfolding loadOf
 returns-2 c = record { answer = sym (ap loadedAs (sym (c .before .before .before .read .ensures .answer) ∙ c .before .found2 .given .1)) }

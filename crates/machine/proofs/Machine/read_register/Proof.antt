@@ -6,40 +6,29 @@ use mathlib.Core.Path.{_≡_, sym, ap, _∙_}
 use borrow.Author.Needs.{needs}
 use Rattle.machine.proofs.Machine.read_register.Statement.{statement}
 use Rattle.machine.proofs.Machine.read_register.Tie as tie
-use Rattle.machine.proofs.Machine.read_register.Reads as reads
-use Rattle.machine.proofs.Machine.read_register.Lts as lts
-use Rattle.machine.proofs.Machine.keeps.Reads as keeps-reads
-use Rattle.machine.proofs.Status.number.Reads as number-reads
 
--- src/registers.rt:171:13
 keeps-requires : tie.Need-keeps-requires
 keeps-requires c κs = search needs
 
--- src/registers.rt:172:13
 returns : tie.Need-returns
 unfolding readOf
 returns c = record { answer = rw (sym (c .before .keeps .ensures) ∙ not-true _ (c .if1 .taken)) }
 
--- src/registers.rt:176:40
 number-requires : tie.Need-number-requires
 number-requires c κs = search needs
 
--- src/registers.rt:176:13
 returns-2 : tie.Need-returns-2
 unfolding readOf
 returns-2 c = record { answer = ap Value (c .number .ensures .0) ∙ sym (at-status _ _ _ _ _ _ _ (sym (c .before .before .before .before .keeps .ensures) ∙ not-false _ (c .before .before .before .if1 .left)) (c .before .before .if2 .taken)) }
 
--- src/registers.rt:179:13
 returns-3 : tie.Need-returns-3
 unfolding readOf
 returns-3 c = record { answer = sym (at-control _ _ _ _ _ _ _ (sym (c .before .before .before .keeps .ensures) ∙ not-false _ (c .before .before .if1 .left)) (c .if3 .taken)) }
 
--- src/registers.rt:182:13
 returns-4 : tie.Need-returns-4
 unfolding readOf
 returns-4 c = record { answer = sym (at-pointer _ _ _ _ _ _ _ (sym (c .before .before .before .before .keeps .ensures) ∙ not-false _ (c .before .before .before .if1 .left)) (c .if4 .taken)) }
 
--- src/registers.rt:168:5
 returns-5 : tie.Need-returns-5
 unfolding readOf
 returns-5 c = record { answer = sym (at-none _ _ _ _ _ _ _ (sym (c .before .before .before .before .keeps .ensures) ∙ not-false _ (c .before .before .before .if1 .left)) (c .before .before .if2 .left) (c .before .if3 .left) (c .if4 .left)) }

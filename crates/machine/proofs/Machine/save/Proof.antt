@@ -2,40 +2,28 @@ use Rattle.machine.proofs.Answers.{was-saved}
 use borrow.Author.Needs.{needs}
 use Rattle.machine.proofs.Machine.save.Statement.{statement}
 use Rattle.machine.proofs.Machine.save.Tie as tie
-use Rattle.machine.proofs.Machine.save.Reads as reads
-use Rattle.machine.proofs.Machine.save.Lts as lts
-use Rattle.image.proofs.write.Reads as write-reads
-use Rattle.machine.proofs.Machine.fields.Reads as fields-reads
 
--- src/saved.rt:225:33
 fields-requires : tie.Need-fields-requires
 fields-requires c κs = search needs
 
--- src/saved.rt:225:13
 write-requires : tie.Need-write-requires
 write-requires c κs = search needs
 
--- src/saved.rt:227:33
 enum-told : tie.Need-enum-told
 enum-told c = search needs
 
--- src/saved.rt:228:33
 enum-known-done : tie.Need-enum-known-done
 enum-known-done c = search needs
 
--- src/saved.rt:222:5
 same-length : tie.Need-same-length
 same-length c = search needs
 
--- src/saved.rt:222:5
 returns : tie.Need-returns
 returns c = was-saved (c .before .before .before .before .before .before .fields .ensures) (c .before .before .before .before .write .ensures) (c .enum-told .given .1)
 
--- src/saved.rt:222:5
 same-length-2 : tie.Need-same-length-2
 same-length-2 c = search needs
 
--- src/saved.rt:222:5
 returns-2 : tie.Need-returns-2
 returns-2 c = was-saved (c .before .before .before .before .before .before .before .fields .ensures) (c .before .before .before .before .before .write .ensures) (c .before .done .given .1)
 

@@ -6,45 +6,32 @@ use mathlib.Core.Path.{_≡_, sym, ap, _∙_}
 use borrow.Author.Needs.{needs}
 use Rattle.machine.proofs.Machine.write_register.Statement.{statement}
 use Rattle.machine.proofs.Machine.write_register.Tie as tie
-use Rattle.machine.proofs.Machine.write_register.Reads as reads
-use Rattle.machine.proofs.Machine.write_register.Lts as lts
-use Rattle.machine.proofs.Machine.control_written.Reads as control-written-reads
-use Rattle.machine.proofs.Machine.keeps.Reads as keeps-reads
-use Rattle.machine.proofs.Machine.status_written.Reads as status-written-reads
 
--- src/registers.rt:190:13
 keeps-requires : tie.Need-keeps-requires
 keeps-requires c κs = search needs
 
--- src/registers.rt:191:13
 returns : tie.Need-returns
 unfolding writeOf
 returns c = record { answer = rw (sym (c .before .keeps .ensures) ∙ not-true _ (c .if1 .taken)) }
 
--- src/registers.rt:194:40
 status-written-requires : tie.Need-status-written-requires
 status-written-requires c κs = search needs
 
--- src/registers.rt:194:13
 returns-2 : tie.Need-returns-2
 unfolding writeOf
 returns-2 c = record { answer = ap Done (c .status-written .ensures) ∙ sym (at-status _ _ _ _ _ _ _ (sym (c .before .before .before .keeps .ensures) ∙ not-false _ (c .before .before .if1 .left)) (c .before .if2 .taken)) }
 
--- src/registers.rt:197:40
 control-written-requires : tie.Need-control-written-requires
 control-written-requires c κs = search needs
 
--- src/registers.rt:197:13
 returns-3 : tie.Need-returns-3
 unfolding writeOf
 returns-3 c = record { answer = ap Done (c .control-written .ensures) ∙ sym (at-control _ _ _ _ _ _ _ (sym (c .before .before .before .before .keeps .ensures) ∙ not-false _ (c .before .before .before .if1 .left)) (c .before .if3 .taken)) }
 
--- src/registers.rt:201:13
 returns-4 : tie.Need-returns-4
 unfolding writeOf
 returns-4 c = record { answer = sym (at-pointer _ _ _ _ _ _ _ (sym (c .before .before .before .before .before .before .before .keeps .ensures) ∙ not-false _ (c .before .before .before .before .before .before .if1 .left)) (c .before .before .before .if4 .taken)) }
 
--- src/registers.rt:187:5
 returns-5 : tie.Need-returns-5
 unfolding writeOf
 returns-5 c = record { answer = sym (at-none _ _ _ _ _ _ _ (sym (c .before .before .before .before .keeps .ensures) ∙ not-false _ (c .before .before .before .if1 .left)) (c .before .before .if2 .left) (c .before .if3 .left) (c .if4 .left)) }

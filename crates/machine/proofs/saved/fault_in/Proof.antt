@@ -1,62 +1,46 @@
 use borrow.Author.Needs.{needs}
 use Rattle.machine.proofs.saved.fault_in.Statement.{statement}
 use Rattle.machine.proofs.saved.fault_in.Tie as tie
-use Rattle.machine.proofs.saved.fault_in.Reads as reads
-use Rattle.machine.proofs.saved.fault_in.Lts as lts
 
--- src/saved.rt:82:24
 enum-known-phase : tie.Need-enum-known-phase
 enum-known-phase c = search needs
 
--- src/saved.rt:83:24
 enum-told : tie.Need-enum-told
 enum-told c = search needs
 
--- src/saved.rt:84:25
 enum-told-2 : tie.Need-enum-told-2
 enum-told-2 c = search needs
 
--- src/saved.rt:85:27
 enum-told-3 : tie.Need-enum-told-3
 enum-told-3 c = search needs
 
--- src/saved.rt:86:32
 enum-told-4 : tie.Need-enum-told-4
 enum-told-4 c = search needs
 
--- src/saved.rt:87:25
 enum-told-5 : tie.Need-enum-told-5
 enum-told-5 c = search needs
 
--- src/saved.rt:88:26
 enum-told-6 : tie.Need-enum-told-6
 enum-told-6 c = search needs
 
--- src/saved.rt:78:1
 returns : tie.Need-returns
 returns c = search needs
 
--- src/saved.rt:78:1
 returns-2 : tie.Need-returns-2
 returns-2 c = simp (c .enum-told .given .1)
 
--- src/saved.rt:78:1
 returns-3 : tie.Need-returns-3
 returns-3 c = simp (c .enum-told2 .given .1)
 
--- src/saved.rt:78:1
 returns-4 : tie.Need-returns-4
 returns-4 c = simp (c .enum-told3 .given .1)
 
--- src/saved.rt:78:1
 returns-5 : tie.Need-returns-5
 returns-5 c = simp (c .enum-told4 .given .1)
 
--- src/saved.rt:78:1
 returns-6 : tie.Need-returns-6
 returns-6 c = simp (c .enum-told5 .given .1)
 
--- src/saved.rt:78:1
 returns-7 : tie.Need-returns-7
 returns-7 c = simp (c .enum-told6 .given .1)
 

@@ -1,62 +1,46 @@
 use borrow.Author.Needs.{needs}
 use Rattle.machine.proofs.saved.in_hand.Statement.{statement}
 use Rattle.machine.proofs.saved.in_hand.Tie as tie
-use Rattle.machine.proofs.saved.in_hand.Reads as reads
-use Rattle.machine.proofs.saved.in_hand.Lts as lts
 
--- src/saved.rt:67:21
 enum-known-phase : tie.Need-enum-known-phase
 enum-known-phase c = search needs
 
--- src/saved.rt:68:26
 enum-known-phase-2 : tie.Need-enum-known-phase-2
 enum-known-phase-2 c = search needs
 
--- src/saved.rt:27:14
 enum-told : tie.Need-enum-told
 enum-told c = search needs
 
--- src/saved.rt:27:14
 enum-told-2 : tie.Need-enum-told-2
 enum-told-2 c = search needs
 
--- src/saved.rt:27:14
 enum-told-3 : tie.Need-enum-told-3
 enum-told-3 c = search needs
 
--- src/saved.rt:27:14
 enum-told-4 : tie.Need-enum-told-4
 enum-told-4 c = search needs
 
--- src/saved.rt:27:14
 enum-told-5 : tie.Need-enum-told-5
 enum-told-5 c = search needs
 
--- src/saved.rt:63:1
 returns : tie.Need-returns
 returns c = search needs
 
--- src/saved.rt:63:1
 returns-2 : tie.Need-returns-2
 returns-2 c = search needs
 
--- src/saved.rt:63:1
 returns-3 : tie.Need-returns-3
 returns-3 c = simp (c .enum-told .given .1)
 
--- src/saved.rt:63:1
 returns-4 : tie.Need-returns-4
 returns-4 c = simp (c .enum-told2 .given .1)
 
--- src/saved.rt:63:1
 returns-5 : tie.Need-returns-5
 returns-5 c = simp (c .enum-told3 .given .1)
 
--- src/saved.rt:63:1
 returns-6 : tie.Need-returns-6
 returns-6 c = simp (c .enum-told4 .given .1)
 
--- src/saved.rt:63:1
 returns-7 : tie.Need-returns-7
 returns-7 c = simp (c .enum-told5 .given .1)
 

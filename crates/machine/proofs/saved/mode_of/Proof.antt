@@ -7,18 +7,13 @@ use Rattle.machine.specs.declared.Mode.the-variants.{MemoryToMemory, Mem
 use borrow.Author.Needs.{needs}
 use Rattle.machine.proofs.saved.mode_of.Statement.{statement}
 use Rattle.machine.proofs.saved.mode_of.Tie as tie
-use Rattle.machine.proofs.saved.mode_of.Reads as reads
-use Rattle.machine.proofs.saved.mode_of.Lts as lts
 
--- src/saved.rt:92:1
 returns : tie.Need-returns
 returns c = search needs
 
--- src/saved.rt:92:1
 returns-2 : tie.Need-returns-2
 returns-2 c = search needs
 
--- src/saved.rt:92:1
 returns-3 : tie.Need-returns-3
 returns-3 c = let h : 2 ≤ c .before .args .n = omega arith in sym (List·getD-eq-default (MemoryToMemory ∷ MemoryToStream ∷ []) StreamToMemory h)
 

@@ -8,43 +8,31 @@ use mathlib.Core.Path.{sym, ap, _∙_}
 use borrow.Author.Needs.{needs}
 use Rattle.machine.proofs.saved.phase_of.Statement.{statement}
 use Rattle.machine.proofs.saved.phase_of.Tie as tie
-use Rattle.machine.proofs.saved.phase_of.Reads as reads
-use Rattle.machine.proofs.saved.phase_of.Lts as lts
-use Rattle.machine.proofs.saved.work_of.Reads as work-of-reads
 
--- src/saved.rt:137:26
 work-of-requires : tie.Need-work-of-requires
 work-of-requires c κs = search needs
 
--- src/saved.rt:138:31
 work-of-requires-2 : tie.Need-work-of-requires-2
 work-of-requires-2 c κs = search needs
 
--- src/saved.rt:130:1
 returns : tie.Need-returns
 returns c = simp (c .match .keys1)
 
--- src/saved.rt:130:1
 returns-2 : tie.Need-returns-2
 returns-2 c = simp (c .match .keys2)
 
--- src/saved.rt:130:1
 returns-3 : tie.Need-returns-3
 returns-3 c = simp (c .work-of .ensures, c .before .match .keys3)
 
--- src/saved.rt:130:1
 returns-4 : tie.Need-returns-4
 returns-4 c = simp (c .work-of2 .ensures, c .before .match .keys4)
 
--- src/saved.rt:130:1
 returns-5 : tie.Need-returns-5
 returns-5 c = simp (c .match .keys5)
 
--- src/saved.rt:130:1
 returns-6 : tie.Need-returns-6
 returns-6 c = simp (c .match .keys6)
 
--- src/saved.rt:130:1
 returns-7 : tie.Need-returns-7
 returns-7 c = let f = c .before .args .f in let h : 6 ≤ f .phase = omega arith in sym (List·getD-eq-default (Rest ∷ Fetch ∷ Move (workOf f) ∷ WriteBack (workOf f) ∷ Ended ∷ Halted ∷ []) (Faulted (record { code = f .fault; address = f .faultat })) h)
 

@@ -1,0 +1,105 @@
+-- What a call answers, from what it learnt.
+-- Assumes nothing.
+use Prim.Native.Nat.{ℕ}
+use mathlib.Core.Path.{_≡_, refl, sym, ap, _∙_}
+use mathlib.Core.List.{List}
+use lib.ListN.{length}
+use borrow.Author.Tests.{eq-eqb, ne-eqb}
+use Rattle.words.specs.declared.Order.the-variants.{MostFirst}
+use Rattle.words.specs.Orders.{bytesOf}
+use Rattle.words.specs.Slices.{putAt}
+use Rattle.words.proofs.Orders.{length-bytes}
+use Rattle.descriptor.specs.declared.ReadDescriptor.{ReadDescriptor}
+use Rattle.descriptor.specs.declared.ReadDescriptor.the-variants as descriptor
+use Rattle.descriptor.specs.Calls.{WasRead as ReadBack, readNumber as descriptorNumber}
+use Rattle.image.proofs.WordByWord.{put-all}
+use Rattle.bus.specs.declared.Refusal.{Refusal}
+use Rattle.bus.specs.declared.Refusal.the-variants.{BadSize, BadImage}
+use Rattle.machine.specs.declared.Machine.{Machine}
+use Rattle.machine.specs.declared.LoadedMachine.{LoadedMachine}
+use Rattle.machine.specs.declared.LoadedMachine.the-variants as loaded
+use Rattle.machine.specs.declared.registers.ReadRegister.{ReadRegister}
+use Rattle.machine.specs.declared.registers.ReadRegister.the-variants as register
+use Rattle.machine.specs.declared.registers.Line.{Line}
+use Rattle.machine.specs.declared.registers.Line.the-variants as line
+use Rattle.machine.specs.Saved.{loadOf}
+use Rattle.machine.specs.Registers.{readNumber, lineNumber, WasRead, WasLine}
+use Rattle.sgdma.specs.Calls.{registerOf, readCall, valueOver, RegisterRead, lineIn, lineCall, lineOver, LineRead, descriptorCall, answerOver, DescriptorRead}
+use Rattle.sgdma.proofs.Opened.{first-wrong, second-wrong, sizes-right, not-loaded}
+
+-- a value that fills the lent bytes
+pub value-put : (v : ℕ) (xs : List ℕ) → length xs ≡ 4 → putAt xs 0 (bytesOf MostFirst 4 v) ≡ bytesOf MostFirst 4 v
+value-put v xs l = put-all xs (bytesOf MostFirst 4 v) (length-bytes MostFirst 4 v ∙ sym l)
+
+-- ---- sgdma_read_register
+
+module _ {xs value ys : List ℕ} {offset r : ℕ} where
+  answers : (a : ReadRegister) → readCall xs offset value ≡ a → r ≡ readNumber a → ys ≡ valueOver a value → RegisterRead xs offset value r ys
+  answers a e p q =
+      record { number = p ∙ sym (ap readNumber e); value-after = q ∙ sym (ap (λ (b : ReadRegister). valueOver b value) e) }
+
+  pub register-short : (length xs ≡ 44 → ⊥) → r ≡ 7 → ys ≡ value → RegisterRead xs offset value r ys
+  unfolding readCall
+  register-short h p q = answers (register.Refused BadSize) (first-wrong _ _ 4 xs value h) p q
+
+  module _ (l : length xs ≡ 44) where
+    pub value-short : (length value ≡ 4 → ⊥) → r ≡ 7 → ys ≡ value → RegisterRead xs offset value r ys
+    unfolding readCall
+    value-short h p q = answers (register.Refused BadSize) (second-wrong _ _ 4 xs value l h) p q
+
+    module _ (k : length value ≡ 4) where
+      pub register-spoiled : {why : Refusal} → loadOf xs ≡ loaded.Refused why → r ≡ 8 → ys ≡ value → RegisterRead xs offset value r ys
+      unfolding readCall
+      register-spoiled {why} e p q =
+          answers (register.Refused BadImage)
+          (sizes-right _ _ 4 xs value l k ∙ ap (λ (x : LoadedMachine). registerOf x offset) (not-loaded xs why l e)) p q
+
+      pub register-answers : {m : Machine} {a b : ReadRegister} → loadOf xs ≡ loaded.Good m → WasRead m offset a → a ≡ b
+          → r ≡ readNumber b → ys ≡ valueOver b value → RegisterRead xs offset value r ys
+      unfolding readCall
+      register-answers {m} {a} {b} e w f p q =
+          answers b (sizes-right _ _ 4 xs value l k ∙ ap (λ (x : LoadedMachine). registerOf x offset) e ∙ sym (w .answer) ∙ f) p q
+
+-- ---- sgdma_line
+
+module _ {xs value ys : List ℕ} {r : ℕ} where
+  line-says : (a : Line) → lineCall xs value ≡ a → r ≡ lineNumber a → ys ≡ lineOver a value → LineRead xs value r ys
+  line-says a e p q = record { number = p ∙ sym (ap lineNumber e); value-after = q ∙ sym (ap (λ (b : Line). lineOver b value) e) }
+
+  pub line-short : (length xs ≡ 44 → ⊥) → r ≡ 7 → ys ≡ value → LineRead xs value r ys
+  unfolding lineCall
+  line-short h p q = line-says (line.Refused BadSize) (first-wrong _ _ 4 xs value h) p q
+
+  module _ (l : length xs ≡ 44) where
+    pub line-value-short : (length value ≡ 4 → ⊥) → r ≡ 7 → ys ≡ value → LineRead xs value r ys
+    unfolding lineCall
+    line-value-short h p q = line-says (line.Refused BadSize) (second-wrong _ _ 4 xs value l h) p q
+
+    module _ (k : length value ≡ 4) where
+      pub line-spoiled : {why : Refusal} → loadOf xs ≡ loaded.Refused why → r ≡ 8 → ys ≡ value → LineRead xs value r ys
+      unfolding lineCall
+      line-spoiled {why} e p q =
+          line-says (line.Refused BadImage) (sizes-right _ _ 4 xs value l k ∙ ap lineIn (not-loaded xs why l e)) p q
+
+      pub line-answers : {m : Machine} {a b : Line} → loadOf xs ≡ loaded.Good m → WasLine m a → a ≡ b
+          → r ≡ lineNumber b → ys ≡ lineOver b value → LineRead xs value r ys
+      unfolding lineCall
+      line-answers {m} {a} {b} e w f p q =
+          line-says b (sizes-right _ _ 4 xs value l k ∙ ap lineIn e ∙ sym (w .answer) ∙ f) p q
+
+-- ---- sgdma_read_descriptor
+
+module _ {window answer ys : List ℕ} {base a r : ℕ} where
+  found-as : (d : ReadDescriptor) → descriptorCall window base a answer ≡ d → r ≡ descriptorNumber d → ys ≡ answerOver d answer
+      → DescriptorRead window base a answer r ys
+  found-as d e p q =
+      record { number = p ∙ sym (ap descriptorNumber e); answer-after = q ∙ sym (ap (λ (b : ReadDescriptor). answerOver b answer) e) }
+
+  pub answer-short : (length answer ≡ 18 → ⊥) → r ≡ 7 → ys ≡ answer → DescriptorRead window base a answer r ys
+  unfolding descriptorCall
+  answer-short h p q = found-as (descriptor.Refused BadSize) (rw (ne-eqb (length answer) 18 h)) p q
+
+  pub descriptor-answers : {d e : ReadDescriptor} → length answer ≡ 18 → ReadBack window base a d → d ≡ e
+      → r ≡ descriptorNumber e → ys ≡ answerOver e answer → DescriptorRead window base a answer r ys
+  unfolding descriptorCall
+  descriptor-answers {d} {e} l w f p q = found-as e (rw (eq-eqb (length answer) 18 l) (sym (w .answer) ∙ f)) p q

@@ -1,0 +1,43 @@
+-- Lent bytes that are filled in two parts.
+-- Assumes nothing.
+use Prim.Native.Nat.{ℕ, _+_, _*_, _^_, _<_}
+use mathlib.Core.Path.{_≡_, refl, sym, ap, _∙_}
+use mathlib.Core.List.{List, [], _∷_, _++_}
+use native.Mathlib.Omega.{arith}
+use lib.ListN.{length, length-append}
+use Rattle.words.specs.declared.Order.the-variants.{MostFirst}
+use Rattle.words.specs.Numbers.{bytes}
+use Rattle.words.specs.Orders.{bytesOf, wordBytes, rowBytes}
+use Rattle.words.specs.Slices.{put, putAt}
+use Rattle.words.proofs.Recode.{split-append}
+use Rattle.words.proofs.Slices.{put-in, put-put, length-put}
+use Rattle.image.proofs.WordByWord.{put-all}
+use Rattle.descriptor.specs.declared.Descriptor.{Descriptor}
+use Rattle.descriptor.specs.declared.ReadDescriptor.the-variants.{Good}
+use Rattle.sgdma.specs.Calls.{answerOver}
+
+-- two parts that together are as long as the slice are what then stands in it
+pub filled : (xs ys zs : List ℕ) (n : ℕ) → length ys ≡ n → length xs ≡ n + length zs → putAt (putAt xs 0 ys) n zs ≡ ys ++ zs
+filled xs ys zs n k l =
+    let first : putAt xs 0 ys ≡ put xs 0 ys = put-in xs 0 ys (omega arith) in
+    let same : length (putAt xs 0 ys) ≡ length xs = ap length first ∙ length-put xs 0 ys (omega arith) in
+    let end : n ≡ 0 + length ys = omega arith in
+    put-in (putAt xs 0 ys) n zs (omega arith)
+    ∙ ap (λ (l : List ℕ). put l n zs) first ∙ ap (λ (m : ℕ). put (put xs 0 ys) m zs) end
+    ∙ put-put xs 0 ys zs (omega arith) ∙ sym (put-in xs 0 (ys ++ zs) (simp length-append (omega arith)))
+    ∙ put-all xs (ys ++ zs) (simp length-append (omega arith))
+
+-- a descriptor answer, from its four words and its last two bytes
+pub answer-filled : (xs : List ℕ) (d : Descriptor) → length xs ≡ 18 → d .actual < 2 ^ 16 → d .control .0 < 2 ^ 8
+    → putAt (putAt xs 0 (wordBytes MostFirst (d .source ∷ d .destination ∷ d .next ∷ (d .length * 0x1_0000 + d .actual) ∷ []))) 16
+    (bytesOf MostFirst 2 (d .status * 256 + d .control .0))
+    ≡ answerOver (Good d) []
+answer-filled xs d l h i =
+    let counts : bytesOf MostFirst 4 (d .length * 0x1_0000 + d .actual) ≡ bytesOf MostFirst 2 (d .length) ++ bytesOf MostFirst 2 (d .actual) =
+    split-append (bytes 2) (bytes 2) (d .length) (d .actual) h in
+    let last : bytesOf MostFirst 2 (d .status * 256 + d .control .0) ≡ bytesOf MostFirst 1 (d .status) ++ bytesOf MostFirst 1 (d .control .0) =
+    split-append (bytes 1) (bytes 1) (d .status) (d .control .0) i in
+    filled xs _ _ 16 refl l
+    ∙ ap (λ (ys : List ℕ). bytesOf MostFirst 4 (d .source) ++ bytesOf MostFirst 4 (d .destination) ++ bytesOf MostFirst 4 (d .next) ++ ys)
+    (ap (λ (ys : List ℕ). ys ++ bytesOf MostFirst 2 (d .status * 256 + d .control .0)) counts
+    ∙ ap (λ (ys : List ℕ). bytesOf MostFirst 2 (d .length) ++ bytesOf MostFirst 2 (d .actual) ++ ys) last)

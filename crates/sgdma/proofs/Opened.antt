@@ -1,0 +1,41 @@
+-- The sizes of what is lent, and an image that does not load.
+-- Assumes nothing.
+use Prim.Native.Nat.{ℕ}
+use mathlib.Core.Path.{_≡_, refl, sym, ap, _∙_}
+use mathlib.Core.Bool.{Bool, true, false, cond, _&&_}
+use mathlib.Core.List.{List}
+use native.Mathlib.Omega.{arith}
+use lib.ListN.{length}
+use borrow.Author.Tests.{eq-eqb, ne-eqb}
+use Rattle.bus.specs.declared.Refusal.{Refusal}
+use Rattle.bus.specs.declared.Refusal.the-variants.{BadSize, BadImage}
+use Rattle.image.specs.declared.Fields.{Fields}
+use Rattle.image.specs.declared.ReadImage.the-variants as read
+use Rattle.image.specs.Layout.{fields}
+use Rattle.image.specs.Rules.{keepsRules}
+use Rattle.image.specs.Promise.{sized, readOf}
+use Rattle.machine.specs.declared.LoadedMachine.the-variants.{Good, Refused}
+use Rattle.machine.specs.Saved.{loadedAs, loadOf}
+use Rattle.sgdma.specs.Calls.{isSize}
+
+-- a call that looks at two sizes
+module _ {A : Type 0} (a b : A) (n : ℕ) (xs ys : List ℕ) where
+  pub first-wrong : (length xs ≡ 44 → ⊥) → cond (sized xs && isSize n ys) a b ≡ b
+  first-wrong h = rw (ne-eqb (length xs) 44 h)
+
+  pub second-wrong : length xs ≡ 44 → (length ys ≡ n → ⊥) → cond (sized xs && isSize n ys) a b ≡ b
+  second-wrong l h = rw (eq-eqb (length xs) 44 l, ne-eqb (length ys) n h)
+
+  pub sizes-right : length xs ≡ 44 → length ys ≡ n → cond (sized xs && isSize n ys) a b ≡ a
+  sizes-right l k = rw (eq-eqb (length xs) 44 l, eq-eqb (length ys) n k)
+
+refused-by : (k : Bool) (f : Fields) (why : Refusal) → loadedAs (cond k (read.Good f) (read.Refused BadImage)) ≡ Refused why → why ≡ BadImage
+refused-by true f why e = absurd (let z : _≡_ {A = ℕ} 0 1 = cc in omega arith)
+refused-by false f why e = cc
+
+-- an image of the right size that does not load breaks a rule
+pub not-loaded : (xs : List ℕ) (why : Refusal) → length xs ≡ 44 → loadOf xs ≡ Refused why → loadOf xs ≡ Refused BadImage
+unfolding loadOf readOf
+not-loaded xs why l e =
+    let h : loadOf xs ≡ loadedAs (cond (keepsRules (fields xs)) (read.Good (fields xs)) (read.Refused BadImage)) = rw (eq-eqb (length xs) 44 l) in
+    e ∙ ap Refused (refused-by (keepsRules (fields xs)) (fields xs) why (sym h ∙ e))

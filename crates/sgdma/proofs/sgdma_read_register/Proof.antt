@@ -1,0 +1,78 @@
+use Rattle.sgdma.proofs.Answered.{value-put, register-short, value-short, register-spoiled, register-answers}
+use mathlib.Core.Path.{_≡_, refl, sym, _∙_}
+use borrow.Author.Needs.{needs}
+use Rattle.sgdma.proofs.sgdma_read_register.Statement.{statement}
+use Rattle.sgdma.proofs.sgdma_read_register.Tie as tie
+
+number-requires : tie.Need-number-requires
+number-requires c κs = search needs
+
+returns : tie.Need-returns
+returns c = register-short (c .before .if1 .taken) (c .number .ensures .value) refl
+
+number-requires-2 : tie.Need-number-requires-2
+number-requires-2 c κs = search needs
+
+returns-2 : tie.Need-returns-2
+returns-2 c = value-short (c .before .before .if1 .left) (c .before .if2 .taken) (c .number2 .ensures .value) refl
+
+load-requires : tie.Need-load-requires
+load-requires c κs = search needs
+
+enum-known-m : tie.Need-enum-known-m
+enum-known-m c = search needs
+
+enum-told : tie.Need-enum-told
+enum-told c = search needs
+
+number-requires-3 : tie.Need-number-requires-3
+number-requires-3 c κs = search needs
+
+returns-3 : tie.Need-returns-3
+returns-3 c = register-spoiled (c .before .before .before .before .before .if1 .left) (c .before .before .before .before .if2 .left) (sym (c .before .before .before .load .ensures .answer) ∙ c .before .enum-told .given .1) (c .number3 .ensures .value) refl
+
+read-register-requires : tie.Need-read-register-requires
+read-register-requires c κs = search needs
+
+enum-known-answer : tie.Need-enum-known-answer
+enum-known-answer c = search needs
+
+number-requires-4 : tie.Need-number-requires-4
+number-requires-4 c κs = search needs
+
+enum-known-answer-2 : tie.Need-enum-known-answer-2
+enum-known-answer-2 c = search needs
+
+put-u32-requires : tie.Need-put-u32-requires
+put-u32-requires c κs = search needs
+
+returns-4 : tie.Need-returns-4
+returns-4 c = register-answers (c .before .before .before .before .before .before .before .before .before .before .if1 .left) (c .before .before .before .before .before .before .before .before .before .if2 .left) (sym (c .before .before .before .before .before .before .before .before .load .ensures .answer) ∙ c .before .before .before .before .before .before .m .given .1) (c .before .before .before .before .read-register .ensures) (c .before .before .answer .given .1) (c .number4 .ensures .value) refl
+
+same-length : tie.Need-same-length
+same-length c = search needs
+
+returns-5 : tie.Need-returns-5
+returns-5 c = register-answers (c .before .before .before .before .before .before .before .before .before .before .before .before .before .if1 .left) (c .before .before .before .before .before .before .before .before .before .before .before .before .if2 .left) (sym (c .before .before .before .before .before .before .before .before .before .before .before .load .ensures .answer) ∙ c .before .before .before .before .before .before .before .before .before .m .given .1) (c .before .before .before .before .before .before .before .read-register .ensures) (c .before .before .before .before .before .answer2 .given .1) refl (c .before .before .put-u32 .ensures .lent ∙ value-put _ _ (c .before .before .before .before .before .before .before .before .before .before .before .before .if2 .left))
+
+pub sgdma-read-register-spec : {M : Type 1} → statement M
+sgdma-read-register-spec =
+    tie.close
+    (tie.spec
+    number-requires
+    returns
+    number-requires-2
+    returns-2
+    load-requires
+    enum-known-m
+    enum-told
+    number-requires-3
+    returns-3
+    read-register-requires
+    enum-known-answer
+    number-requires-4
+    enum-known-answer-2
+    put-u32-requires
+    returns-4
+    same-length
+    returns-5)

@@ -1,0 +1,135 @@
+-- The C calls: over a 44-byte image, with numbers in lent bytes most significant first. Each promise gives the number returned,
+-- in the paper's order of refusals, and every lent byte after the call; refused, nothing has changed.
+-- Assumes nothing.
+use Prim.Native.Nat.{ℕ}
+use mathlib.Core.Path.{_≡_, sym, _∙_}
+use mathlib.Core.Bool.{Bool, cond, _&&_}
+use mathlib.Core.List.{List, [], _∷_}
+use lib.Dec.{eqb, leb}
+use lib.ListN.{length}
+use Rattle.words.specs.declared.Order.the-variants.{MostFirst}
+use Rattle.words.specs.Orders.{bytesOf, rowBytes}
+use Rattle.bus.specs.declared.Refusal.{Refusal}
+use Rattle.bus.specs.declared.Refusal.the-variants.{BadMode, BadWindow, BadSize}
+use Rattle.bus.specs.Refusal.{refusalNumber}
+use Rattle.bus.specs.Window.{keepsLimits}
+use Rattle.descriptor.specs.declared.Descriptor.{Descriptor}
+use Rattle.descriptor.specs.declared.Job.{Job}
+use Rattle.descriptor.specs.declared.ReadDescriptor.{ReadDescriptor}
+use Rattle.descriptor.specs.declared.ReadDescriptor.the-variants as descriptor
+use Rattle.descriptor.specs.Calls.{slotOf, found, built, withJob, builtNumber, readNumber as descriptorNumber}
+use Rattle.image.specs.Layout.{image}
+use Rattle.image.specs.Promise.{sized}
+use Rattle.machine.specs.declared.Machine.{Machine}
+use Rattle.machine.specs.declared.LoadedMachine.{LoadedMachine}
+use Rattle.machine.specs.declared.LoadedMachine.the-variants as loaded
+use Rattle.machine.specs.declared.registers.ReadRegister.{ReadRegister}
+use Rattle.machine.specs.declared.registers.ReadRegister.the-variants as register
+use Rattle.machine.specs.declared.registers.WroteRegister.{WroteRegister}
+use Rattle.machine.specs.declared.registers.WroteRegister.the-variants as wrote
+use Rattle.machine.specs.declared.registers.Line.{Line}
+use Rattle.machine.specs.declared.registers.Line.the-variants as line
+use Rattle.machine.specs.State.{fresh}
+use Rattle.machine.specs.Saved.{fieldsOf, modeOf, loadOf}
+use Rattle.machine.specs.Registers.{readOf, writeOf, lineOf, readNumber, wroteNumber, lineNumber}
+
+-- the 44 bytes of a machine
+abbrev pub imageOf : Machine → List ℕ
+imageOf m = image (fieldsOf m)
+
+-- a lent slice of so many bytes
+abbrev pub isSize : ℕ → List ℕ → Bool
+isSize n xs = eqb (length xs) n
+
+-- ---- sgdma_create: 7, 2, 3
+
+abbrev pub createNumber : (xs : List ℕ) (mode base length : ℕ) → ℕ
+createNumber xs mode base length =
+    cond (sized xs) (cond (leb mode 2) (cond (keepsLimits base length) 0 (refusalNumber BadWindow)) (refusalNumber BadMode)) (refusalNumber BadSize)
+
+-- what stands in a lent slice after a call with this number
+abbrev pub ifDone : (number : ℕ) (done kept : List ℕ) → List ℕ
+ifDone number done kept = cond (eqb number 0) done kept
+
+pub record Created (xs : List ℕ) (mode base length : ℕ) (r : ℕ) (xs' : List ℕ) : Type 0 where
+  pub number : r ≡ createNumber xs mode base length
+  pub image-after : xs'
+      ≡ ifDone (createNumber xs mode base length) (imageOf (fresh (modeOf mode) (record { base = base; length = length }))) xs
+
+pub created-unique : {xs ys zs : List ℕ} {mode base length r s : ℕ}
+    → Created xs mode base length r ys → Created xs mode base length s zs → (r ≡ s) × (ys ≡ zs)
+created-unique p q = (p .number ∙ sym (q .number), p .image-after ∙ sym (q .image-after))
+
+-- ---- sgdma_read_register: 7, 8, 1
+
+abbrev pub registerOf : LoadedMachine → (offset : ℕ) → ReadRegister
+registerOf (loaded.Good m) offset = readOf m offset
+registerOf (loaded.Refused why) offset = register.Refused why
+
+-- both sizes are looked at before the image
+unfoldable pub readCall : (xs : List ℕ) (offset : ℕ) (value : List ℕ) → ReadRegister
+readCall xs offset value = cond (sized xs && isSize 4 value) (registerOf (loadOf xs) offset) (register.Refused BadSize)
+
+abbrev pub valueOver : ReadRegister → List ℕ → List ℕ
+valueOver (register.Value v) value = bytesOf MostFirst 4 v
+valueOver (register.Refused why) value = value
+
+pub record RegisterRead (xs : List ℕ) (offset : ℕ) (value : List ℕ) (r : ℕ) (value' : List ℕ) : Type 0 where
+  pub number : r ≡ readNumber (readCall xs offset value)
+  pub value-after : value' ≡ valueOver (readCall xs offset value) value
+
+pub register-read-unique : {xs value ys zs : List ℕ} {offset r s : ℕ}
+    → RegisterRead xs offset value r ys → RegisterRead xs offset value s zs → (r ≡ s) × (ys ≡ zs)
+register-read-unique p q = (p .number ∙ sym (q .number), p .value-after ∙ sym (q .value-after))
+
+-- ---- sgdma_line: 7, 8; the value is 1 where the line is up, else 0
+
+abbrev pub lineIn : LoadedMachine → Line
+lineIn (loaded.Good m) = lineOf m
+lineIn (loaded.Refused why) = line.Refused why
+
+unfoldable pub lineCall : (xs value : List ℕ) → Line
+lineCall xs value = cond (sized xs && isSize 4 value) (lineIn (loadOf xs)) (line.Refused BadSize)
+
+abbrev pub lineOver : Line → List ℕ → List ℕ
+lineOver line.Up value = bytesOf MostFirst 4 1
+lineOver line.Down value = bytesOf MostFirst 4 0
+lineOver (line.Refused why) value = value
+
+pub record LineRead (xs value : List ℕ) (r : ℕ) (value' : List ℕ) : Type 0 where
+  pub number : r ≡ lineNumber (lineCall xs value)
+  pub value-after : value' ≡ lineOver (lineCall xs value) value
+
+pub line-read-unique : {xs value ys zs : List ℕ} {r s : ℕ} → LineRead xs value r ys → LineRead xs value s zs → (r ≡ s) × (ys ≡ zs)
+line-read-unique p q = (p .number ∙ sym (q .number), p .value-after ∙ sym (q .value-after))
+
+-- ---- sgdma_build_descriptor: 3, 5, 6
+
+pub record DescriptorBuilt (window : List ℕ) (base a : ℕ) (j : Job) (r : ℕ) (window' : List ℕ) : Type 0 where
+  pub number : r ≡ builtNumber (built (slotOf (length window) base a))
+  pub window-after : window' ≡ withJob window j (slotOf (length window) base a)
+
+pub descriptor-built-unique : {window ys zs : List ℕ} {base a : ℕ} {j : Job} {r s : ℕ}
+    → DescriptorBuilt window base a j r ys → DescriptorBuilt window base a j s zs → (r ≡ s) × (ys ≡ zs)
+descriptor-built-unique p q = (p .number ∙ sym (q .number), p .window-after ∙ sym (q .window-after))
+
+-- ---- sgdma_read_descriptor: 7, 3, 5, 6
+
+unfoldable pub descriptorCall : (window : List ℕ) (base a : ℕ) (answer : List ℕ) → ReadDescriptor
+descriptorCall window base a answer =
+    cond (isSize 18 answer) (found window (slotOf (length window) base a)) (descriptor.Refused BadSize)
+
+-- source 32, destination 32, next 32, length 16, actual 16, status 8, control 8
+abbrev pub answerOver : ReadDescriptor → List ℕ → List ℕ
+answerOver (descriptor.Good d) answer =
+    rowBytes MostFirst (4 ∷ 4 ∷ 4 ∷ 2 ∷ 2 ∷ 1 ∷ 1 ∷ [])
+    (d .source ∷ d .destination ∷ d .next ∷ d .length ∷ d .actual ∷ d .status ∷ d .control .0 ∷ [])
+answerOver (descriptor.Refused why) answer = answer
+
+pub record DescriptorRead (window : List ℕ) (base a : ℕ) (answer : List ℕ) (r : ℕ) (answer' : List ℕ) : Type 0 where
+  pub number : r ≡ descriptorNumber (descriptorCall window base a answer)
+  pub answer-after : answer' ≡ answerOver (descriptorCall window base a answer) answer
+
+pub descriptor-read-unique : {window answer ys zs : List ℕ} {base a r s : ℕ}
+    → DescriptorRead window base a answer r ys → DescriptorRead window base a answer s zs → (r ≡ s) × (ys ≡ zs)
+descriptor-read-unique p q = (p .number ∙ sym (q .number), p .answer-after ∙ sym (q .answer-after))

@@ -1,0 +1,145 @@
+// The calls of the C host. A slice passes as pointer and length; each call returns 0, or the number of its refusal, and then has
+// changed nothing.
+ghost use mathlib.Core.List.{[]};
+ghost use mathlib.Core.Path.{_≡_};
+ghost use lib.ListN.{length};
+ghost use Rattle.words.specs.Promise.{Leaves};
+ghost use Rattle.descriptor.specs.declared.ReadDescriptor.the-variants.{Good};
+ghost use Rattle.sgdma.specs.Calls.{RegisterRead, LineRead, DescriptorBuilt, DescriptorRead, answerOver};
+use bus::BusAddress;
+use bus::Refusal;
+use descriptor::BuiltDescriptor;
+use descriptor::DescControl;
+use descriptor::Descriptor;
+use descriptor::Job;
+use descriptor::ReadDescriptor;
+use machine::LoadedMachine;
+use machine::Machine;
+use machine::registers::Line;
+use machine::registers::ReadRegister;
+use words::Order;
+use words::put_u16;
+use words::put_u32;
+use words::put_words;
+
+// The sizes of what is lent.
+const IMAGE: usize = 44;
+
+const VALUE: usize = 4;
+
+const DESCRIPTOR: usize = 18;
+
+// Reads the register at `offset` into the four bytes of `value`.
+#[no_mangle]
+pub extern "C" fn sgdma_read_register(image: &[u8], offset: u32, value: &mut [u8]) -> u32
+    ensures { λ r. ⌜ RegisterRead (now (image .entry)) offset (now (value .entry)) r (now (value .exit)) ⌝ }
+{
+    if image.len() != IMAGE {
+        return Refusal::BadSize.number();
+    }
+    if value.len() != VALUE {
+        return Refusal::BadSize.number();
+    }
+    let LoadedMachine::Good(m) = Machine::load(image) else {
+        return Refusal::BadImage.number();
+    };
+    let answer = m.read_register(offset);
+    match answer {
+        ReadRegister::Refused(why) => why.number(),
+        ReadRegister::Value(v) => {
+            put_u32(Order::MostFirst, value, 0, v);
+            0
+        }
+    }
+}
+
+// Writes 1 into the four bytes of `value` where the interrupt line is up, else 0.
+#[no_mangle]
+pub extern "C" fn sgdma_line(image: &[u8], value: &mut [u8]) -> u32
+    ensures { λ r. ⌜ LineRead (now (image .entry)) (now (value .entry)) r (now (value .exit)) ⌝ }
+{
+    if image.len() != IMAGE {
+        return Refusal::BadSize.number();
+    }
+    if value.len() != VALUE {
+        return Refusal::BadSize.number();
+    }
+    let LoadedMachine::Good(m) = Machine::load(image) else {
+        return Refusal::BadImage.number();
+    };
+    let line = m.line();
+    match line {
+        Line::Refused(why) => why.number(),
+        Line::Up => {
+            put_u32(Order::MostFirst, value, 0, 1);
+            0
+        }
+        Line::Down => {
+            put_u32(Order::MostFirst, value, 0, 0);
+            0
+        }
+    }
+}
+
+// Builds a descriptor in the lent window that stands at `base`.
+#[no_mangle]
+pub extern "C" fn sgdma_build_descriptor(
+    window: &mut [u8],
+    base: u64,
+    address: u32,
+    source: u32,
+    destination: u32,
+    next: u32,
+    length: u16,
+    control: u8,
+) -> u32
+    ensures { λ r. ⌜ DescriptorBuilt (now (window .entry)) base address (record { source = source; destination = destination; next = next; length = length; control = record { 0 = control } }) r (now (window .exit)) ⌝ }
+{
+    let job = Job {
+        source,
+        destination,
+        next,
+        length,
+        control: DescControl(control),
+    };
+    let built = descriptor::build(window, base, BusAddress(address as u64), job);
+    match built {
+        BuiltDescriptor::Done => 0,
+        BuiltDescriptor::Refused(why) => why.number(),
+    }
+}
+
+// The 18 bytes of a descriptor answer.
+fn put_descriptor(answer: &mut [u8], d: Descriptor)
+    requires { ⌜ length (now answer) ≡ 18 ⌝ }
+    ensures { λ _. ⌜ Leaves (answerOver (Good d) []) (now (answer .exit)) ⌝ }
+{
+    let counts = d.length as u32 * 0x1_0000 + d.actual as u32;
+    let words = [d.source, d.destination, d.next, counts];
+    let last = d.status as u16 * 256 + d.control.0 as u16;
+    put_words(Order::MostFirst, answer, 0, &words);
+    put_u16(Order::MostFirst, answer, 16, last);
+}
+
+// Reads a descriptor of the lent window that stands at `base` into the 18 bytes of `answer`.
+#[no_mangle]
+pub extern "C" fn sgdma_read_descriptor(
+    window: &[u8],
+    base: u64,
+    address: u32,
+    answer: &mut [u8],
+) -> u32
+    ensures { λ r. ⌜ DescriptorRead (now (window .entry)) base address (now (answer .entry)) r (now (answer .exit)) ⌝ }
+{
+    if answer.len() != DESCRIPTOR {
+        return Refusal::BadSize.number();
+    }
+    let found = descriptor::read(window, base, BusAddress(address as u64));
+    match found {
+        ReadDescriptor::Refused(why) => why.number(),
+        ReadDescriptor::Good(d) => {
+            put_descriptor(answer, d);
+            0
+        }
+    }
+}
