@@ -1,0 +1,145 @@
+//! Which refusals apply to a call, found without the model's calls: each by the
+//! words of the table of refusals.
+
+use super::Point;
+use crate::call::{Call, Function, Lent};
+use crate::model::{
+    Image, Images, Paper, Refusal, Window, Windows, DESCRIPTOR_ANSWER_SIZE, DESCRIPTOR_SIZE,
+    IMAGE_SIZE, REPORT_SIZE, VALUE_SIZE,
+};
+
+/// The refusals that each call can give, first that applies, and those pairs of
+/// them that can apply together.
+type CallRefusals = (Function, &'static [Refusal], &'static [(Refusal, Refusal)]);
+use Refusal::*;
+#[rustfmt::skip]
+const REFUSALS: [CallRefusals; 7] = [
+    (Function::Create, &[BadSize, BadMode, BadWindow],
+     &[(BadSize, BadMode), (BadSize, BadWindow), (BadMode, BadWindow)]),
+    (Function::ReadRegister, &[BadSize, BadImage, NoRegister],
+     &[(BadSize, BadImage), (BadSize, NoRegister), (BadImage, NoRegister)]),
+    (Function::WriteRegister, &[BadSize, BadImage, NoRegister],
+     &[(BadSize, NoRegister), (BadImage, NoRegister)]),
+    (Function::Line, &[BadSize, BadImage],
+     &[(BadSize, BadImage)]),
+    (Function::Run, &[BadSize, BadImage, OddStream, OtherWindow],
+     &[(BadSize, BadImage), (BadSize, OddStream), (BadSize, OtherWindow), (BadImage, OddStream),
+       (OddStream, OtherWindow)]),
+    (Function::BuildDescriptor, &[BadWindow, Misaligned, Outside],
+     &[(BadWindow, Misaligned), (BadWindow, Outside), (Misaligned, Outside)]),
+    (Function::ReadDescriptor, &[BadSize, BadWindow, Misaligned, Outside],
+     &[(BadSize, BadWindow), (BadSize, Misaligned), (BadSize, Outside), (BadWindow, Misaligned),
+       (BadWindow, Outside), (Misaligned, Outside)]),
+];
+
+pub(super) fn required() -> Vec<Point> {
+    let mut points = Vec::new();
+    for (function, refusals, pairs) in REFUSALS {
+        points.push(Point::Returned(function, 0));
+        let numbers = refusals.iter().map(|&refusal| refusal as u32);
+        points.extend(numbers.map(|number| Point::Returned(function, number)));
+        let pairs = pairs.iter();
+        points.extend(pairs.map(|&(first, second)| Point::Outranked(function, first, second)));
+    }
+    points
+}
+
+/// Every refusal that applies to the call, in the paper's order.
+pub fn applying(call: &Call) -> Vec<Refusal> {
+    let mut applying = Refusal::ORDER.to_vec();
+    applying.retain(|&refusal| match refusal {
+        BadSize => has_bad_size(call),
+        BadImage => has_bad_image(call),
+        OddStream => has_odd_stream(call),
+        BadMode => matches!(call, Call::Create { mode, .. } if *mode > 2),
+        BadWindow => given_window(call).is_some_and(|window| !Paper.is_window(window)),
+        OtherWindow => has_other_window(call),
+        NoRegister => given_offset(call).is_some_and(|offset| ![0, 4, 8].contains(&offset)),
+        Misaligned => given_address(call).is_some_and(|address| address % 4 != 0),
+        Outside => is_outside(call),
+    });
+    applying
+}
+
+/// The number that the call must return.
+pub fn first_applying(call: &Call) -> u32 {
+    applying(call).first().map_or(0, |&refusal| refusal as u32)
+}
+
+fn has_bad_size(call: &Call) -> bool {
+    let image_is_bad = call.image().is_some_and(|image| image.len() != IMAGE_SIZE);
+    image_is_bad
+        || match call {
+            Call::ReadRegister { value, .. } | Call::Line { value, .. } => {
+                value.len() != VALUE_SIZE
+            }
+            Call::Run { report, .. } => report.len() != REPORT_SIZE,
+            Call::ReadDescriptor { answer, .. } => answer.len() != DESCRIPTOR_ANSWER_SIZE,
+            _ => false,
+        }
+}
+
+/// The image that the call reads: create only writes one.
+pub(super) fn image_read(call: &Call) -> Option<Image> {
+    let bytes: &Lent = match call {
+        Call::Create { .. } => return None,
+        _ => call.image()?,
+    };
+    let bytes: &[u8; IMAGE_SIZE] = (&**bytes).try_into().ok()?;
+    Some(Image::unpack(bytes))
+}
+
+fn has_bad_image(call: &Call) -> bool {
+    image_read(call).is_some_and(|image| !Paper.broken_rules(&image).is_empty())
+}
+
+fn has_odd_stream(call: &Call) -> bool {
+    matches!(call, Call::Run { beats, out, .. } if beats.len() % 2 == 1 || out.len() % 2 == 1)
+}
+
+/// A broken image has no machine whose window could be another.
+fn has_other_window(call: &Call) -> bool {
+    let (Call::Run { window, .. }, Some(image)) = (call, image_read(call)) else {
+        return false;
+    };
+    !has_bad_image(call) && window.len() as u64 != u64::from(image.window_length)
+}
+
+/// The window whose limits the call looks at.
+fn given_window(call: &Call) -> Option<Window> {
+    match call {
+        &Call::Create { base, length, .. } => Some(Window { base, length }),
+        Call::BuildDescriptor { window, base, .. } | Call::ReadDescriptor { window, base, .. } => {
+            Some(Window {
+                base: *base,
+                length: window.len() as u64,
+            })
+        }
+        _ => None,
+    }
+}
+
+fn given_offset(call: &Call) -> Option<u32> {
+    match call {
+        Call::ReadRegister { offset, .. } | Call::WriteRegister { offset, .. } => Some(*offset),
+        _ => None,
+    }
+}
+
+fn given_address(call: &Call) -> Option<u32> {
+    match call {
+        Call::BuildDescriptor { address, .. } | Call::ReadDescriptor { address, .. } => {
+            Some(*address)
+        }
+        _ => None,
+    }
+}
+
+fn is_outside(call: &Call) -> bool {
+    let (Some(window), Some(address)) = (given_window(call), given_address(call)) else {
+        return false;
+    };
+    let first = u128::from(address);
+    let base = u128::from(window.base);
+    first < base || first + DESCRIPTOR_SIZE as u128 > base + u128::from(window.length)
+}

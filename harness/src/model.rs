@@ -1,0 +1,35 @@
+//! The core as the scope paper describes it, written from the paper alone.
+//!
+//! One step moves one byte and steps are taken one by one. Each sentence of the
+//! paper is one small rule, and the rules are provided methods of a few traits,
+//! one for each section. [`Paper`] takes them all as they stand. A type that
+//! replaces one rule is the same model with one deliberate error; the tests use
+//! such types to see that an error is noticed. The choice is made when the
+//! program is built, so [`Paper`] pays nothing for it.
+
+mod calls;
+mod descriptors;
+mod images;
+mod machine;
+mod registers;
+mod steps;
+mod windows;
+
+pub use calls::{Calls, Refusal, DESCRIPTOR_ANSWER_SIZE, REPORT_SIZE, VALUE_SIZE};
+pub use descriptors::{descriptor_control, Descriptor, Descriptors, DESCRIPTOR_SIZE};
+pub use images::{Image, ImageRule, Images, IMAGE_SIZE};
+pub use machine::{Fault, Kept, Machine, Mode, Phase};
+pub use registers::{control, offset, status, Registers};
+pub use steps::{InputBeat, Ports, Reason, Report, Steps};
+pub use windows::{Window, Windows};
+
+/// The model that keeps every rule of the paper.
+#[derive(Clone, Copy, Debug)]
+pub struct Paper;
+
+impl Windows for Paper {}
+impl Registers for Paper {}
+impl Descriptors for Paper {}
+impl Steps for Paper {}
+impl Images for Paper {}
+impl Calls for Paper {}

@@ -1,0 +1,406 @@
+//! The saved image: the layout, the rules, loading and saving.
+
+use super::{
+    control, descriptor_control, status, Descriptors, Kept, Machine, Mode, Phase, Refusal, Window,
+    DESCRIPTOR_SIZE,
+};
+
+/// "44 bytes, bits most significant first"
+pub const IMAGE_SIZE: usize = 44;
+
+const EDITION: u8 = 1;
+
+/// The numbers of an image in the paper's order, whether they keep the rules or
+/// not.
+#[derive(Clone, Copy, Debug, PartialEq, Eq)]
+pub struct Image {
+    pub edition: u8,
+    pub mode: u8,
+    pub phase: u8,
+    pub armed: bool,
+    pub pending: bool,
+    pub fault: u8,
+    pub status: u8,
+    pub count: u8,
+    pub control: u32,
+    pub pointer: u32,
+    pub base: u32,
+    pub window_length: u32,
+    pub kept: Kept,
+    pub zero: u16,
+    pub fault_address: u32,
+}
+
+impl Image {
+    /// "edition 4 (=1), mode 2, phase 3 .., armed 1, pending 1, fault 5, status 8,
+    /// count 8, control 32, pointer 32, base 32, window length 32; then descriptor
+    /// address 32, source 32, destination 32, length 16, control 8, errors 8,
+    /// moved 16, EOP seen 1, zero 15; fault address 32."
+    #[inline]
+    pub fn unpack(bytes: &[u8; IMAGE_SIZE]) -> Image {
+        let short = |place| u16::from_be_bytes([bytes[place], bytes[place + 1]]);
+        let long = |place| (u32::from(short(place)) << 16) | u32::from(short(place + 2));
+        let (head, tail) = (short(0), short(38));
+        let bits = |from: u32, width: u32| ((head >> from) & ((1 << width) - 1)) as u8;
+        Image {
+            edition: bits(12, 4),
+            mode: bits(10, 2),
+            phase: bits(7, 3),
+            armed: bits(6, 1) == 1,
+            pending: bits(5, 1) == 1,
+            fault: bits(0, 5),
+            status: bytes[2],
+            count: bytes[3],
+            control: long(4),
+            pointer: long(8),
+            base: long(12),
+            window_length: long(16),
+            kept: Kept {
+                address: long(20),
+                source: long(24),
+                destination: long(28),
+                length: short(32),
+                control: bytes[34],
+                errors: bytes[35],
+                moved: short(36),
+                eop_seen: tail >> 15 == 1,
+            },
+            zero: tail & 0x7FFF,
+            fault_address: long(40),
+        }
+    }
+
+    /// The same layout, written.
+    #[inline]
+    pub fn pack(&self) -> [u8; IMAGE_SIZE] {
+        let mut bytes = [0; IMAGE_SIZE];
+        let mut put = |place: usize, number: &[u8]| {
+            bytes[place..place + number.len()].copy_from_slice(number);
+        };
+        let head = u16::from(self.edition) << 12
+            | u16::from(self.mode) << 10
+            | u16::from(self.phase) << 7
+            | u16::from(self.armed) << 6
+            | u16::from(self.pending) << 5
+            | u16::from(self.fault);
+        put(0, &head.to_be_bytes());
+        put(2, &[self.status, self.count]);
+        put(4, &self.control.to_be_bytes());
+        put(8, &self.pointer.to_be_bytes());
+        put(12, &self.base.to_be_bytes());
+        put(16, &self.window_length.to_be_bytes());
+        put(20, &self.kept.address.to_be_bytes());
+        put(24, &self.kept.source.to_be_bytes());
+        put(28, &self.kept.destination.to_be_bytes());
+        put(32, &self.kept.length.to_be_bytes());
+        put(34, &[self.kept.control, self.kept.errors]);
+        put(36, &self.kept.moved.to_be_bytes());
+        let tail = u16::from(self.kept.eop_seen) << 15 | self.zero;
+        put(38, &tail.to_be_bytes());
+        put(40, &self.fault_address.to_be_bytes());
+        bytes
+    }
+
+    #[inline]
+    pub fn of_machine(machine: &Machine) -> Image {
+        Image {
+            edition: EDITION,
+            mode: machine.mode as u8,
+            phase: machine.phase as u8,
+            armed: machine.controls(control::SW_RESET),
+            pending: machine.pending,
+            fault: machine.fault_code,
+            status: machine.status,
+            count: machine.count,
+            control: machine.control,
+            pointer: machine.pointer,
+            base: machine.window.base as u32,
+            window_length: machine.window.length as u32,
+            kept: machine.kept,
+            zero: 0,
+            fault_address: machine.fault_address,
+        }
+    }
+
+    /// The machine of an image that keeps the rules.
+    #[inline]
+    fn machine(&self) -> Machine {
+        Machine {
+            mode: Mode::of_number(self.mode),
+            window: self.window(),
+            phase: Phase::of_number(self.phase),
+            status: self.status,
+            control: self.control,
+            pointer: self.pointer,
+            count: self.count,
+            pending: self.pending,
+            kept: self.kept,
+            fault_code: self.fault,
+            fault_address: self.fault_address,
+        }
+    }
+
+    #[inline]
+    fn window(&self) -> Window {
+        Window {
+            base: u64::from(self.base),
+            length: u64::from(self.window_length),
+        }
+    }
+
+    #[inline]
+    fn is_in(&self, phases: &[Phase]) -> bool {
+        phases.iter().any(|&phase| self.phase == phase as u8)
+    }
+
+    /// Modes 0 and 1, where neither beats nor their errors come in.
+    #[inline]
+    fn is_from_memory(&self) -> bool {
+        self.mode < Mode::StreamToMemory as u8
+    }
+}
+
+/// The sentences of the image rules, one by one.
+#[derive(Clone, Copy, Debug, PartialEq, Eq, PartialOrd, Ord)]
+pub enum ImageRule {
+    EditionOne,
+    ModeAtMostTwo,
+    PhaseAtMostSix,
+    WindowLength,
+    WindowEnd,
+    StatusBitsZero,
+    ControlBitsZero,
+    ArmedIsControlBit16,
+    BusyInPhasesOneToFour,
+    RunInEndedAndHalted,
+    HaltedOnlyInModeTwo,
+    StreamStatusOnlyInModeTwo,
+    CountAtMost254,
+    KeptOnlyInMoveAndWriteBack,
+    AddressAligned,
+    AddressInWindow,
+    ControlOwned,
+    LengthNotZeroFromMemory,
+    NoErrorsFromMemory,
+    NoEopFromMemory,
+    ErrorsBit7Zero,
+    MoveMovedBelowL,
+    MoveNoEop,
+    MoveNoErrorsBeforeFirstByte,
+    WriteBackMovedOneToL,
+    WriteBackFinished,
+    FaultCode,
+    FaultCodeOfMode,
+    NoFaultElsewhere,
+    ZeroBitsZero,
+}
+
+impl ImageRule {
+    pub const ALL: [ImageRule; 30] = [
+        ImageRule::EditionOne,
+        ImageRule::ModeAtMostTwo,
+        ImageRule::PhaseAtMostSix,
+        ImageRule::WindowLength,
+        ImageRule::WindowEnd,
+        ImageRule::StatusBitsZero,
+        ImageRule::ControlBitsZero,
+        ImageRule::ArmedIsControlBit16,
+        ImageRule::BusyInPhasesOneToFour,
+        ImageRule::RunInEndedAndHalted,
+        ImageRule::HaltedOnlyInModeTwo,
+        ImageRule::StreamStatusOnlyInModeTwo,
+        ImageRule::CountAtMost254,
+        ImageRule::KeptOnlyInMoveAndWriteBack,
+        ImageRule::AddressAligned,
+        ImageRule::AddressInWindow,
+        ImageRule::ControlOwned,
+        ImageRule::LengthNotZeroFromMemory,
+        ImageRule::NoErrorsFromMemory,
+        ImageRule::NoEopFromMemory,
+        ImageRule::ErrorsBit7Zero,
+        ImageRule::MoveMovedBelowL,
+        ImageRule::MoveNoEop,
+        ImageRule::MoveNoErrorsBeforeFirstByte,
+        ImageRule::WriteBackMovedOneToL,
+        ImageRule::WriteBackFinished,
+        ImageRule::FaultCode,
+        ImageRule::FaultCodeOfMode,
+        ImageRule::NoFaultElsewhere,
+        ImageRule::ZeroBitsZero,
+    ];
+}
+
+impl ImageRule {
+    /// Whether an image can break this rule and no other. A length of 0 in mode 0
+    /// or 1 makes L 0, and then no number of bytes moved keeps the rules of Move
+    /// or of WriteBack.
+    pub fn can_break_alone(self) -> bool {
+        self != ImageRule::LengthNotZeroFromMemory
+    }
+}
+
+/// Each rule with whether the image keeps it.
+type Verdicts<const RULES: usize> = [(ImageRule, bool); RULES];
+
+pub trait Images: Descriptors {
+    /// "An image loads exactly when it keeps these rules"
+    #[inline]
+    fn load(self, bytes: &[u8; IMAGE_SIZE]) -> Result<Machine, Refusal> {
+        let image = Image::unpack(bytes);
+        let accepted = |&(rule, kept): &(ImageRule, bool)| kept || self.overlooks(rule);
+        let keeps_rules = self.machine_rules(&image).iter().all(accepted)
+            && self.kept_rules(&image).iter().all(accepted)
+            && self.progress_rules(&image).iter().all(accepted)
+            && self.fault_rules(&image).iter().all(accepted);
+        if keeps_rules {
+            Ok(image.machine())
+        } else {
+            Err(Refusal::BadImage)
+        }
+    }
+
+    /// ".. and saved again gives the same bytes."
+    #[inline]
+    fn save(self, machine: &Machine) -> [u8; IMAGE_SIZE] {
+        Image::of_machine(machine).pack()
+    }
+
+    /// The paper overlooks none of its rules; a deliberate error may.
+    fn overlooks(self, _rule: ImageRule) -> bool {
+        false
+    }
+
+    /// The rules that the image breaks.
+    fn broken_rules(self, image: &Image) -> Vec<ImageRule> {
+        self.machine_rules(image)
+            .into_iter()
+            .chain(self.kept_rules(image))
+            .chain(self.progress_rules(image))
+            .chain(self.fault_rules(image))
+            .filter_map(|(rule, kept)| (!kept).then_some(rule))
+            .collect()
+    }
+
+    /// "edition 1; mode at most 2, phase at most 6; window as above; status bits
+    /// 5..7, control bits 18..31 zero; control bit 16 equals armed; BUSY 1 exactly
+    /// in phases 1 to 4; RUN 1 in Ended and Halted; Halted only in mode 2; ERROR
+    /// and EOP_ENCOUNTERED 0 outside mode 2; count at most 254."
+    #[inline]
+    fn machine_rules(self, image: &Image) -> Verdicts<13> {
+        use ImageRule::*;
+        let Window { base, length } = image.window();
+        let busy = image.status & status::BUSY != 0;
+        let runs = image.control & control::RUN != 0;
+        let is_stream_to_memory = image.mode == Mode::StreamToMemory as u8;
+        let stream_status = image.status & (status::ERROR | status::EOP_ENCOUNTERED);
+        [
+            (EditionOne, image.edition == EDITION),
+            (ModeAtMostTwo, image.mode <= 2),
+            (PhaseAtMostSix, image.phase <= 6),
+            (WindowLength, length <= 65_536),
+            (WindowEnd, base + length <= 4_294_967_296),
+            (StatusBitsZero, image.status & 0xE0 == 0),
+            (ControlBitsZero, image.control & !control::STORED == 0),
+            (
+                ArmedIsControlBit16,
+                image.armed == (image.control & control::SW_RESET != 0),
+            ),
+            (
+                BusyInPhasesOneToFour,
+                busy == (1..=4).contains(&image.phase),
+            ),
+            (
+                RunInEndedAndHalted,
+                runs || !image.is_in(&[Phase::Ended, Phase::Halted]),
+            ),
+            (
+                HaltedOnlyInModeTwo,
+                is_stream_to_memory || !image.is_in(&[Phase::Halted]),
+            ),
+            (
+                StreamStatusOnlyInModeTwo,
+                is_stream_to_memory || stream_status == 0,
+            ),
+            (CountAtMost254, image.count <= 254),
+        ]
+    }
+
+    /// "Descriptor fields zero outside Move and WriteBack; there: address aligned
+    /// and in the window, control bit 7 set, in modes 0 and 1 length not 0, errors
+    /// and EOP seen 0; errors bit 7 zero." "Zero bits are zero."
+    #[inline]
+    fn kept_rules(self, image: &Image) -> Verdicts<9> {
+        use ImageRule::*;
+        let Image { kept, .. } = *image;
+        let keeps = image.is_in(&[Phase::Move, Phase::WriteBack]);
+        let from_memory = keeps && image.is_from_memory();
+        let place = self.place(
+            image.window(),
+            u64::from(kept.address),
+            DESCRIPTOR_SIZE as u64,
+        );
+        let owned = kept.control & descriptor_control::OWNED_BY_HW != 0;
+        [
+            (KeptOnlyInMoveAndWriteBack, keeps || kept == Kept::default()),
+            (
+                AddressAligned,
+                !keeps || self.is_aligned(image.window(), kept.address),
+            ),
+            (AddressInWindow, !keeps || place.is_some()),
+            (ControlOwned, !keeps || owned),
+            (LengthNotZeroFromMemory, !from_memory || kept.length != 0),
+            (NoErrorsFromMemory, !from_memory || kept.errors == 0),
+            (NoEopFromMemory, !from_memory || !kept.eop_seen),
+            (ErrorsBit7Zero, !keeps || kept.errors & 0x80 == 0),
+            (ZeroBitsZero, image.zero == 0),
+        ]
+    }
+
+    /// "Move: moved < L, EOP seen 0, errors 0 if moved is 0. WriteBack: 1 <= moved
+    /// <= L, and moved = L or EOP seen."
+    #[inline]
+    fn progress_rules(self, image: &Image) -> Verdicts<5> {
+        use ImageRule::*;
+        let Image { kept, .. } = *image;
+        let wanted = self.bytes_wanted(Mode::of_number(image.mode), kept.length);
+        let moving = image.is_in(&[Phase::Move]);
+        let writing_back = image.is_in(&[Phase::WriteBack]);
+        [
+            (MoveMovedBelowL, !moving || kept.moved < wanted),
+            (MoveNoEop, !moving || !kept.eop_seen),
+            (
+                MoveNoErrorsBeforeFirstByte,
+                !moving || kept.moved != 0 || kept.errors == 0,
+            ),
+            (
+                WriteBackMovedOneToL,
+                !writing_back || (1..=wanted).contains(&kept.moved),
+            ),
+            (
+                WriteBackFinished,
+                !writing_back || kept.moved == wanted || kept.eop_seen,
+            ),
+        ]
+    }
+
+    /// "Faulted: code 10 to 14, 12 and 13 only in modes 0 and 1, 14 only in 0 and
+    /// 2; else code and address 0."
+    #[inline]
+    fn fault_rules(self, image: &Image) -> Verdicts<3> {
+        use ImageRule::*;
+        let faulted = image.is_in(&[Phase::Faulted]);
+        let met_in_mode = match image.fault {
+            12 | 13 => image.is_from_memory(),
+            14 => image.mode != Mode::MemoryToStream as u8,
+            _ => true,
+        };
+        [
+            (FaultCode, !faulted || (10..=14).contains(&image.fault)),
+            (FaultCodeOfMode, !faulted || met_in_mode),
+            (
+                NoFaultElsewhere,
+                faulted || (image.fault == 0 && image.fault_address == 0),
+            ),
+        ]
+    }
+}

@@ -1,0 +1,223 @@
+//! From a case on which two parties differ to a small one.
+//!
+//! Greedy: an edit that makes the case simpler stays where the parties still
+//! differ, until no edit does.
+
+use crate::call::{Argument, Call, Lent};
+use std::ops::Range;
+
+/// Bounds the work on a case with a large window.
+const MOST_TRIALS: usize = 10_000;
+
+/// Where the window's length stands in an image.
+const WINDOW_LENGTH: Range<usize> = 16..20;
+
+/// One way to make a call simpler. An argument is named by its place.
+enum Edit {
+    /// So many bytes fewer at the end of the window, also by the word of the image.
+    ShortenWindow { by: usize },
+    /// Some bytes fewer in a stream.
+    Cut { place: usize, bytes: Range<usize> },
+    /// Zero in the place of some bytes.
+    Clear { place: usize, bytes: Range<usize> },
+    /// A smaller number.
+    Lower { place: usize, by: u64 },
+}
+
+/// The smallest case found on which the last call still differs.
+pub fn shrink(calls: Vec<Call>, differs: &dyn Fn(&[Call]) -> bool) -> Vec<Call> {
+    let mut calls = fewer_calls(calls, differs);
+    let mut trials = 0;
+    while simplify(&mut calls, differs, &mut trials) && trials < MOST_TRIALS {}
+    calls
+}
+
+/// A call is a whole case by itself, so the last one will do, unless a party
+/// remembers what it was asked before.
+fn fewer_calls(mut calls: Vec<Call>, differs: &dyn Fn(&[Call]) -> bool) -> Vec<Call> {
+    let last = &calls[calls.len() - 1..];
+    if differs(last) {
+        return last.to_vec();
+    }
+    let mut place = 0;
+    while place + 1 < calls.len() {
+        let mut fewer = calls.clone();
+        fewer.remove(place);
+        if differs(&fewer) {
+            calls = fewer;
+        } else {
+            place += 1;
+        }
+    }
+    calls
+}
+
+/// Tries every edit once and tells whether one of them stays.
+fn simplify(calls: &mut [Call], differs: &dyn Fn(&[Call]) -> bool, trials: &mut usize) -> bool {
+    let mut simplified = false;
+    for place in 0..calls.len() {
+        for edit in edits(&mut calls[place]) {
+            if !edit.simplifies(&mut calls[place]) {
+                continue;
+            }
+            let before = calls[place].clone();
+            edit.apply(&mut calls[place]);
+            if differs(calls) {
+                simplified = true;
+            } else {
+                calls[place] = before;
+            }
+            *trials += 1;
+            if *trials == MOST_TRIALS {
+                return simplified;
+            }
+        }
+    }
+    simplified
+}
+
+/// The edits of a call, the boldest first.
+fn edits(call: &mut Call) -> Vec<Edit> {
+    let window = call.window().map_or(0, |window| window.len());
+    let shorter = halves(window as u64).map(|by| Edit::ShortenWindow { by: by as usize });
+    let mut edits: Vec<Edit> = shorter.collect();
+    for (place, argument) in call.arguments().iter().enumerate() {
+        if let Argument::Lent("beats" | "out", stream) = argument {
+            let cuts = blocks(stream.len() / 2).map(|beats| beats.start * 2..beats.end * 2);
+            edits.extend(cuts.map(|bytes| Edit::Cut { place, bytes }));
+        }
+        if let Argument::Lent(_, lent) = argument {
+            edits.extend(blocks(lent.len()).map(|bytes| Edit::Clear { place, bytes }));
+        }
+        let lower = halves(argument.number().unwrap_or(0));
+        edits.extend(lower.map(|by| Edit::Lower { place, by }));
+    }
+    edits
+}
+
+/// The number, its half, its quarter and so on down to 1: taken away one after
+/// the other where possible, they find the least number that will do.
+fn halves(number: u64) -> impl Iterator<Item = u64> {
+    std::iter::successors(Some(number), |number| Some(number / 2)).take_while(|&part| part > 0)
+}
+
+/// The blocks of a slice: the whole, its halves, its quarters and so on down to
+/// single elements, each time from behind.
+fn blocks(length: usize) -> impl Iterator<Item = Range<usize>> {
+    halves(length as u64).flat_map(move |size| {
+        let starts = (0..length).step_by(size as usize).rev();
+        starts.map(move |start| start..length.min(start + size as usize))
+    })
+}
+
+impl Edit {
+    /// Whether the edit, found some edits ago, would still make the call simpler.
+    fn simplifies(&self, call: &mut Call) -> bool {
+        match self {
+            Edit::ShortenWindow { by } => call.window().is_some_and(|window| *by <= window.len()),
+            Edit::Cut { place, bytes } => lent_at(call, *place).len() >= bytes.end,
+            Edit::Clear { place, bytes } => {
+                let cleared = lent_at(call, *place).get(bytes.clone());
+                cleared.is_some_and(|bytes| bytes.iter().any(|&byte| byte != 0))
+            }
+            Edit::Lower { place, by } => call.arguments()[*place].number() >= Some(*by),
+        }
+    }
+
+    fn apply(&self, call: &mut Call) {
+        match self {
+            Edit::ShortenWindow { by } => shorten_window(call, *by),
+            Edit::Cut { place, bytes } => {
+                let stream = lent_at(call, *place);
+                *stream = Lent::from([&stream[..bytes.start], &stream[bytes.end..]].concat());
+            }
+            Edit::Clear { place, bytes } => lent_at(call, *place)[bytes.clone()].fill(0),
+            Edit::Lower { place, by } => {
+                let argument = &mut call.arguments()[*place];
+                let number = argument.number().unwrap_or(0);
+                argument.set_number(number - by);
+            }
+        }
+    }
+}
+
+fn lent_at(call: &mut Call, place: usize) -> &mut Lent {
+    match call.arguments().swap_remove(place) {
+        Argument::Lent(_, lent) => lent,
+        _ => unreachable!("the edit speaks of a lent slice"),
+    }
+}
+
+/// Shortens the window, and tells the image of a run whose window had the length
+/// that the image tells.
+fn shorten_window(call: &mut Call, by: usize) {
+    match call {
+        Call::Run { image, window, .. } => {
+            let [told, shorter] = [window.len(), window.len() - by].map(|n| n as u32);
+            if let Some(length) = image.get_mut(WINDOW_LENGTH) {
+                if *length == told.to_be_bytes() {
+                    length.copy_from_slice(&shorter.to_be_bytes());
+                }
+            }
+            *window = Lent::from(&window[..shorter as usize]);
+        }
+        Call::BuildDescriptor { window, .. } | Call::ReadDescriptor { window, .. } => {
+            *window = Lent::from(&window[..window.len() - by]);
+        }
+        _ => {}
+    }
+}
+
+#[cfg(test)]
+mod tests {
+    use super::*;
+
+    fn write(offset: u32, value: u32) -> Call {
+        Call::WriteRegister {
+            image: Lent::from(vec![0xFF; 8]),
+            offset,
+            value,
+        }
+    }
+
+    /// Whether a write at this offset is among the calls.
+    fn writes(calls: &[Call], sought: u32) -> bool {
+        let at =
+            |call: &Call| matches!(call, Call::WriteRegister { offset, .. } if *offset == sought);
+        calls.iter().any(at)
+    }
+
+    /// Where one call alone does not differ, the calls it needs before it stay.
+    #[test]
+    fn calls_that_matter_stay() {
+        let calls = (0..6).map(|offset| write(offset, 100)).collect();
+        let shrunk = shrink(calls, &|calls| writes(calls, 2) && writes(calls, 5));
+        let clear = |offset| Call::WriteRegister {
+            image: Lent::zeros(8),
+            offset,
+            value: 0,
+        };
+        assert_eq!(shrunk, [clear(2), clear(5)]);
+    }
+
+    /// Of bytes and numbers only what matters stays.
+    #[test]
+    fn bytes_and_numbers_that_matter_stay() {
+        let matters = |calls: &[Call]| {
+            let [Call::WriteRegister { image, value, .. }] = calls else {
+                return false;
+            };
+            image[5] != 0 && *value >= 37
+        };
+        let Call::WriteRegister {
+            image,
+            offset,
+            value,
+        } = &shrink(vec![write(4, 1000)], &matters)[0]
+        else {
+            panic!("the call became another");
+        };
+        assert_eq!(**image, [0, 0, 0, 0, 0, 0xFF, 0, 0]);
+        assert_eq!((*offset, *value), (0, 37));
+    }
+}

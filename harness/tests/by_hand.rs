@@ -1,0 +1,496 @@
+//! Single steps and register writes, each worked out by hand from one sentence of
+//! the paper, by the model and by the library.
+
+use harness::call::{parties, Call, Lent, Party};
+use harness::compare::ask;
+use harness::firmware::stream;
+use harness::model::{offset, Image, Kept, Mode, Phase, Reason, REPORT_SIZE, VALUE_SIZE};
+use harness::samples::{image, BASE, LENGTH};
+use Mode::{MemoryToMemory as M0, MemoryToStream as M1, StreamToMemory as M2};
+use Phase::{Ended, Faulted, Fetch, Halted, Move, Rest, WriteBack};
+
+const RUN: u32 = 0x20;
+const STOP_DMA_ER: u32 = 0x40;
+const PARK: u32 = 1 << 17;
+const SW_RESET: u32 = 1 << 16;
+const BUSY: u8 = 0x10;
+
+type EditImage = fn(&mut Image);
+type EditMemory = fn(&mut [u8]);
+
+/// One step and what must come of it.
+struct Step {
+    name: &'static str,
+    mode: Mode,
+    phase: Phase,
+    /// What makes the sample the case at hand.
+    given: EditImage,
+    memory: EditMemory,
+    beats: &'static [u16],
+    room: usize,
+    /// What the step changes.
+    image_after: EditImage,
+    memory_after: EditMemory,
+    /// Reason, steps, beats taken.
+    told: (Reason, u32, u32),
+    made: &'static [u16],
+}
+
+/// A step that finds nothing and changes nothing.
+const STEP: Step = Step {
+    name: "",
+    mode: M2,
+    phase: Fetch,
+    given: |_| (),
+    memory: |_| (),
+    beats: &[],
+    room: 0,
+    image_after: |_| (),
+    memory_after: |_| (),
+    told: (Reason::Budget, 1, 0),
+    made: &[],
+};
+
+/// Writes a 32-bit number into a descriptor.
+fn put(memory: &mut [u8], place: usize, number: u32) {
+    memory[place..place + 4].copy_from_slice(&number.to_le_bytes());
+}
+
+/// Lays an owned descriptor at 4128: from 4200 to 4224, then 4096.
+fn lay(memory: &mut [u8], length: u8) {
+    put(memory, 32, 4200);
+    put(memory, 40, 4224);
+    put(memory, 48, 4096);
+    memory[56] = length;
+    memory[63] = 0xA9;
+}
+
+/// The descriptor that [`lay`] lays, as it is kept.
+fn keep(image: &mut Image, length: u16) {
+    image.phase = Move as u8;
+    image.pointer = 4096;
+    image.kept = Kept {
+        address: 4128,
+        source: 4200,
+        destination: 4224,
+        length,
+        control: 0xA9,
+        ..Kept::default()
+    };
+}
+
+fn fail(image: &mut Image, code: u8, address: u32) {
+    image.phase = Faulted as u8;
+    image.status &= !BUSY;
+    (image.fault, image.fault_address) = (code, address);
+    image.kept = Kept::default();
+}
+
+#[rustfmt::skip]
+const FIRST_STEPS: [Step; 14] = [
+    Step { name: "Rest with RUN 1 becomes busy and fetches",
+        phase: Rest, image_after: |i| (i.phase, i.status) = (1, BUSY), ..STEP },
+    Step { name: "Rest with RUN 0 takes no step",
+        phase: Rest, given: |i| i.control = 0, told: (Reason::Rest, 0, 0), ..STEP },
+    Step { name: "Fetch with RUN 0 rests, and that is a step",
+        given: |i| i.control = 0, memory: |m| lay(m, 4),
+        image_after: |i| (i.phase, i.status) = (0, 0), told: (Reason::Rest, 1, 0), ..STEP },
+    Step { name: "misaligned comes before outside",
+        given: |i| i.pointer = 4090, image_after: |i| fail(i, 10, 4090),
+        told: (Reason::Faulted, 1, 0), ..STEP },
+    Step { name: "a pointer below the window is outside",
+        given: |i| i.pointer = 4092, image_after: |i| fail(i, 11, 4092),
+        told: (Reason::Faulted, 1, 0), ..STEP },
+    Step { name: "a descriptor that ends beyond the window is outside",
+        given: |i| i.pointer = 4324, image_after: |i| fail(i, 11, 4324),
+        told: (Reason::Faulted, 1, 0), ..STEP },
+    Step { name: "unowned ends the chain, BUSY and pointer stay",
+        memory: |m| { lay(m, 4); m[63] = 0x7F }, image_after: |i| (i.phase, i.status) = (4, 0x18),
+        told: (Reason::Ended, 1, 0), ..STEP },
+    Step { name: "unowned comes before length 0",
+        mode: M0, memory: |m| { lay(m, 0); m[63] = 0x7F },
+        image_after: |i| (i.phase, i.status) = (4, 0x18), told: (Reason::Ended, 1, 0), ..STEP },
+    Step { name: "the end of the chain pends under IE_CHAIN",
+        given: |i| i.control = RUN | 8,
+        image_after: |i| (i.phase, i.status, i.pending) = (4, 0x18, true),
+        told: (Reason::Ended, 1, 0), ..STEP },
+    Step { name: "the end of the chain pends under nothing else",
+        given: |i| i.control = RUN | 0xFF97, image_after: |i| (i.phase, i.status) = (4, 0x18),
+        told: (Reason::Ended, 1, 0), ..STEP },
+    Step { name: "length 0 is a fault in mode 1",
+        mode: M1, memory: |m| lay(m, 0), image_after: |i| fail(i, 12, 4128),
+        told: (Reason::Faulted, 1, 0), ..STEP },
+    Step { name: "length 0 is kept as 0 in mode 2",
+        memory: |m| lay(m, 0), image_after: |i| keep(i, 0), told: (Reason::NeedsInput, 1, 0),
+        ..STEP },
+    Step { name: "the destination is kept in mode 1 too",
+        mode: M1, memory: |m| lay(m, 9), room: 1, image_after: |i| keep(i, 9), ..STEP },
+    Step { name: "Fetch keeps what it reads, and reserved bytes do nothing",
+        mode: M0, memory: |m| { lay(m, 9); m[36..40].fill(0xEE); m[58..63].fill(0xEE) },
+        image_after: |i| keep(i, 9), ..STEP },
+];
+
+#[rustfmt::skip]
+const MOVES: [Step; 16] = [
+    Step { name: "source outside comes before destination outside",
+        mode: M0, phase: Move, given: |i| (i.kept.source, i.kept.destination) = (4351, 0),
+        image_after: |i| fail(i, 13, 4352), told: (Reason::Faulted, 1, 0), ..STEP },
+    Step { name: "destination outside",
+        mode: M0, phase: Move, given: |i| i.kept.destination = 4094,
+        image_after: |i| fail(i, 14, 4095), told: (Reason::Faulted, 1, 0), ..STEP },
+    Step { name: "the address of a fault is taken modulo 2^32",
+        mode: M0, phase: Move, given: |i| i.kept.source = u32::MAX, image_after: |i| fail(i, 13, 0),
+        told: (Reason::Faulted, 1, 0), ..STEP },
+    Step { name: "a fault keeps status, count, pending, control and pointer",
+        mode: M2, phase: Move,
+        given: |i| {
+            (i.status, i.count, i.pending, i.control) = (0x1F, 9, true, 0x2_FFFF);
+            i.kept.destination = 0
+        },
+        beats: &[0x0101], image_after: |i| fail(i, 14, 1), told: (Reason::Faulted, 1, 0), ..STEP },
+    Step { name: "source outside comes before no room",
+        mode: M1, phase: Move, given: |i| i.kept.source = 0, image_after: |i| fail(i, 13, 1),
+        told: (Reason::Faulted, 1, 0), ..STEP },
+    Step { name: "no room, no step",
+        mode: M1, phase: Move, told: (Reason::OutputFull, 0, 0), ..STEP },
+    Step { name: "no beat comes before destination outside",
+        phase: Move, given: |i| i.kept.destination = 0, told: (Reason::NeedsInput, 0, 0), ..STEP },
+    Step { name: "RUN 0 does not stop Move",
+        mode: M0, phase: Move, given: |i| i.control = 0, memory: |m| m[105] = 0x5A,
+        image_after: |i| i.kept.moved = 2, memory_after: |m| m[129] = 0x5A, ..STEP },
+    Step { name: "READ_FIXED reads at the source",
+        mode: M0, phase: Move, given: |i| i.kept.control = 0x82, memory: |m| m[104] = 0x5A,
+        image_after: |i| i.kept.moved = 2, memory_after: |m| m[129] = 0x5A, ..STEP },
+    Step { name: "WRITE_FIXED writes at the destination",
+        mode: M0, phase: Move, given: |i| i.kept.control = 0x84, memory: |m| m[105] = 0x5A,
+        image_after: |i| i.kept.moved = 2, memory_after: |m| m[128] = 0x5A, ..STEP },
+    Step { name: "a later byte has no SOP, and EOP comes on the last",
+        mode: M1, phase: Move, room: 1, given: |i| (i.kept.control, i.kept.length) = (0x85, 2),
+        memory: |m| m[105] = 0x5A, image_after: |i| (i.phase, i.kept.moved) = (3, 2),
+        made: &[0x015A], ..STEP },
+    Step { name: "the first byte has SOP under WRITE_FIXED only",
+        mode: M1, phase: Move, room: 1, given: |i| (i.kept.control, i.kept.moved) = (0x83, 0),
+        memory: |m| m[104] = 0x5A, image_after: |i| i.kept.moved = 1, made: &[0x005A],
+        told: (Reason::OutputFull, 1, 0), ..STEP },
+    Step { name: "errors are gathered, and STOP_DMA_ER waits for the end",
+        phase: Move, beats: &[0x845A],
+        given: |i| { i.control = RUN | STOP_DMA_ER; i.kept.errors = 0x11 },
+        image_after: |i| (i.kept.moved, i.kept.errors) = (2, 0x53), memory_after: |m| m[129] = 0x5A,
+        told: (Reason::NeedsInput, 1, 1), ..STEP },
+    Step { name: "an early EOP ends the descriptor",
+        phase: Move, beats: &[0x015A, 0x0066],
+        image_after: |i| (i.phase, i.kept.moved, i.kept.eop_seen) = (3, 2, true),
+        memory_after: |m| m[129] = 0x5A, told: (Reason::Budget, 1, 1), ..STEP },
+    Step { name: "EOP is seen on byte L too",
+        phase: Move, beats: &[0x015A], given: |i| i.kept.moved = 3,
+        image_after: |i| (i.phase, i.kept.moved, i.kept.eop_seen) = (3, 4, true),
+        memory_after: |m| m[131] = 0x5A, told: (Reason::Budget, 1, 1), ..STEP },
+    Step { name: "length 0 ends with byte 65,535",
+        phase: Move, beats: &[0x005A],
+        given: |i| (i.kept.length, i.kept.moved, i.kept.control) = (0, 65_534, 0x84),
+        image_after: |i| (i.phase, i.kept.moved) = (3, 65_535), memory_after: |m| m[128] = 0x5A,
+        told: (Reason::Budget, 1, 1), ..STEP },
+];
+
+/// The descriptor at 4096 is done: 4 bytes, these errors and this control byte.
+fn done(memory: &mut [u8], errors: u8, control: u8) {
+    memory[28..32].copy_from_slice(&[4, 0, errors, control]);
+}
+
+/// WriteBack drops what was kept and goes to this phase with this status.
+fn leave(image: &mut Image, phase: Phase, status: u8) {
+    image.kept = Kept::default();
+    image.phase = phase as u8;
+    image.status = status;
+}
+
+const WRITTEN: Step = Step {
+    phase: WriteBack,
+    image_after: |i| leave(i, Fetch, 0x14),
+    memory_after: |m| done(m, 0, 0),
+    ..STEP
+};
+
+#[rustfmt::skip]
+const WRITE_BACKS: [Step; 16] = [
+    Step { name: "WriteBack fetches next",
+        ..WRITTEN },
+    Step { name: "only the last four bytes are written, control as fetched",
+        memory: |m| m[..32].fill(0xFF), given: |i| i.kept.control = 0xBD,
+        memory_after: |m| done(m, 0, 0x3D), ..WRITTEN },
+    Step { name: "PARK keeps OWNED",
+        given: |i| i.control |= PARK, memory_after: |m| done(m, 0, 0x80), ..WRITTEN },
+    Step { name: "RUN 0 rests",
+        given: |i| i.control = 0, image_after: |i| leave(i, Rest, 0x04), told: (Reason::Rest, 1, 0),
+        ..WRITTEN },
+    Step { name: "errors set ERROR and go on without STOP_DMA_ER",
+        given: |i| i.kept.errors = 0x7F, image_after: |i| leave(i, Fetch, 0x15),
+        memory_after: |m| done(m, 0x7F, 0), ..WRITTEN },
+    Step { name: "errors with STOP_DMA_ER halt",
+        given: |i| { i.kept.errors = 1; i.control |= STOP_DMA_ER },
+        image_after: |i| leave(i, Halted, 0x05), memory_after: |m| done(m, 1, 0),
+        told: (Reason::Halted, 1, 0), ..WRITTEN },
+    Step { name: "RUN 0 comes before STOP_DMA_ER",
+        given: |i| { i.kept.errors = 1; i.control = STOP_DMA_ER },
+        image_after: |i| leave(i, Rest, 0x05), memory_after: |m| done(m, 1, 0),
+        told: (Reason::Rest, 1, 0), ..WRITTEN },
+    Step { name: "EOP sets EOP_ENCOUNTERED",
+        given: |i| i.kept.eop_seen = true, image_after: |i| leave(i, Fetch, 0x16), ..WRITTEN },
+    Step { name: "no event pends under the enable of another",
+        given: |i| i.control |= 0x9B, image_after: |i| leave(i, Fetch, 0x14), ..WRITTEN },
+    Step { name: "an event pends again where its bit is 1, without IE_GLOBAL",
+        given: |i| { i.status |= 4; i.control |= 4 },
+        image_after: |i| { leave(i, Fetch, 0x14); i.pending = true }, ..WRITTEN },
+    Step { name: "errors pend under IE_ERROR",
+        given: |i| { i.kept.errors = 2; i.control |= 1 },
+        image_after: |i| { leave(i, Fetch, 0x15); i.pending = true },
+        memory_after: |m| done(m, 2, 0), ..WRITTEN },
+    Step { name: "EOP pends under IE_EOP",
+        given: |i| { i.kept.eop_seen = true; i.control |= 2 },
+        image_after: |i| { leave(i, Fetch, 0x16); i.pending = true }, ..WRITTEN },
+    Step { name: "the count goes up below MAX",
+        given: |i| { i.count = 1; i.control |= 0x0380 },
+        image_after: |i| { leave(i, Fetch, 0x14); i.count = 2 }, ..WRITTEN },
+    Step { name: "MAX reached pends under IE_MAX",
+        given: |i| { i.count = 2; i.control |= 0x0380 },
+        image_after: |i| { leave(i, Fetch, 0x14); (i.count, i.pending) = (0, true) }, ..WRITTEN },
+    Step { name: "MAX passed zeroes the count without IE_MAX",
+        given: |i| { i.count = 254; i.control |= 0x0300 },
+        image_after: |i| { leave(i, Fetch, 0x14); i.count = 0 }, ..WRITTEN },
+    Step { name: "MAX 0 zeroes the count and pends nothing",
+        given: |i| { i.count = 5; i.control |= 0x80 },
+        image_after: |i| { leave(i, Fetch, 0x14); i.count = 0 }, ..WRITTEN },
+];
+
+/// The call of a step, and what it must have become.
+fn call_and_outcome(step: &Step) -> (Call, Call) {
+    let mut before = image(step.mode, step.phase);
+    (step.given)(&mut before);
+    let mut after = before;
+    (step.image_after)(&mut after);
+    let mut memory = vec![0; LENGTH];
+    (step.memory)(&mut memory);
+    let mut memory_after = memory.clone();
+    (step.memory_after)(&mut memory_after);
+    let mut out_after = vec![0; 2 * step.room];
+    out_after[..2 * step.made.len()].copy_from_slice(&stream(step.made));
+    let (reason, steps, taken) = step.told;
+    let mut report = vec![0, reason as u8];
+    for number in [steps, taken, step.made.len() as u32] {
+        report.extend(number.to_be_bytes());
+    }
+    let run = |image: Image, memory: Vec<u8>, out: Vec<u8>, report: Vec<u8>| Call::Run {
+        image: Lent::from(image.pack().to_vec()),
+        window: Lent::from(memory),
+        beats: Lent::from(stream(step.beats)),
+        out: Lent::from(out),
+        budget: 1,
+        report: Lent::from(report),
+    };
+    (
+        run(before, memory, vec![0; 2 * step.room], vec![0; REPORT_SIZE]),
+        run(after, memory_after, out_after, report),
+    )
+}
+
+fn check_steps(steps: &[Step]) {
+    for party in parties() {
+        for step in steps {
+            let (call, outcome) = call_and_outcome(step);
+            let answer = ask(party.as_ref(), &call);
+            let found = (answer.returned, answer.after);
+            assert_eq!(found, (0, outcome), "{}: {}", party.name(), step.name);
+        }
+    }
+}
+
+#[test]
+fn rest_and_fetch() {
+    check_steps(&FIRST_STEPS);
+}
+
+#[test]
+fn moves() {
+    check_steps(&MOVES);
+}
+
+#[test]
+fn write_backs() {
+    check_steps(&WRITE_BACKS);
+}
+
+/// A register write on an image, and what it changes.
+struct Write {
+    name: &'static str,
+    phases: &'static [Phase],
+    given: EditImage,
+    offset: u32,
+    value: u32,
+    after: EditImage,
+}
+
+const MOVING: [Phase; 4] = [Rest, Fetch, Move, WriteBack];
+const ALL: [Phase; 7] = Phase::ALL;
+
+/// A machine after reset: only mode and window stay.
+fn fresh(image: &mut Image) {
+    let (mode, base, window_length) = (image.mode, image.base, image.window_length);
+    *image = harness::samples::image(M2, Rest);
+    (image.mode, image.base, image.window_length) = (mode, base, window_length);
+    (image.control, image.pointer) = (0, 0);
+}
+
+/// Bit 16 is 1: an image calls it armed.
+fn arm(image: &mut Image) {
+    image.armed = true;
+    image.control |= SW_RESET;
+}
+
+#[rustfmt::skip]
+const WRITES: [Write; 17] = [
+    Write { name: "writing 1 clears bits 0 to 3",
+        phases: &ALL, given: |i| i.status |= 0x0F, offset: offset::STATUS, value: 0x05,
+        after: |i| i.status &= !0x05 },
+    Write { name: "other written bits do nothing",
+        phases: &ALL, given: |i| { i.status |= 0x0F; i.pending = true }, offset: offset::STATUS,
+        value: 0xFFFF_FFF0, after: |_| () },
+    Write { name: "the pointer may be written in any phase",
+        phases: &ALL, given: |_| (), offset: offset::NEXT_DESCRIPTOR_POINTER, value: 0xFFFF_FFFF,
+        after: |i| i.pointer = 0xFFFF_FFFF },
+    Write { name: "bits 0 to 17 are stored, bits 18 to 30 are not",
+        phases: &ALL, given: |_| (), offset: offset::CONTROL, value: 0x7FFE_FFFF,
+        after: |i| i.control = 0x2_FFFF },
+    Write { name: "bit 31 clears the pending interrupt",
+        phases: &ALL, given: |i| i.pending = true, offset: offset::CONTROL, value: 0x8000_0020,
+        after: |i| i.pending = false },
+    Write { name: "without bit 31 it stays",
+        phases: &ALL, given: |i| i.pending = true, offset: offset::CONTROL, value: RUN,
+        after: |_| () },
+    Write { name: "the first write of bit 16 arms and is a write like any other",
+        phases: &ALL, given: |i| (i.pending, i.count) = (true, 7), offset: offset::CONTROL,
+        value: 0x8001_0120, after: |i| { i.control = 0x120; i.pending = false; arm(i) } },
+    Write { name: "the second resets and ignores the rest",
+        phases: &ALL, given: |i| { arm(i); (i.pending, i.count) = (true, 7); i.status |= 0x0F },
+        offset: offset::CONTROL, value: 0x8003_FFFF, after: fresh },
+    Write { name: "writing bit 16 as 0 disarms",
+        phases: &ALL, given: arm, offset: offset::CONTROL, value: RUN,
+        after: |i| (i.control, i.armed) = (RUN, false) },
+    Write { name: "RUN going 0 to 1 zeroes the count",
+        phases: &MOVING, given: |i| (i.control, i.count) = (0, 7), offset: offset::CONTROL,
+        value: RUN, after: |i| (i.control, i.count) = (RUN, 0) },
+    Write { name: "in Faulted too",
+        phases: &[Faulted], given: |i| (i.control, i.count) = (0, 7), offset: offset::CONTROL,
+        value: RUN, after: |i| (i.control, i.count) = (RUN, 0) },
+    Write { name: "RUN staying 1 does not",
+        phases: &ALL, given: |i| i.count = 7, offset: offset::CONTROL, value: RUN | 1,
+        after: |i| i.control = RUN | 1 },
+    Write { name: "RUN going 1 to 0 does not",
+        phases: &MOVING, given: |i| i.count = 7, offset: offset::CONTROL, value: 0,
+        after: |i| i.control = 0 },
+    Write { name: "RUN 0 in Ended goes to Rest with BUSY 0",
+        phases: &[Ended], given: |i| (i.status, i.count) = (0x1F, 7), offset: offset::CONTROL,
+        value: 0, after: |i| (i.control, i.phase, i.status) = (0, 0, 0x0F) },
+    Write { name: "and in Halted",
+        phases: &[Halted], given: |i| (i.status, i.count) = (0x0F, 7), offset: offset::CONTROL,
+        value: 0, after: |i| (i.control, i.phase) = (0, 0) },
+    Write { name: "only reset leaves Faulted",
+        phases: &[Faulted], given: |_| (), offset: offset::CONTROL, value: 0,
+        after: |i| i.control = 0 },
+    Write { name: "RUN 0 with bit 16 leaves Ended armed",
+        phases: &[Ended, Halted], given: |i| i.count = 7, offset: offset::CONTROL, value: SW_RESET,
+        after: |i| { (i.control, i.phase, i.status) = (0, 0, 0); arm(i) } },
+];
+
+#[test]
+fn register_writes() {
+    for party in parties() {
+        for write in &WRITES {
+            for &phase in write.phases {
+                let mut before = image(M2, phase);
+                (write.given)(&mut before);
+                let mut after = before;
+                (write.after)(&mut after);
+                let call = |image: Image| Call::WriteRegister {
+                    image: Lent::from(image.pack().to_vec()),
+                    offset: write.offset,
+                    value: write.value,
+                };
+                let answer = ask(party.as_ref(), &call(before));
+                let found = (answer.returned, answer.after);
+                let name = write.name;
+                assert_eq!(
+                    found,
+                    (0, call(after)),
+                    "{}: {name}, {phase:?}",
+                    party.name()
+                );
+            }
+        }
+    }
+}
+
+/// "Reading changes nothing." Each register reads what the image holds.
+#[test]
+fn register_reads() {
+    for party in parties() {
+        let mut held = image(M2, Ended);
+        (held.status, held.pointer, held.control) = (0x1B, 0x0102_0304, 0x2_5AF9);
+        for (offset, value) in [
+            (0, [0, 0, 0, 0x1B]),
+            (4, [0, 2, 0x5A, 0xF9]),
+            (8, [1, 2, 3, 4]),
+        ] {
+            let call = |value: [u8; VALUE_SIZE]| Call::ReadRegister {
+                image: Lent::from(held.pack().to_vec()),
+                offset,
+                value: Lent::from(value.to_vec()),
+            };
+            let answer = ask(party.as_ref(), &call([0xEE; VALUE_SIZE]));
+            assert_eq!((answer.returned, answer.after), (0, call(value)));
+        }
+    }
+}
+
+/// "The line is up exactly when an interrupt is pending and IE_GLOBAL is 1."
+fn check_line(party: &dyn Party, pending: bool, control: u32, line: u8) {
+    let mut held = image(M2, Ended);
+    (held.pending, held.control) = (pending, control);
+    let call = |value: [u8; VALUE_SIZE]| Call::Line {
+        image: Lent::from(held.pack().to_vec()),
+        value: Lent::from(value.to_vec()),
+    };
+    let answer = ask(party, &call([0xEE; VALUE_SIZE]));
+    let expected = (0, call([0, 0, 0, line]));
+    assert_eq!(
+        (answer.returned, answer.after),
+        expected,
+        "{}",
+        party.name()
+    );
+}
+
+#[test]
+fn the_line() {
+    for party in parties() {
+        check_line(party.as_ref(), true, RUN | 0x10, 1);
+        check_line(party.as_ref(), true, RUN | 0xFFEF, 0);
+        check_line(party.as_ref(), false, RUN | 0xFFFF, 0);
+        check_line(party.as_ref(), false, RUN, 0);
+    }
+}
+
+/// The samples stand where this file believes they do.
+#[test]
+fn the_samples_are_known() {
+    let sample = image(M0, Move);
+    assert_eq!((sample.base, sample.window_length), (BASE, LENGTH as u32));
+    assert_eq!((sample.pointer, sample.status), (4128, BUSY));
+    let Kept {
+        source,
+        destination,
+        length,
+        moved,
+        ..
+    } = sample.kept;
+    assert_eq!((source, destination, length, moved), (4200, 4224, 4, 1));
+}

@@ -1,0 +1,367 @@
+//! Every image rule broken alone, each beside a repaired twin that loads.
+
+use harness::call::{parties, Call, Lent, Party};
+use harness::compare::ask;
+use harness::model::ImageRule::{self, *};
+use harness::model::{
+    offset, Image, Images, Kept, Machine, Mode, Paper, Phase, Window, REPORT_SIZE, VALUE_SIZE,
+};
+use harness::samples::image;
+
+const MODES: [Mode; 3] = Mode::ALL;
+const FROM_MEMORY: [Mode; 2] = [Mode::MemoryToMemory, Mode::MemoryToStream];
+const STREAM: Mode = Mode::StreamToMemory;
+const RUN: u32 = 0x20;
+const BUSY: u8 = 0x10;
+
+/// Every good image of the three modes.
+fn images() -> Vec<Image> {
+    let mut images = Vec::new();
+    for mode in MODES {
+        images.extend(Phase::ALL.map(|phase| image(mode, phase)));
+    }
+    images.retain(|image| Paper.broken_rules(image).is_empty());
+    images
+}
+
+/// An edit of one field.
+type Edit = fn(&mut Image);
+
+/// A rule, the good images on which it is broken, the edit that breaks it, and an
+/// edit of the same field that does not.
+struct Row {
+    rule: ImageRule,
+    images: Vec<Image>,
+    breaks: Edit,
+    keeps: Edit,
+}
+
+fn row(rule: ImageRule, images: Vec<Image>, breaks: Edit, keeps: Edit) -> Row {
+    Row {
+        rule,
+        images,
+        breaks,
+        keeps,
+    }
+}
+
+/// The good images in these phases, of these modes.
+fn of(modes: &[Mode], phases: &[Phase]) -> Vec<Image> {
+    let mut images = images();
+    images.retain(|image| {
+        modes.iter().any(|&mode| image.mode == mode as u8)
+            && phases.iter().any(|&phase| image.phase == phase as u8)
+    });
+    images
+}
+
+fn with(mut images: Vec<Image>, edit: Edit) -> Vec<Image> {
+    images.iter_mut().for_each(edit);
+    images
+}
+
+const REST: [Phase; 1] = [Phase::Rest];
+const MOVE: [Phase; 1] = [Phase::Move];
+const WRITE_BACK: [Phase; 1] = [Phase::WriteBack];
+const KEEPING: [Phase; 2] = [Phase::Move, Phase::WriteBack];
+const NOT_KEEPING: [Phase; 5] = [
+    Phase::Rest,
+    Phase::Fetch,
+    Phase::Ended,
+    Phase::Halted,
+    Phase::Faulted,
+];
+const NOT_FAULTED: [Phase; 6] = [
+    Phase::Rest,
+    Phase::Fetch,
+    Phase::Move,
+    Phase::WriteBack,
+    Phase::Ended,
+    Phase::Halted,
+];
+
+#[rustfmt::skip]
+fn head_rows() -> Vec<Row> {
+    let at_the_top = || with(of(&MODES, &REST), |i| i.base = u32::MAX);
+    vec![
+        row(EditionOne, images(), |i| i.edition = 0, |i| i.edition = 1),
+        row(EditionOne, images(), |i| i.edition = 2, |i| i.edition = 1),
+        row(EditionOne, images(), |i| i.edition = 9, |i| i.edition = 1),
+        row(ModeAtMostTwo, of(&MODES, &REST), |i| i.mode = 3, |i| i.mode = 2),
+        row(PhaseAtMostSix, of(&MODES, &REST), |i| i.phase = 7, |i| i.phase = 0),
+        row(WindowLength, of(&MODES, &REST),
+            |i| i.window_length = 65_537, |i| i.window_length = 65_536),
+        row(WindowEnd, at_the_top(), |i| i.window_length = 2, |i| i.window_length = 1),
+        row(StatusBitsZero, images(), |i| i.status |= 0x20, |i| i.status |= 0x08),
+        row(StatusBitsZero, images(), |i| i.status |= 0x40, |i| i.status |= 0x08),
+        row(StatusBitsZero, images(), |i| i.status |= 0x80, |i| i.status |= 0x08),
+        row(ControlBitsZero, images(), |i| i.control |= 1 << 18, |i| i.control |= 1 << 17),
+        row(ControlBitsZero, images(), |i| i.control |= 1 << 30, |i| i.control |= 1 << 15),
+        row(ControlBitsZero, images(), |i| i.control |= 1 << 31, |i| i.control |= 1 << 15),
+        row(ArmedIsControlBit16, images(), |i| i.armed = true, |i| i.armed = false),
+        row(ArmedIsControlBit16, with(images(), |i| i.armed = true),
+            |i| i.control |= 1 << 15, |i| i.control |= 1 << 16),
+        row(CountAtMost254, images(), |i| i.count = 255, |i| i.count = 254),
+        row(ZeroBitsZero, images(), |i| i.zero = 1, |i| i.zero = 0),
+        row(ZeroBitsZero, images(), |i| i.zero = 0x4000, |i| i.zero = 0),
+    ]
+}
+
+#[rustfmt::skip]
+fn phase_rows() -> Vec<Row> {
+    use Phase::*;
+    vec![
+        row(BusyInPhasesOneToFour, of(&MODES, &[Rest, Halted, Faulted]),
+            |i| i.status |= BUSY, |i| i.status |= 4),
+        row(BusyInPhasesOneToFour, of(&MODES, &[Fetch, Move, WriteBack, Ended]),
+            |i| i.status = 4, |i| i.status |= 4),
+        row(RunInEndedAndHalted, of(&MODES, &[Ended, Halted]),
+            |i| i.control &= !RUN, |i| i.control |= RUN),
+        row(HaltedOnlyInModeTwo, of(&MODES, &[Halted]), |i| i.mode = 0, |i| i.mode = 2),
+        row(HaltedOnlyInModeTwo, of(&MODES, &[Halted]), |i| i.mode = 1, |i| i.mode = 2),
+        row(StreamStatusOnlyInModeTwo, of(&FROM_MEMORY, &Phase::ALL),
+            |i| i.status |= 1, |i| i.status |= 4),
+        row(StreamStatusOnlyInModeTwo, of(&FROM_MEMORY, &Phase::ALL),
+            |i| i.status |= 2, |i| i.status |= 8),
+        row(FaultCode, of(&MODES, &[Faulted]), |i| i.fault = 0, |i| i.fault = 10),
+        row(FaultCode, of(&MODES, &[Faulted]), |i| i.fault = 9, |i| i.fault = 11),
+        row(FaultCode, of(&MODES, &[Faulted]), |i| i.fault = 31, |i| i.fault = 10),
+        row(FaultCode, of(&FROM_MEMORY, &[Faulted]), |i| i.fault = 15, |i| i.fault = 12),
+        row(FaultCodeOfMode, of(&[STREAM], &[Faulted]), |i| i.fault = 12, |i| i.fault = 14),
+        row(FaultCodeOfMode, of(&[STREAM], &[Faulted]), |i| i.fault = 13, |i| i.fault = 14),
+        row(FaultCodeOfMode, of(&[Mode::MemoryToStream], &[Faulted]),
+            |i| i.fault = 14, |i| i.fault = 13),
+        row(NoFaultElsewhere, of(&MODES, &NOT_FAULTED), |i| i.fault = 10, |i| i.fault = 0),
+        row(NoFaultElsewhere, of(&MODES, &NOT_FAULTED),
+            |i| i.fault_address = 1, |i| i.fault_address = 0),
+    ]
+}
+
+#[rustfmt::skip]
+fn kept_rows() -> Vec<Row> {
+    let rule = KeptOnlyInMoveAndWriteBack;
+    let elsewhere = || of(&MODES, &NOT_KEEPING);
+    vec![
+        row(rule, elsewhere(), |i| i.kept.address = 4096, |i| i.kept.address = 0),
+        row(rule, elsewhere(), |i| i.kept.source = 1, |i| i.kept.source = 0),
+        row(rule, elsewhere(), |i| i.kept.destination = 1, |i| i.kept.destination = 0),
+        row(rule, elsewhere(), |i| i.kept.length = 1, |i| i.kept.length = 0),
+        row(rule, elsewhere(), |i| i.kept.control = 0x80, |i| i.kept.control = 0),
+        row(rule, elsewhere(), |i| i.kept.errors = 1, |i| i.kept.errors = 0),
+        row(rule, elsewhere(), |i| i.kept.moved = 1, |i| i.kept.moved = 0),
+        row(rule, elsewhere(), |i| i.kept.eop_seen = true, |i| i.kept.eop_seen = false),
+        row(AddressAligned, of(&MODES, &KEEPING),
+            |i| i.kept.address = 4097, |i| i.kept.address = 4100),
+        row(AddressAligned, of(&MODES, &KEEPING),
+            |i| i.kept.address = 4098, |i| i.kept.address = 4100),
+        row(AddressInWindow, of(&MODES, &KEEPING),
+            |i| i.kept.address = 4092, |i| i.kept.address = 4096),
+        row(AddressInWindow, of(&MODES, &KEEPING),
+            |i| i.kept.address = 4324, |i| i.kept.address = 4320),
+        row(ControlOwned, of(&MODES, &KEEPING),
+            |i| i.kept.control = 0x7F, |i| i.kept.control = 0xFF),
+        row(NoErrorsFromMemory, of(&FROM_MEMORY, &KEEPING),
+            |i| i.kept.errors = 1, |i| i.kept.errors = 0),
+        row(NoEopFromMemory, of(&FROM_MEMORY, &WRITE_BACK),
+            |i| i.kept.eop_seen = true, |i| i.kept.eop_seen = false),
+        row(ErrorsBit7Zero, of(&[STREAM], &KEEPING),
+            |i| i.kept.errors = 0x80, |i| i.kept.errors = 0x7F),
+    ]
+}
+
+#[rustfmt::skip]
+fn progress_rows() -> Vec<Row> {
+    let without_length = |phases| {
+        with(of(&[STREAM], phases), |i| (i.kept.length, i.kept.moved) = (0, 65_535))
+    };
+    let unmoved = || with(of(&[STREAM], &MOVE), |i| i.kept.moved = 0);
+    let after_eop = || with(of(&[STREAM], &WRITE_BACK), |i| i.kept.eop_seen = true);
+    vec![
+        row(MoveMovedBelowL, of(&MODES, &MOVE), |i| i.kept.moved = 4, |i| i.kept.moved = 3),
+        row(MoveMovedBelowL, of(&MODES, &MOVE), |i| i.kept.moved = 65_535, |i| i.kept.moved = 0),
+        row(MoveMovedBelowL, without_length(&MOVE),
+            |i| i.kept.moved = 65_535, |i| i.kept.moved = 65_534),
+        row(MoveNoEop, of(&[STREAM], &MOVE),
+            |i| i.kept.eop_seen = true, |i| i.kept.eop_seen = false),
+        row(MoveNoErrorsBeforeFirstByte, unmoved(), |i| i.kept.errors = 1, |i| i.kept.errors = 0),
+        row(WriteBackMovedOneToL, after_eop(), |i| i.kept.moved = 0, |i| i.kept.moved = 1),
+        row(WriteBackMovedOneToL, after_eop(), |i| i.kept.moved = 5, |i| i.kept.moved = 4),
+        row(WriteBackFinished, of(&MODES, &WRITE_BACK), |i| i.kept.moved = 3, |i| i.kept.moved = 4),
+        row(WriteBackFinished, without_length(&WRITE_BACK),
+            |i| i.kept.moved = 65_534, |i| i.kept.moved = 65_535),
+    ]
+}
+
+fn rows() -> Vec<Row> {
+    [head_rows(), phase_rows(), kept_rows(), progress_rows()]
+        .into_iter()
+        .flatten()
+        .collect()
+}
+
+/// The calls that read an image, on this one. None of them changes it when done:
+/// the status write clears nothing and the run takes no step.
+fn calls_on(image: &Image) -> [Call; 4] {
+    let lent = || Lent::from(image.pack().to_vec());
+    let window_length = image.window_length.min(65_537) as usize;
+    [
+        Call::ReadRegister {
+            image: lent(),
+            offset: offset::CONTROL,
+            value: Lent::zeros(VALUE_SIZE),
+        },
+        Call::WriteRegister {
+            image: lent(),
+            offset: offset::STATUS,
+            value: 0,
+        },
+        Call::Line {
+            image: lent(),
+            value: Lent::zeros(VALUE_SIZE),
+        },
+        Call::Run {
+            image: lent(),
+            window: Lent::zeros(window_length),
+            beats: Lent::zeros(0),
+            out: Lent::zeros(0),
+            budget: 0,
+            report: Lent::zeros(REPORT_SIZE),
+        },
+    ]
+}
+
+/// "An image loads exactly when it keeps these rules, and saved again gives the
+/// same bytes." Refused, everything keeps its value.
+fn check_loads(party: &dyn Party, image: &Image, loads: bool) {
+    for call in calls_on(image) {
+        let answer = ask(party, &call);
+        let expected = if loads { 0 } else { 8 };
+        assert_eq!(answer.returned, expected, "{}: {image:?}", party.name());
+        assert_eq!(answer.after.image(), call.image(), "{}", party.name());
+        assert!(loads || answer.after == call, "{}", party.name());
+    }
+}
+
+#[test]
+fn each_rule_broken_alone_is_refused() {
+    for party in parties() {
+        for row in rows() {
+            assert!(!row.images.is_empty(), "{:?} has no image", row.rule);
+            for image in row.images {
+                let (mut broken, mut repaired) = (image, image);
+                (row.breaks)(&mut broken);
+                (row.keeps)(&mut repaired);
+                assert_eq!(Paper.broken_rules(&broken), [row.rule], "{broken:?}");
+                assert_eq!(Paper.broken_rules(&repaired), [], "{repaired:?}");
+                check_loads(party.as_ref(), &broken, false);
+                check_loads(party.as_ref(), &repaired, true);
+            }
+        }
+    }
+}
+
+#[test]
+fn each_rule_has_a_row() {
+    let rows = rows();
+    for rule in ImageRule::ALL {
+        let found = rows.iter().any(|row| row.rule == rule);
+        assert_eq!(found, rule.can_break_alone(), "{rule:?}");
+    }
+}
+
+/// The rule that cannot be broken alone: length 0 in mode 0 or 1 leaves no number
+/// of bytes moved that keeps the other rules.
+#[test]
+fn no_length_is_refused_whatever_was_moved() {
+    for (phase, other) in [
+        (Phase::Move, MoveMovedBelowL),
+        (Phase::WriteBack, WriteBackMovedOneToL),
+    ] {
+        for (mut image, moved) in of(&FROM_MEMORY, &[phase]).into_iter().zip(0..) {
+            image.kept.length = 0;
+            image.kept.moved = moved;
+            let broken = Paper.broken_rules(&image);
+            assert!(broken.contains(&LengthNotZeroFromMemory) && broken.contains(&other));
+            for party in parties() {
+                check_loads(party.as_ref(), &image, false);
+            }
+        }
+    }
+}
+
+/// What looks odd and yet keeps every rule.
+#[test]
+fn odd_images_load() {
+    let odd: [(Image, Edit); 9] = [
+        (image(STREAM, Phase::Rest), |i| i.pointer = 3),
+        (image(STREAM, Phase::Rest), |i| i.count = 254),
+        (image(STREAM, Phase::Rest), |i| i.status = 0x0F),
+        (image(STREAM, Phase::Move), |i| i.control = 0),
+        (image(STREAM, Phase::Move), |i| i.kept.destination = 0),
+        (image(STREAM, Phase::Move), |i| i.kept.errors = 0x7F),
+        (image(STREAM, Phase::WriteBack), |i| i.kept.eop_seen = true),
+        (image(STREAM, Phase::Faulted), |i| {
+            (i.fault, i.fault_address) = (10, 4096)
+        }),
+        (image(STREAM, Phase::Faulted), |i| i.fault_address = 0),
+    ];
+    for (mut image, edit) in odd {
+        edit(&mut image);
+        for party in parties() {
+            check_loads(party.as_ref(), &image, true);
+        }
+    }
+}
+
+/// The layout by hand: "edition 4 (=1), mode 2, phase 3 .., armed 1, pending 1,
+/// fault 5, ..", bits most significant first.
+#[test]
+fn the_layout_is_the_papers() {
+    let moving = Machine {
+        status: 0x13,
+        control: 0x0001_2360,
+        pointer: 0x0405_0607,
+        count: 0x21,
+        pending: true,
+        phase: Phase::Move,
+        kept: Kept {
+            address: 0x1000_0020,
+            source: 0x2122_2324,
+            destination: 0x3132_3334,
+            length: 0x4142,
+            control: 0xC5,
+            errors: 0x51,
+            moved: 0x0102,
+            eop_seen: false,
+        },
+        ..Machine::fresh(
+            STREAM,
+            Window {
+                base: 0x1000_0000,
+                length: 0x0000_0130,
+            },
+        )
+    };
+    let bytes = [
+        0x19, 0x60, 0x13, 0x21, 0x00, 0x01, 0x23, 0x60, 0x04, 0x05, 0x06, 0x07, 0x10, 0x00, 0x00,
+        0x00, 0x00, 0x00, 0x01, 0x30, 0x10, 0x00, 0x00, 0x20, 0x21, 0x22, 0x23, 0x24, 0x31, 0x32,
+        0x33, 0x34, 0x41, 0x42, 0xC5, 0x51, 0x01, 0x02, 0x00, 0x00, 0x00, 0x00, 0x00, 0x00,
+    ];
+    assert_eq!(Paper.save(&moving), bytes);
+    assert_eq!(Paper.load(&bytes), Ok(moving));
+}
+
+/// The fields that are zero in the layout above.
+#[test]
+fn eop_seen_and_the_fault_have_their_places() {
+    let mut done = image(STREAM, Phase::WriteBack);
+    done.kept.eop_seen = true;
+    assert_eq!(done.pack()[38..40], [0x80, 0x00]);
+    let mut faulted = image(Mode::MemoryToMemory, Phase::Faulted);
+    (faulted.fault, faulted.fault_address) = (14, 0xDEAD_BEEF);
+    assert_eq!(faulted.pack()[..2], [0x13, 0x0E]);
+    assert_eq!(faulted.pack()[40..], [0xDE, 0xAD, 0xBE, 0xEF]);
+    for image in [done, faulted] {
+        assert_eq!(Image::unpack(&image.pack()), image);
+    }
+}

@@ -1,0 +1,128 @@
+//! Deliberate errors. Each is the model with one rule replaced by a wrong one;
+//! all its other rules stay the paper's.
+
+use harness::call::Party;
+use harness::model::{ImageRule, Images};
+
+/// Takes the rules of every other trait as they stand in the paper.
+macro_rules! paper_otherwise {
+    (Windows for $model:ident) => {
+        paper_otherwise!(Registers, Descriptors, Steps, Images, Calls: $model);
+    };
+    (Registers for $model:ident) => {
+        paper_otherwise!(Windows, Descriptors, Steps, Images, Calls: $model);
+    };
+    (Descriptors for $model:ident) => {
+        paper_otherwise!(Windows, Registers, Steps, Images, Calls: $model);
+    };
+    (Steps for $model:ident) => {
+        paper_otherwise!(Windows, Registers, Descriptors, Images, Calls: $model);
+    };
+    (Images for $model:ident) => {
+        paper_otherwise!(Windows, Registers, Descriptors, Steps, Calls: $model);
+    };
+    (Calls for $model:ident) => {
+        paper_otherwise!(Windows, Registers, Descriptors, Steps, Images: $model);
+    };
+    ($($rules:ident),*: $model:ident) => {
+        $(impl harness::model::$rules for $model {})*
+    };
+}
+
+/// A function with these arguments and this body.
+macro_rules! function {
+    (($($argument:ident: $type:ty),* $(,)?) -> $answer:ty, $body:block) => {
+        |$($argument: $type),*| -> $answer { $body }
+    };
+}
+
+/// Adds to `$slips` a model for each wrong body of one rule.
+macro_rules! replace_rule {
+    ($slips:ident, $rules:ident, $rule:ident
+     ($($argument:ident: $type:ty),* $(,)?) -> $answer:ty, [$($slip:tt)*]) => {{
+        #[derive(Clone, Copy)]
+        struct Replaced(fn($($type),*) -> $answer);
+
+        impl $rules for Replaced {
+            fn $rule(self, $($argument: $type),*) -> $answer {
+                (self.0)($($argument),*)
+            }
+        }
+
+        paper_otherwise!($rules for Replaced);
+
+        let wrong_rules: &[(&str, fn($($type),*) -> $answer)] = &[$($slip)*];
+        for &(text, wrong_rule) in wrong_rules {
+            $slips.push((text.to_owned(), Box::new(Replaced(wrong_rule))));
+        }
+    }};
+}
+
+/// Gives all the errors of one trait: for each rule its head, and its wrong
+/// bodies under their descriptions.
+macro_rules! slips {
+    ($rules:ident; $(
+        $rule:ident $arguments:tt -> $answer:ty { $($text:literal => $body:block)* }
+    )*) => {
+        #[allow(unused_variables)]
+        pub fn slips() -> Vec<Slip> {
+            let mut slips: Vec<Slip> = Vec::new();
+            $(
+                replace_rule!(
+                    slips, $rules, $rule $arguments -> $answer,
+                    [$(($text, function!($arguments -> $answer, $body)),)*]
+                );
+            )*
+            slips
+        }
+    };
+}
+
+mod calls;
+mod descriptors;
+mod images;
+mod registers;
+mod steps;
+mod windows;
+
+/// An error under its description.
+pub type Slip = (String, Box<dyn Party>);
+
+/// All deliberate errors.
+pub fn all() -> Vec<Slip> {
+    [
+        windows::slips(),
+        registers::slips(),
+        descriptors::slips(),
+        steps::slips(),
+        images::slips(),
+        calls::slips(),
+        overlooked_rules(),
+    ]
+    .into_iter()
+    .flatten()
+    .collect()
+}
+
+/// The error of not looking at one image rule.
+#[derive(Clone, Copy)]
+struct Overlooks(ImageRule);
+
+impl Images for Overlooks {
+    fn overlooks(self, rule: ImageRule) -> bool {
+        self.0 == rule
+    }
+}
+
+paper_otherwise!(Images for Overlooks);
+
+/// One error for every rule that an image can break without breaking another.
+fn overlooked_rules() -> Vec<Slip> {
+    let mut rules = ImageRule::ALL.to_vec();
+    rules.retain(|rule| rule.can_break_alone());
+    let overlook = |rule| -> Slip {
+        let text = format!("the image rule {rule:?} is overlooked");
+        (text, Box::new(Overlooks(rule)))
+    };
+    rules.into_iter().map(overlook).collect()
+}
