@@ -1,2 +1,4 @@
 pub mod Numbers
 pub mod RoundTrip
+pub mod Kept
+pub mod ByParts
