@@ -1,8 +1,8 @@
 -- The image rules, as what they ask of a machine's parts: of each phase what it needs, and of the rest the same in all phases.
 -- Assumes nothing.
 use Prim.Native.Nat.{_%_, _≤_, _<_}
-use mathlib.Core.Path.{_≡_}
-use mathlib.Core.Bool.{Bool, true, false, _||_}
+use mathlib.Core.Path.{_≡_, refl}
+use mathlib.Core.Bool.{Bool, true, false, cond, _||_}
 use Rattle.bus.specs.declared.Window.{Window}
 use Rattle.bus.specs.Window.{keepsLimits, inWindow}
 use Rattle.descriptor.specs.Layout.{owned}
@@ -69,3 +69,8 @@ pub moves-to : {m : Machine} → Kept m → (p : Phase) (busy : Bool) → InPhas
     → Kept (withPhase p (withBusy busy m))
 moves-to k p busy h =
     record { limits = k .limits; marks = k .marks; control = k .control; pointer = k .pointer; count = k .count; phase = h }
+
+-- what holds either way of a test holds of the choice
+pub on {ℓ} : {A : Type ℓ} (P : A → Type 0) (b : Bool) {x y : A} → (b ≡ true → P x) → (b ≡ false → P y) → P (cond b x y)
+on P true f g = f refl
+on P false f g = g refl

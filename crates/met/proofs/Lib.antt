@@ -2,3 +2,4 @@ pub mod Numbers
 pub mod RoundTrip
 pub mod Kept
 pub mod ByParts
+pub mod Writes
