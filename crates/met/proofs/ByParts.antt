@@ -1,0 +1,274 @@
+-- A machine is sound exactly where its parts are kept.
+-- Assumes nothing.
+use Prim.Native.Nat.{ℕ, _≤_, _<_}
+use mathlib.Core.Path.{_≡_, refl, sym, ap, _∙_}
+use mathlib.Core.Bool.{Bool, true, false, not, cond, _&&_, _||_, or-true, or-comm}
+use native.Mathlib.Omega.{arith}
+use lib.Dec.{eqb}
+use borrow.Author.Tests.{eq-eqb, ne-eqb, lt-ltb, le-leb, eqb-true, not-true, not-false}
+use Rattle.bus.specs.declared.Window.{Window}
+use Rattle.image.specs.Rules as rule
+use Rattle.image.specs.Rules.{_⇒_, _exactly_, between, either, lowestBroken}
+use Rattle.image.proofs.Tests.{both}
+use Rattle.image.proofs.EachRule.{Each, each-rule, each-keeps}
+use Rattle.image.proofs.Facts as fact
+use Rattle.image.proofs.Fitting.{Typed}
+use Rattle.image.proofs.Answers.{keeps, kept-none}
+use Rattle.machine.specs.declared.Machine.{Machine}
+use Rattle.machine.specs.declared.Mode.{Mode}
+use Rattle.machine.specs.declared.Mode.the-variants.{MemoryToMemory, MemoryToStream, StreamToMemory}
+use Rattle.machine.specs.declared.Status.{Status}
+use Rattle.machine.specs.declared.Work.{Work}
+use Rattle.machine.specs.declared.Phase.{Phase}
+use Rattle.machine.specs.declared.Phase.the-variants.{Rest, Fetch, Move, WriteBack, Ended, Halted, Faulted}
+use Rattle.machine.specs.State.{modeNumber, phaseNumber, statusNumber, run, swReset, withPhase}
+use Rattle.machine.specs.Saved.{none, inHand, faultIn, fieldsOf}
+use Rattle.machine.specs.Step.{wantsLength}
+use Rattle.met.specs.Sound.{Sound}
+use Rattle.met.proofs.Numbers.{status-lt-32, error-bit, eop-bit, busy-bit}
+use Rattle.met.proofs.Kept.{Hand, Moving, Moved, InPhase, Kept}
+
+-- ---- tests from facts
+
+if-so : (a b : Bool) → (a ≡ true → b ≡ true) → (a ⇒ b) ≡ true
+if-so true b h = h refl
+if-so false b h = refl
+
+unless : (a b : Bool) → (a ≡ false → b ≡ true) → (a || b) ≡ true
+unless true b h = refl
+unless false b h = h refl
+
+alike : (a b : Bool) → a ≡ b → (a exactly b) ≡ true
+alike true true e = refl
+alike true false e = sym e
+alike false true e = e
+alike false false e = refl
+
+-- ---- modes 0 and 1 are those that want a length
+
+reads : (mode : Mode) → either 0 1 (modeNumber mode) ≡ wantsLength mode
+reads MemoryToMemory = refl
+reads MemoryToStream = refl
+reads StreamToMemory = refl
+
+streams : (mode : Mode) → eqb (modeNumber mode) 2 ≡ not (wantsLength mode)
+streams MemoryToMemory = refl
+streams MemoryToStream = refl
+streams StreamToMemory = refl
+
+mode-le : (mode : Mode) → modeNumber mode ≤ 2
+mode-le MemoryToMemory = omega arith
+mode-le MemoryToStream = omega arith
+mode-le StreamToMemory = omega arith
+
+-- ---- the rules from the parts
+
+status-rule : (mode : Mode) (n : ℕ) (s : Status) → s .busy ≡ between 1 4 n
+    → (wantsLength mode ≡ true → (s .error || s .eop) ≡ false) → rule.statusKept (modeNumber mode) n (statusNumber s) ≡ true
+status-rule mode n s b h =
+    both (both (lt-ltb _ _ (status-lt-32 s)) (alike _ _ (busy-bit s ∙ b)))
+    (rw (error-bit s, eop-bit s, streams mode) (unless _ _ (λ r. ap not (h (not-false _ r)))))
+
+-- the rules of the descriptor in hand, at a phase's number
+record HandRules (mode : Mode) (w : Window) (n : ℕ) (k : Work) : Type 0 where
+  address : rule.addressKept (rule.inHand n) (w .base) (w .length) (k .at) ≡ true
+  source : rule.zeroOutside (rule.inHand n) (k .source) ≡ true
+  destination : rule.zeroOutside (rule.inHand n) (k .destination) ≡ true
+  size : rule.sizeKept (modeNumber mode) (rule.inHand n) (k .length) ≡ true
+  dcontrol : rule.dcontrolKept (rule.inHand n) (k .control .0) ≡ true
+  errors : rule.errorsKept (modeNumber mode) (rule.inHand n) (k .errors) ≡ true
+  moved : rule.movedKept n (rule.asked (modeNumber mode) (k .length)) (k .errors) (k .moved) ≡ true
+  eop : rule.eopKept (modeNumber mode) n (rule.asked (modeNumber mode) (k .length)) (k .moved) (k .eop) ≡ true
+
+module _ (mode : Mode) (w : Window) (n : ℕ) where
+  -- no descriptor in hand
+  no-hand : rule.inMove n ≡ false → rule.inWriteBack n ≡ false → HandRules mode w n none
+  no-hand a b =
+      record {
+        address = rw (a, b);
+        source = rw (a, b);
+        destination = rw (a, b);
+        size = rw (a, b);
+        dcontrol = rw (a, b);
+        errors = rw (a, b, or-true (not (either 0 1 (modeNumber mode))));
+        moved = rw (a, b);
+        eop = rw (a, b, or-true (not (either 0 1 (modeNumber mode))));
+      }
+
+  in-hand : (k : Work) → rule.inHand n ≡ true → Hand mode w k
+      → rule.movedKept n (rule.asked (modeNumber mode) (k .length)) (k .errors) (k .moved) ≡ true
+      → rule.eopKept (modeNumber mode) n (rule.asked (modeNumber mode) (k .length)) (k .moved) (k .eop) ≡ true
+      → HandRules mode w n k
+  in-hand k h d moved eop =
+      record {
+        address = rw h (both (eq-eqb _ _ (d .aligned)) (d .inside));
+        source = rw h;
+        destination = rw h;
+        size = rw (h, reads mode) (if-so _ _ (λ r. ap not (ne-eqb _ _ (d .nonzero r))));
+        dcontrol = rw h (d .hardware);
+        errors = rw (h, reads mode) (both (if-so _ _ (λ r. eq-eqb _ _ (d .clean r))) (lt-ltb _ _ (d .low)));
+        moved = moved;
+        eop = eop;
+      }
+
+-- what was moved, and EOP seen
+module _ (mode : Mode) (w : Window) (k : Work) (h : Hand mode w k) where
+  abbrev all : ℕ
+  all = rule.asked (modeNumber mode) (k .length)
+
+  move-rule : Moving mode k → (rule.movedKept 2 all (k .errors) (k .moved) ≡ true) × (rule.eopKept (modeNumber mode) 2 all (k .moved) (k .eop) ≡ true)
+  move-rule g = (
+    both (both (lt-ltb _ _ (g .less)) (if-so _ _ (λ z. eq-eqb _ _ (g .errors (eqb-true _ _ z))))) refl,
+    rw (g .eop, or-true (not (either 0 1 (modeNumber mode)))),
+  )
+
+  back-rule : Moved mode k → (rule.movedKept 3 all (k .errors) (k .moved) ≡ true) × (rule.eopKept (modeNumber mode) 3 all (k .moved) (k .eop) ≡ true)
+  back-rule g =
+      let none : (either 0 1 (modeNumber mode) ⇒ not (k .eop)) ≡ true = rw (reads mode) (if-so _ _ (λ r. ap not (h .noEop r))) in
+      (both (le-leb _ _ (g .some)) (le-leb _ _ (g .most)), both (both none refl) (or-comm (eqb (k .moved) all) (k .eop) ∙ unless _ _ (λ z. eq-eqb _ _ (g .whole z))))
+
+-- ---- from the parts to the rules
+
+-- at a phase
+module _ (m : Machine) (p : Phase) (k : Kept m) where
+  abbrev at : ℕ
+  at = phaseNumber p
+
+  each-at : rule.phaseKept (modeNumber (m .mode)) at ≡ true → rule.faultKept (modeNumber (m .mode)) at (faultIn p .code) ≡ true
+      → m .status .busy ≡ between 1 4 at → (rule.inEnded at || rule.inHalted at ⇒ run (m .control)) ≡ true
+      → HandRules (m .mode) (m .window) at (inHand p) → (rule._outside_ (eqb (faultIn p .address) 0) (rule.inFaulted at)) ≡ true
+      → Each (fieldsOf (withPhase p m))
+  each-at phase fault busy runs hand faultat =
+      record {
+        edition = refl;
+        mode = le-leb _ _ (mode-le (m .mode));
+        phase = phase;
+        fault = fault;
+        status = status-rule (m .mode) at (m .status) busy (k .marks);
+        count = le-leb _ _ (k .count);
+        control = both (both (lt-ltb _ _ (k .control)) (alike (swReset (m .control)) _ refl)) runs;
+        window = k .limits;
+        address = hand .address;
+        source = hand .source;
+        destination = hand .destination;
+        size = hand .size;
+        dcontrol = hand .dcontrol;
+        errors = hand .errors;
+        moved = hand .moved;
+        eop = hand .eop;
+        rest = refl;
+        faultat = faultat;
+      }
+
+each-in : (m : Machine) (p : Phase) → Kept m → InPhase (m .mode) (m .window) (m .status .busy) (run (m .control)) p
+    → Each (fieldsOf (withPhase p m))
+each-in m Rest k h = each-at m Rest k refl refl h refl (no-hand (m .mode) (m .window) 0 refl refl) refl
+each-in m Fetch k h = each-at m Fetch k refl refl h refl (no-hand (m .mode) (m .window) 1 refl refl) refl
+each-in m (Move w) k (b, h, g) =
+    let r = move-rule (m .mode) (m .window) w h g in
+    each-at m (Move w) k refl refl b refl (in-hand (m .mode) (m .window) 2 w refl h (r .0) (r .1)) refl
+each-in m (WriteBack w) k (b, h, g) =
+    let r = back-rule (m .mode) (m .window) w h g in
+    each-at m (WriteBack w) k refl refl b refl (in-hand (m .mode) (m .window) 3 w refl h (r .0) (r .1)) refl
+each-in m Ended k (b, r) = each-at m Ended k refl refl b r (no-hand (m .mode) (m .window) 4 refl refl) refl
+each-in m Halted k (b, r, s) =
+    each-at m Halted k (streams (m .mode) ∙ ap not s) refl b r (no-hand (m .mode) (m .window) 5 refl refl) refl
+each-in m (Faulted f) k (b, c, a) =
+    each-at m (Faulted f) k refl (both c refl) b refl (no-hand (m .mode) (m .window) 6 refl refl) refl
+
+-- L is a number of 16 bits
+pub asked-lt : (mode n : ℕ) → n < 65536 → rule.asked mode n < 65536
+asked-lt mode n h = pick (eqb mode 2 && eqb n 0)
+  where
+    pick : (b : Bool) → cond b 65535 n < 65536
+    pick true = omega arith
+    pick false = h
+
+typed-in : (m : Machine) (p : Phase) → Kept m → InPhase (m .mode) (m .window) (m .status .busy) (run (m .control)) p
+    → Typed (fieldsOf (withPhase p m))
+typed-in m Rest k h = let a = k .pointer in omega arith
+typed-in m Fetch k h = let a = k .pointer in omega arith
+typed-in m (Move w) k (b, h, g) =
+    let a = k .pointer in
+    let l = asked-lt (modeNumber (m .mode)) (w .length) (h .length) in
+    omega arith
+typed-in m (WriteBack w) k (b, h, g) =
+    let a = k .pointer in
+    let l = asked-lt (modeNumber (m .mode)) (w .length) (h .length) in
+    omega arith
+typed-in m Ended k h = let a = k .pointer in omega arith
+typed-in m Halted k h = let a = k .pointer in omega arith
+typed-in m (Faulted f) k (b, c, h) = let a = k .pointer in omega arith
+
+pub kept-sound : {m : Machine} → Kept m → Sound m
+kept-sound {m} k =
+    record {
+      rules = keeps (fieldsOf m) (each-keeps (fieldsOf m) (each-in m (m .phase) k (k .phase)));
+      typed = typed-in m (m .phase) k (k .phase);
+    }
+
+-- ---- from the rules to the parts
+
+module _ (m : Machine) (p : Phase) (e : lowestBroken (fieldsOf (withPhase p m)) ≡ 0) (t : Typed (fieldsOf (withPhase p m))) where
+  busy-in : m .status .busy ≡ between 1 4 (phaseNumber p)
+  busy-in = sym (busy-bit (m .status)) ∙ fact.busy-is (fieldsOf (withPhase p m)) e
+
+  hand-in : rule.inHand (phaseNumber p) ≡ true → Hand (m .mode) (m .window) (inHand p)
+  hand-in h =
+      let f = fieldsOf (withPhase p m) in
+      record {
+        aligned = fact.address-aligned f e h;
+        inside = fact.address-inside f e h;
+        hardware = fact.dcontrol-owned f e h;
+        low = fact.errors-lt f e;
+        nonzero = λ r. fact.memory-size f e (reads (m .mode) ∙ r) h;
+        clean = λ r. fact.memory-errors f e (reads (m .mode) ∙ r);
+        noEop = λ r. fact.memory-eop f e (reads (m .mode) ∙ r);
+        at = t .address;
+        source = t .source;
+        destination = t .destination;
+        length = t .size;
+        control = t .dcontrol;
+      }
+
+in-phase : (m : Machine) (p : Phase) → lowestBroken (fieldsOf (withPhase p m)) ≡ 0 → Typed (fieldsOf (withPhase p m))
+    → InPhase (m .mode) (m .window) (m .status .busy) (run (m .control)) p
+in-phase m Rest e t = busy-in m Rest e t
+in-phase m Fetch e t = busy-in m Fetch e t
+in-phase m (Move k) e t =
+    let f = fieldsOf (withPhase (Move k) m) in (
+      busy-in m (Move k) e t,
+      hand-in m (Move k) e t refl,
+      record { less = fact.move-lt f e refl; eop = fact.move-eop f e refl; errors = fact.move-errors f e refl },
+    )
+in-phase m (WriteBack k) e t =
+    let f = fieldsOf (withPhase (WriteBack k) m) in (
+      busy-in m (WriteBack k) e t,
+      hand-in m (WriteBack k) e t refl,
+      record {
+        some = fact.back-ge f e refl;
+        most = fact.back-le f e refl;
+        whole = fact.back-whole f e refl;
+      },
+    )
+in-phase m Ended e t = (busy-in m Ended e t, fact.run-set (fieldsOf (withPhase Ended m)) e refl)
+in-phase m Halted e t = (
+  busy-in m Halted e t,
+  fact.run-set (fieldsOf (withPhase Halted m)) e refl,
+  not-true _ (sym (streams (m .mode)) ∙ eq-eqb _ _ (fact.halted-mode (fieldsOf (withPhase Halted m)) e refl)),
+)
+in-phase m (Faulted f) e t =
+    (busy-in m (Faulted f) e t, fact.fault-code (fieldsOf (withPhase (Faulted f) m)) e refl, t .faultat)
+
+pub sound-kept : {m : Machine} → Sound m → Kept m
+sound-kept {m} s =
+    let f = fieldsOf m in
+    let e = kept-none f (s .rules) in
+    record {
+      limits = each-rule f e .window;
+      marks = λ r. rw (error-bit (m .status), eop-bit (m .status)) at (fact.no-marks f e (streams (m .mode) ∙ ap not r));
+      control = fact.control-lt f e;
+      pointer = s .typed .pointer;
+      count = fact.count-le f e;
+      phase = in-phase m (m .phase) e (s .typed);
+    }

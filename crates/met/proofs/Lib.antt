@@ -1,0 +1,5 @@
+pub mod Numbers
+pub mod RoundTrip
+pub mod Kept
+pub mod ByParts
+pub mod Writes
