@@ -82,6 +82,24 @@ pub register-read-unique : {xs value ys zs : List ℕ} {offset r s : ℕ}
     → RegisterRead xs offset value r ys → RegisterRead xs offset value s zs → (r ≡ s) × (ys ≡ zs)
 register-read-unique p q = (p .number ∙ sym (q .number), p .value-after ∙ sym (q .value-after))
 
+-- ---- sgdma_write_register: 7, 8, 1
+
+abbrev pub writtenIn : LoadedMachine → (offset v : ℕ) → WroteRegister
+writtenIn (loaded.Good m) offset v = writeOf m offset v
+writtenIn (loaded.Refused why) offset v = wrote.Refused why
+
+abbrev pub writtenOver : WroteRegister → List ℕ → List ℕ
+writtenOver (wrote.Done n) xs = imageOf n
+writtenOver (wrote.Refused why) xs = xs
+
+pub record RegisterWritten (xs : List ℕ) (offset v : ℕ) (r : ℕ) (xs' : List ℕ) : Type 0 where
+  pub number : r ≡ wroteNumber (writtenIn (loadOf xs) offset v)
+  pub image-after : xs' ≡ writtenOver (writtenIn (loadOf xs) offset v) xs
+
+pub register-written-unique : {xs ys zs : List ℕ} {offset v r s : ℕ}
+    → RegisterWritten xs offset v r ys → RegisterWritten xs offset v s zs → (r ≡ s) × (ys ≡ zs)
+register-written-unique p q = (p .number ∙ sym (q .number), p .image-after ∙ sym (q .image-after))
+
 -- ---- sgdma_line: 7, 8; the value is 1 where the line is up, else 0
 
 abbrev pub lineIn : LoadedMachine → Line

@@ -3,20 +3,27 @@
 ghost use mathlib.Core.List.{[]};
 ghost use mathlib.Core.Path.{_≡_};
 ghost use lib.ListN.{length};
+ghost use mathlib.Core.Bool.{true};
 ghost use Rattle.words.specs.Promise.{Leaves};
 ghost use Rattle.descriptor.specs.declared.ReadDescriptor.the-variants.{Good};
-ghost use Rattle.sgdma.specs.Calls.{RegisterRead, LineRead, DescriptorBuilt, DescriptorRead, answerOver};
+ghost use Rattle.machine.specs.Saved.{keeps};
+ghost use Rattle.sgdma.specs.Calls.{imageOf, Created, RegisterWritten, RegisterRead, LineRead, DescriptorBuilt, DescriptorRead, answerOver};
 use bus::BusAddress;
+use bus::CheckedWindow;
 use bus::Refusal;
+use bus::Window;
 use descriptor::BuiltDescriptor;
 use descriptor::DescControl;
 use descriptor::Descriptor;
 use descriptor::Job;
 use descriptor::ReadDescriptor;
+use machine::CheckedMode;
 use machine::LoadedMachine;
 use machine::Machine;
+use machine::Mode;
 use machine::registers::Line;
 use machine::registers::ReadRegister;
+use machine::registers::WroteRegister;
 use words::Order;
 use words::put_u16;
 use words::put_u32;
@@ -28,6 +35,54 @@ const IMAGE: usize = 44;
 const VALUE: usize = 4;
 
 const DESCRIPTOR: usize = 18;
+
+// Writes the image of a machine that keeps the rules.
+fn put_image(m: Machine, image: &mut [u8])
+    requires { ⌜ keeps m ≡ true ⌝ }
+    requires { ⌜ length (now image) ≡ 44 ⌝ }
+    ensures { λ _. ⌜ Leaves (imageOf m) (now (image .exit)) ⌝ }
+{
+    m.save(image);
+}
+
+// Makes the image of a fresh core.
+#[no_mangle]
+pub extern "C" fn sgdma_create(image: &mut [u8], mode: u32, base: u64, length: u64) -> u32
+    ensures { λ r. ⌜ Created (now (image .entry)) mode base length r (now (image .exit)) ⌝ }
+{
+    if image.len() != IMAGE {
+        return Refusal::BadSize.number();
+    }
+    let CheckedMode::Good(mode) = Mode::checked(mode) else {
+        return Refusal::BadMode.number();
+    };
+    let CheckedWindow::Good(window) = Window::checked(base, length) else {
+        return Refusal::BadWindow.number();
+    };
+    put_image(Machine::fresh(mode, window), image);
+    0
+}
+
+// Writes the register at `offset`.
+#[no_mangle]
+pub extern "C" fn sgdma_write_register(image: &mut [u8], offset: u32, value: u32) -> u32
+    ensures { λ r. ⌜ RegisterWritten (now (image .entry)) offset value r (now (image .exit)) ⌝ }
+{
+    if image.len() != IMAGE {
+        return Refusal::BadSize.number();
+    }
+    let LoadedMachine::Good(m) = Machine::load(image) else {
+        return Refusal::BadImage.number();
+    };
+    let written = m.write_register(offset, value);
+    match written {
+        WroteRegister::Refused(why) => why.number(),
+        WroteRegister::Done(n) => {
+            put_image(n, image);
+            0
+        }
+    }
+}
 
 // Reads the register at `offset` into the four bytes of `value`.
 #[no_mangle]

@@ -1,0 +1,78 @@
+use Rattle.sgdma.proofs.Changed.{written-keeps, image-short, image-spoiled, write-answers}
+use mathlib.Core.Path.{_≡_, refl, sym, _∙_}
+use borrow.Author.Needs.{needs}
+use Rattle.sgdma.proofs.sgdma_write_register.Statement.{statement}
+use Rattle.sgdma.proofs.sgdma_write_register.Tie as tie
+
+number-requires : tie.Need-number-requires
+number-requires c κs = search needs
+
+returns : tie.Need-returns
+returns c = image-short (c .before .if1 .taken) (c .number .ensures .value) refl
+
+load-requires : tie.Need-load-requires
+load-requires c κs = search needs
+
+enum-known-m : tie.Need-enum-known-m
+enum-known-m c = search needs
+
+enum-told : tie.Need-enum-told
+enum-told c = search needs
+
+number-requires-2 : tie.Need-number-requires-2
+number-requires-2 c κs = search needs
+
+same-length : tie.Need-same-length
+same-length c = search needs
+
+returns-2 : tie.Need-returns-2
+returns-2 c = image-spoiled (c .before .before .before .before .before .if1 .left) (sym (c .before .before .before .load .ensures .answer) ∙ c .before .enum-told .given .1) (c .number2 .ensures .value) refl
+
+write-register-requires : tie.Need-write-register-requires
+write-register-requires c κs = search needs
+
+enum-known-written : tie.Need-enum-known-written
+enum-known-written c = search needs
+
+number-requires-3 : tie.Need-number-requires-3
+number-requires-3 c κs = search needs
+
+enum-known-written-2 : tie.Need-enum-known-written-2
+enum-known-written-2 c = search needs
+
+put-image-requires : tie.Need-put-image-requires
+put-image-requires c κs = (written-keeps _ (sym (c .before .before .before .before .before .before .before .before .load .ensures .answer) ∙ c .before .before .before .before .before .before .m .given .1) (c .before .before .before .before .before .before .before .before .before .before .before .before .fits .value .fits) (c .before .before .before .before .write-register .ensures) (c .before .before .written2 .given .1), search needs)
+
+same-length-2 : tie.Need-same-length-2
+same-length-2 c = search needs
+
+returns-3 : tie.Need-returns-3
+returns-3 c = write-answers (sym (c .before .before .before .before .before .before .before .before .load .ensures .answer) ∙ c .before .before .before .before .before .before .m .given .1) (c .before .before .before .before .write-register .ensures) (c .before .before .written .given .1) (c .number3 .ensures .value) refl
+
+same-length-3 : tie.Need-same-length-3
+same-length-3 c = search needs
+
+returns-4 : tie.Need-returns-4
+returns-4 c = write-answers (sym (c .before .before .before .before .before .before .before .before .before .before .before .load .ensures .answer) ∙ c .before .before .before .before .before .before .before .before .before .m .given .1) (c .before .before .before .before .before .before .before .write-register .ensures) (c .before .before .before .before .before .written2 .given .1) refl (c .before .before .put-image .ensures .lent)
+
+pub sgdma-write-register-spec : {M : Type 1} → statement M
+sgdma-write-register-spec =
+    tie.close
+    (tie.spec
+    number-requires
+    returns
+    load-requires
+    enum-known-m
+    enum-told
+    number-requires-2
+    same-length
+    returns-2
+    write-register-requires
+    enum-known-written
+    number-requires-3
+    enum-known-written-2
+    put-image-requires
+    same-length-2
+    returns-3
+    same-length-3
+    returns-4)
