@@ -26,7 +26,7 @@ use Rattle.machine.specs.Saved.{none, inHand, faultIn, fieldsOf}
 use Rattle.machine.specs.Step.{wantsLength}
 use Rattle.met.specs.Sound.{Sound}
 use Rattle.met.proofs.Numbers.{status-lt-32, error-bit, eop-bit, busy-bit}
-use Rattle.met.proofs.Kept.{Hand, Moving, Moved, InPhase, Kept}
+use Rattle.met.proofs.Kept.{Hand, Moving, Moved, Suits, Kept}
 
 -- ---- tests from facts
 
@@ -160,7 +160,7 @@ module _ (m : Machine) (p : Phase) (k : Kept m) where
         faultat = faultat;
       }
 
-each-in : (m : Machine) (p : Phase) → Kept m → InPhase (m .mode) (m .window) (m .status .busy) (run (m .control)) p
+each-in : (m : Machine) (p : Phase) → Kept m → Suits m p
     → Each (fieldsOf (withPhase p m))
 each-in m Rest k h = each-at m Rest k refl refl h refl (no-hand (m .mode) (m .window) 0 refl refl) refl
 each-in m Fetch k h = each-at m Fetch k refl refl h refl (no-hand (m .mode) (m .window) 1 refl refl) refl
@@ -184,7 +184,7 @@ asked-lt mode n h = pick (eqb mode 2 && eqb n 0)
     pick true = omega arith
     pick false = h
 
-typed-in : (m : Machine) (p : Phase) → Kept m → InPhase (m .mode) (m .window) (m .status .busy) (run (m .control)) p
+typed-in : (m : Machine) (p : Phase) → Kept m → Suits m p
     → Typed (fieldsOf (withPhase p m))
 typed-in m Rest k h = let a = k .pointer in omega arith
 typed-in m Fetch k h = let a = k .pointer in omega arith
@@ -232,7 +232,7 @@ module _ (m : Machine) (p : Phase) (e : lowestBroken (fieldsOf (withPhase p m)) 
       }
 
 in-phase : (m : Machine) (p : Phase) → lowestBroken (fieldsOf (withPhase p m)) ≡ 0 → Typed (fieldsOf (withPhase p m))
-    → InPhase (m .mode) (m .window) (m .status .busy) (run (m .control)) p
+    → Suits m p
 in-phase m Rest e t = busy-in m Rest e t
 in-phase m Fetch e t = busy-in m Fetch e t
 in-phase m (Move k) e t =

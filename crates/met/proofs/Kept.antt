@@ -2,7 +2,7 @@
 -- Assumes nothing.
 use Prim.Native.Nat.{_%_, _≤_, _<_}
 use mathlib.Core.Path.{_≡_, refl}
-use mathlib.Core.Bool.{Bool, true, false, cond, _||_}
+use mathlib.Core.Bool.{Bool, true, false, cond, _||_, true≢false}
 use Rattle.bus.specs.declared.Window.{Window}
 use Rattle.bus.specs.Window.{keepsLimits, inWindow}
 use Rattle.descriptor.specs.Layout.{owned}
@@ -56,13 +56,17 @@ InPhase mode w busy run Halted = (busy ≡ false) × (run ≡ true) × (wantsLen
 InPhase mode w busy run (Faulted f) =
     (busy ≡ false) × (faultCode (modeNumber mode) (f .code) ≡ true) × (f .address < 4294967296)
 
+-- the machine's mode, window, BUSY and RUN suit the phase
+abbrev pub Suits : Machine → Phase → Type 0
+Suits m p = InPhase (m .mode) (m .window) (m .status .busy) (run (m .control)) p
+
 pub record Kept (m : Machine) : Type 0 where
   pub limits : keepsLimits (m .window .base) (m .window .length) ≡ true
   pub marks : wantsLength (m .mode) ≡ true → (m .status .error || m .status .eop) ≡ false
   pub control : m .control .0 < 262144
   pub pointer : m .pointer .0 < 4294967296
   pub count : m .count ≤ 254
-  pub phase : InPhase (m .mode) (m .window) (m .status .busy) (run (m .control)) (m .phase)
+  pub phase : Suits m (m .phase)
 
 -- where only the phase and BUSY change, only what the phase asks is to be shown again
 pub moves-to : {m : Machine} → Kept m → (p : Phase) (busy : Bool) → InPhase (m .mode) (m .window) busy (run (m .control)) p
@@ -74,3 +78,7 @@ moves-to k p busy h =
 pub on {ℓ} : {A : Type ℓ} (P : A → Type 0) (b : Bool) {x y : A} → (b ≡ true → P x) → (b ≡ false → P y) → P (cond b x y)
 on P true f g = f refl
 on P false f g = g refl
+
+pub neither : (a b : Bool) → (a || b) ≡ false → (a ≡ false) × (b ≡ false)
+neither false b e = (refl, e)
+neither true b e = absurd (true≢false e)

@@ -3,3 +3,10 @@ pub mod RoundTrip
 pub mod Kept
 pub mod ByParts
 pub mod Writes
+pub mod Memory
+pub mod Worlds
+pub mod AtFetch
+pub mod AtMove
+pub mod AtWriteBack
+pub mod Steps
+pub mod InUse

@@ -2,7 +2,7 @@
 -- Assumes nothing.
 use Prim.Native.Nat.{ℕ, _/_, _%_, _^_, _≤_, _<_}
 use mathlib.Core.Path.{_≡_, refl, sym, ap, subst, _∙_}
-use mathlib.Core.Bool.{Bool, true, false, not, cond, _&&_, _||_, true≢false}
+use mathlib.Core.Bool.{Bool, true, false, not, cond, _&&_, _||_}
 use native.Mathlib.Nat.{mod-lt}
 use native.Mathlib.Omega.{arith}
 use lib.Dec.{eqb}
@@ -19,7 +19,7 @@ use Rattle.machine.specs.State.{run, swReset, withPointer, withPhase, withBusy,
 use Rattle.machine.specs.Saved.{keeps}
 use Rattle.machine.specs.Registers.{statusWritten, stored, released, controlWritten, writeOf, WasWritten}
 use Rattle.met.specs.Sound.{Sound}
-use Rattle.met.proofs.Kept.{InPhase, Kept, on}
+use Rattle.met.proofs.Kept.{InPhase, Suits, Kept, on, neither}
 use Rattle.met.proofs.ByParts.{kept-sound, sound-kept}
 
 fresh-kept : (mode : Mode) (w : Window) → keepsLimits (w .base) (w .length) ≡ true → Kept (fresh mode w)
@@ -32,9 +32,7 @@ fresh-keeps mode w l = kept-sound (fresh-kept mode w l)
 
 -- clearing leaves no mark where there was none
 cleared : (a b c d : Bool) → (a || b) ≡ false → (a && c || b && d) ≡ false
-cleared false false c d e = refl
-cleared false true c d e = absurd (true≢false e)
-cleared true b c d e = absurd (true≢false e)
+cleared a b c d e = rw (neither a b e .0, neither a b e .1)
 
 -- RUN 1 serves every phase
 runs-in : (mode : Mode) (w : Window) (busy run : Bool) (p : Phase) → InPhase mode w busy run p → InPhase mode w busy true p
@@ -94,7 +92,7 @@ module _ (v : ℕ) {m : Machine} (k : Kept m) where
       stored-as (m .phase) (m .status .busy)
       (subst (λ (b : Bool). InPhase (m .mode) (m .window) (m .status .busy) b (m .phase)) (sym (run-stored v ∙ e)) h)
 
-  released-kept : (p : Phase) → InPhase (m .mode) (m .window) (m .status .busy) (run (m .control)) p → Kept (released p (withPhase p (stored v m)))
+  released-kept : (p : Phase) → Suits m p → Kept (released p (withPhase p (stored v m)))
   released-kept Rest h = stored-as Rest (m .status .busy) h
   released-kept Fetch h = stored-as Fetch (m .status .busy) h
   released-kept (Move d) h = stored-as (Move d) (m .status .busy) h

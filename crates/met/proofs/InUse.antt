@@ -1,0 +1,108 @@
+-- Every machine met in use keeps the image rules, hence saves to an image that loads back as it.
+-- Assumes nothing.
+use Prim.Native.Nat.{ℕ}
+use mathlib.Core.Path.{_≡_, refl, sym, subst}
+use mathlib.Core.Bool.{true, _&&_}
+use mathlib.Core.List.{List, [], _∷_}
+use native.Mathlib.Omega.{arith}
+use lib.ListN.{length}
+use lib.Dec.{eqb}
+use borrow.Author.Tests.{eqb-true}
+use Rattle.words.proofs.Bytes.{AllBytes}
+use Rattle.machine.specs.declared.Machine.{Machine}
+use Rattle.machine.specs.declared.Progress.{Progress}
+use Rattle.machine.specs.declared.Ran.{Ran}
+use Rattle.machine.specs.declared.StepAnswer.{StepAnswer}
+use Rattle.machine.specs.declared.StepAnswer.the-variants as one
+use Rattle.machine.specs.declared.RunAnswer.{RunAnswer}
+use Rattle.machine.specs.declared.RunAnswer.the-variants as many
+use Rattle.machine.specs.declared.SavedMachine.{SavedMachine}
+use Rattle.machine.specs.declared.SavedMachine.the-variants.{Done}
+use Rattle.machine.specs.declared.LoadedMachine.{LoadedMachine}
+use Rattle.machine.specs.declared.LoadedMachine.the-variants.{Good}
+use Rattle.machine.specs.Saved.{keeps, WasLoaded, WasSaved}
+use Rattle.machine.specs.Beats.{beatsIn}
+use Rattle.machine.specs.Step.{World, Answer, taken, stopped, step}
+use Rattle.machine.specs.Run.{Lent, serves, refused, even, lentOf, worldOf, steppedAs, stepAnswer, runAnswer, Stepped, HasRun}
+use Rattle.met.specs.Sound.{Sound, AllBeats, SoundWorld}
+use Rattle.met.specs.Met.{Met}
+use Rattle.met.specs.Met as met
+use Rattle.met.proofs.RoundTrip.{loaded-keeps, loaded-typed, loads-back}
+use Rattle.met.proofs.Writes.{fresh-keeps, write-keeps}
+use Rattle.met.proofs.Kept.{on}
+use Rattle.met.proofs.Steps.{step-keeps, run-keeps}
+
+-- ---- the world of a call
+
+beats-of : (xs : List ℕ) → AllBytes xs → AllBeats (beatsIn xs)
+beats-of [] g = tt
+beats-of (x ∷ []) g = tt
+beats-of (x ∷ y ∷ xs) g = (let a = g .0 in let b = g .1 .0 in omega arith, beats-of xs (g .1 .1))
+
+-- where what is lent serves, the world is sound
+abbrev IfServes : Type 0 → Lent → Type 0
+IfServes A serves = A
+IfServes A (refused why) = Unit {0}
+
+lent-sound : (m : Machine) (window beats out : List ℕ) → Sound m → AllBytes window → AllBytes beats
+    → IfServes (SoundWorld (worldOf m window beats out)) (lentOf m window beats out)
+unfolding lentOf
+lent-sound m window beats out s g b =
+    let P = IfServes (SoundWorld (worldOf m window beats out)) in
+    on P (keeps m)
+    (λ k. on P (even beats && even out)
+    (λ e. on P (eqb (length window) (m .window .length))
+    (λ l. record { machine = s; size = eqb-true _ _ l; memory = g; input = beats-of beats b }) (λ l. tt))
+    (λ e. tt))
+    (λ k. tt)
+
+-- ---- the machine that comes back
+
+abbrev SoundStep : StepAnswer → Type 0
+SoundStep (one.Taken p) = Sound (p .machine)
+SoundStep (one.Stopped r) = Unit {0}
+SoundStep (one.Refused why) = Unit {0}
+
+abbrev SoundRun : RunAnswer → Type 0
+SoundRun (many.Done r) = Sound (r .machine)
+SoundRun (many.Refused why) = Unit {0}
+
+module _ (w : World) where
+  answer-sound : SoundWorld w → (a : Answer) → step w ≡ a → SoundStep (steppedAs w a)
+  answer-sound s (taken v) e = step-keeps s e .machine
+  answer-sound s (stopped r) e = tt
+
+  step-sound : (l : Lent) → IfServes (SoundWorld w) l → SoundStep (stepAnswer l w)
+  step-sound serves s = answer-sound s (step w) refl
+  step-sound (refused why) s = tt
+
+  run-sound : (l : Lent) → IfServes (SoundWorld w) l → (budget : ℕ) → SoundRun (runAnswer l w budget)
+  run-sound serves s budget = run-keeps budget s .machine
+  run-sound (refused why) s budget = tt
+
+module _ {m : Machine} {window beats out window' out' : List ℕ} (s : Sound m) (g : AllBytes window) (b : AllBytes beats) where
+  stepped-keeps : {p : Progress} → Stepped m window beats out (one.Taken p) window' out' → Sound (p .machine)
+  stepped-keeps h =
+      subst SoundStep (sym (h .answer)) (step-sound (worldOf m window beats out) (lentOf m window beats out) (lent-sound m window beats out s g b))
+
+  ran-keeps : {budget : ℕ} {r : Ran} → HasRun m window beats out budget (many.Done r) window' out' → Sound (r .machine)
+  ran-keeps {budget} h =
+      subst SoundRun (sym (h .answer)) (run-sound (worldOf m window beats out) (lentOf m window beats out) (lent-sound m window beats out s g b) budget)
+
+-- ---- every machine met
+
+pub met-sound : {m : Machine} → Met m → Sound m
+met-sound (met.fresh mode w l) = fresh-keeps mode w l
+met-sound (met.loaded l) = record { rules = loaded-keeps l; typed = loaded-typed l }
+met-sound (met.written h v w) = write-keeps (met-sound h) v w
+met-sound (met.stepped h g b s) = stepped-keeps (met-sound h) g b s
+met-sound (met.ran h g b r) = ran-keeps (met-sound h) g b r
+
+-- Every machine met in use keeps the image rules.
+pub met-keeps : {m : Machine} → Met m → keeps m ≡ true
+met-keeps h = met-sound h .rules
+
+-- Hence it saves to an image that loads back as it.
+pub met-saves : {m : Machine} {ys zs : List ℕ} {r : SavedMachine} {s : LoadedMachine} → Met m → length ys ≡ 44
+    → WasSaved m ys r zs → WasLoaded zs s → (r ≡ Done) × (s ≡ Good m)
+met-saves h l p q = loads-back (met-sound h .typed) (met-keeps h) l p q
