@@ -2,6 +2,7 @@
 // comes back from it. (Altera, Embedded Peripherals, chapter 23, as the paper states it.)
 pub mod registers;
 pub mod saved;
+pub mod steps;
 
 ghost use mathlib.Core.Path.{_≡_};
 ghost use Prim.Native.Nat.{_<_};
