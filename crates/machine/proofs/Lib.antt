@@ -4,3 +4,4 @@ pub mod Offsets
 pub mod Places
 pub mod Streams
 pub mod Turning
+pub mod Readiness
