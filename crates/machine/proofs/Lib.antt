@@ -5,3 +5,5 @@ pub mod Places
 pub mod Streams
 pub mod Turning
 pub mod Readiness
+pub mod Waiting
+pub mod Outcomes

@@ -118,6 +118,14 @@ module _ (n : ℕ) (w : World) (k : Work) (s : w .machine .window .length ≡ n)
   move-stays MemoryToStream = send-stays
   move-stays StreamToMemory = receive-stays (w .input)
 
+whole-by : (b : Bool) (n : ℕ) → n ≤ 65535 → cond b 65535 n ≤ 65535
+whole-by true n h = omega arith
+whole-by false n h = h
+
+-- one byte more can be counted
+pub left-lt : (m : Machine) (k : Work) → k .length ≤ 65535 → k .moved < whole m k → k .moved < 65535
+left-lt m k h l = omega (arith, whole-by (eqb (modeNumber (m .mode)) 2 && eqb (k .length) 0) (k .length) h)
+
 -- ---- the others
 
 after-left : (m : Machine) (runs halts : Bool) → Left m (afterBack runs halts)

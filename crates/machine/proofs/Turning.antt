@@ -12,6 +12,7 @@ use Rattle.words.specs.Orders.{bytesOf}
 use Rattle.words.specs.Slices.{putAt}
 use Rattle.bus.specs.Window.{inWindow, placeOf}
 use Rattle.machine.specs.declared.Machine.{Machine}
+use Rattle.machine.specs.declared.Progress.{Progress}
 use Rattle.machine.specs.declared.Work.{Work}
 use Rattle.machine.specs.Beats.{beatsIn, beatBytes, beatError, beatEop, beatData}
 use Rattle.machine.specs.Step.{World, Answer, taken, sourceOf, destinationOf, onward, withByte, beatFor, sendStep, receiveFrom}
@@ -34,6 +35,13 @@ module _ (rule : World → Answer) (m m' : Machine) (window window' beats : List
   -- no beat taken either
   pub went-still : Still rule m window m' window' → Went rule m window beats took out made (progress m' took made) window' out
   went-still s = went-none took (λ o. s (drop took (beatsIn beats)) o (length out / 2 - made))
+
+-- a rule that says the same of the machine
+pub went-as : (other rule : World → Answer) {m : Machine} {window beats : List ℕ} {took : ℕ} {out : List ℕ} {made : ℕ} {r : Progress} {window' out' : List ℕ}
+    → ((memory input output : List ℕ) (room : ℕ) → rule (world m memory input output room) ≡ other (world m memory input output room))
+    → Went other m window beats took out made r window' out' → Went rule m window beats took out made r window' out'
+went-as other rule e g =
+    record { new = g .new; counted = g .counted; wrote = g .wrote; goes = λ o. e _ _ _ _ ∙ g .goes o }
 
 -- mode 1
 module _ (m : Machine) (k : Work) (window beats : List ℕ) (took : ℕ) (out : List ℕ) (made : ℕ) where

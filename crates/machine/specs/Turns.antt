@@ -5,6 +5,7 @@ use Prim.Native.Nat.{ℕ, zero, suc, _+_, _-_, _*_, _/_, _≤_, _<_}
 use mathlib.Core.Path.{_≡_}
 use mathlib.Core.Bool.{Bool, true, false}
 use mathlib.Core.List.{List, [], _∷_, _++_}
+use lib.Dec.{ltb}
 use lib.ListN.{length, drop}
 use Rattle.words.specs.Slices.{put}
 use Rattle.bus.specs.Window.{inWindow}
@@ -14,9 +15,12 @@ use Rattle.machine.specs.declared.Phase.{Phase}
 use Rattle.machine.specs.declared.Phase.the-variants.{Rest, Fetch, Move, WriteBack, Ended, Halted, Faulted}
 use Rattle.machine.specs.declared.steps.Wait.{Wait}
 use Rattle.machine.specs.declared.steps.Wait.the-variants.{Go, Stop}
+use Rattle.machine.specs.declared.steps.Lent as code
+use Rattle.machine.specs.declared.steps.Lent.the-variants as lent
 use Rattle.machine.specs.State.{withPhase, withBusy}
 use Rattle.machine.specs.Beats.{beatsIn, beatBytes}
 use Rattle.machine.specs.Step.{World, Answer, taken, stopped, step, whole}
+use Rattle.machine.specs.Run.{Lent, serves, refused}
 
 -- ---- worlds
 
@@ -44,6 +48,26 @@ waitOf (stopped r) = Stop r
 abbrev pub some : List ℕ → Bool
 some [] = false
 some (b ∷ bs) = true
+
+-- what a rule's waiting depends on: whether there is a beat, and whether there is room
+abbrev pub Waits : (World → Answer) → Machine → (more room : Bool) → Wait → Type 0
+Waits rule m more room r =
+    (memory input output : List ℕ) (left : ℕ) → more ≡ some input → room ≡ ltb 0 left → r ≡ waitOf (rule (world m memory input output left))
+
+-- a rule can be applied, in the middle of lent slices
+abbrev pub Goes : (World → Answer) → Machine → (window beats : List ℕ) (took : ℕ) (out : List ℕ) (made : ℕ) → Type 0
+Goes rule m window beats took out made = waitOf (rule (worldAt m window beats took [] (length out / 2 - made))) ≡ Go
+
+-- ---- what is lent
+
+abbrev pub lentAs : code.Lent → Lent
+lentAs lent.Serves = serves
+lentAs (lent.Refused why) = refused why
+
+-- no more beats are taken than there are, or made than there is room for
+pub record Within (beats out : List ℕ) (took made : ℕ) : Type 0 where
+  pub taken-in : took ≤ length beats / 2
+  pub made-in : made ≤ length out / 2
 
 -- ---- steps
 

@@ -9,9 +9,10 @@ ghost use Rattle.image.specs.Rules.{asked as askedOf};
 ghost use Rattle.machine.specs.State.{modeNumber, withPhase, withBusy, withPointer};
 ghost use Rattle.machine.specs.Beats.{beatsIn, outputBeat};
 ghost use Rattle.machine.specs.Step.{World, wantsLength, begun as begunOf, ended as endedOf, byteAddress, sourceOf, destinationOf, withByte, onward as onwardOf, beatFor, writtenControl, writtenBack, counted as countedOf, afterBack, completed as completedOf, taken as takenTo};
-ghost use Rattle.machine.specs.Step.{fetched as fetchedOf, fetchStep, copyStep, sendStep, receiveFrom, writeBackStep};
+ghost use Rattle.machine.specs.Step.{fetched as fetchedOf, fetchStep, copyStep, sendStep, receiveFrom, moveStep, writeBackStep, step as stepOf};
+ghost use Rattle.machine.specs.Run.{lentOf, Stepped};
 ghost use Rattle.machine.specs.declared.Phase.the-variants.{Fetch, Move};
-ghost use Rattle.machine.specs.Turns.{world, progress, inFault, Still, Went};
+ghost use Rattle.machine.specs.Turns.{world, progress, inFault, Waits, Goes, lentAs, Within, Still, Went, Ready};
 use crate::Control;
 use crate::Count;
 use crate::Fault;
@@ -21,10 +22,12 @@ use crate::Phase;
 use crate::Pointer;
 use crate::Progress;
 use crate::Reason;
+use crate::StepAnswer;
 use crate::Work;
 use crate::has;
 use bus::BusAddress;
 use bus::Located;
+use bus::Refusal;
 use descriptor::DescControl;
 use descriptor::Descriptor;
 use words::Order;
@@ -42,6 +45,12 @@ const EOP: u16 = 256;
 pub(crate) enum Wait {
     Go,
     Stop(Reason),
+}
+
+// Whether what is lent serves the machine, or the first refusal that applies.
+pub(crate) enum Lent {
+    Serves,
+    Refused(Refusal),
 }
 
 // Modes 0 and 1 take no length of 0.
@@ -444,5 +453,188 @@ impl Machine {
     {
         self.put_back(k, window);
         self.completed(k)
+    }
+}
+
+// Whether a step can be taken.
+impl Machine {
+    // Move: no room, no step, but 13 comes before that; no beat, no step.
+    fn move_wait(self, k: Work, more: bool, room: bool) -> Wait
+        ensures { λ r. ⌜ Waits (λ (w : World). moveStep (self .mode) w k) self more room r ⌝ }
+    {
+        let mode = self.mode;
+        match mode {
+            Mode::MemoryToMemory => Wait::Go,
+            Mode::MemoryToStream => {
+                if room {
+                    return Wait::Go;
+                }
+                let found = self.window.locate(k.read_address(), 1);
+                match found {
+                    Located::Outside => Wait::Go,
+                    Located::At(_) => Wait::Stop(Reason::OutputFull),
+                }
+            }
+            Mode::StreamToMemory => if more {
+                Wait::Go
+            } else {
+                Wait::Stop(Reason::NeedsInput)
+            },
+        }
+    }
+
+    // Where there is a beat to take, or not, and room for one, or not.
+    pub(crate) fn wait(self, more: bool, room: bool) -> Wait
+        ensures { λ r. ⌜ Waits stepOf self more room r ⌝ }
+    {
+        let phase = self.phase;
+        match phase {
+            Phase::Rest => if has(self.control.0, Control::RUN) {
+                Wait::Go
+            } else {
+                Wait::Stop(Reason::Rest)
+            },
+            Phase::Fetch => Wait::Go,
+            Phase::Move(k) => self.move_wait(k, more, room),
+            Phase::WriteBack(_) => Wait::Go,
+            Phase::Ended => Wait::Stop(Reason::Ended),
+            Phase::Halted => Wait::Stop(Reason::Halted),
+            Phase::Faulted(_) => Wait::Stop(Reason::Faulted),
+        }
+    }
+}
+
+// One step.
+impl Machine {
+    // Move, by the mode.
+    fn move_step(
+        self,
+        k: Work,
+        window: &mut [u8],
+        beats: &[u8],
+        taken: usize,
+        out: &mut [u8],
+        made: usize,
+    ) -> Progress
+        requires { ⌜ self .window .length ≡ length (now window) ⌝ }
+        requires { ⌜ k .moved < 65535 ⌝ }
+        requires { ⌜ Within (now beats) (now out) taken made ⌝ }
+        requires { ⌜ Goes (λ (w : World). moveStep (self .mode) w k) self (now window) (now beats) taken (now out) made ⌝ }
+        ensures { λ r. ⌜ Within (now (beats .entry)) (now (out .entry)) (r .taken) (r .made) ⌝ }
+        ensures { λ r. ⌜ Went (λ (w : World). moveStep (self .mode) w k) self (now (window .entry)) (now (beats .entry)) taken (now (out .entry)) made r (now (window .exit)) (now (out .exit)) ⌝ }
+    {
+        let mode = self.mode;
+        match mode {
+            Mode::MemoryToMemory => {
+                let machine = self.copy_step(k, window);
+                Progress {
+                    machine,
+                    taken,
+                    made,
+                }
+            }
+            Mode::MemoryToStream => {
+                let sent = self.send_step(k, window, out, made);
+                let machine = sent.machine;
+                Progress {
+                    machine,
+                    taken,
+                    made: sent.made,
+                }
+            }
+            Mode::StreamToMemory => {
+                let got = self.receive_step(k, window, beats, taken);
+                let machine = got.machine;
+                Progress {
+                    machine,
+                    taken: got.taken,
+                    made,
+                }
+            }
+        }
+    }
+
+    // The step that can be taken, where so many beats are taken and made already.
+    pub(crate) fn step_at(
+        self,
+        window: &mut [u8],
+        beats: &[u8],
+        taken: usize,
+        out: &mut [u8],
+        made: usize,
+    ) -> Progress
+        requires { ⌜ Ready self (length (now window)) ⌝ }
+        requires { ⌜ Within (now beats) (now out) taken made ⌝ }
+        requires { ⌜ Goes stepOf self (now window) (now beats) taken (now out) made ⌝ }
+        ensures { λ r. ⌜ Within (now (beats .entry)) (now (out .entry)) (r .taken) (r .made) ⌝ }
+        ensures { λ r. ⌜ Went stepOf self (now (window .entry)) (now (beats .entry)) taken (now (out .entry)) made r (now (window .exit)) (now (out .exit)) ⌝ }
+    {
+        let phase = self.phase;
+        match phase {
+            Phase::Rest => Progress {
+                machine: self.started(),
+                taken,
+                made,
+            },
+            Phase::Fetch => Progress {
+                machine: self.fetch_step(window),
+                taken,
+                made,
+            },
+            Phase::Move(k) => self.move_step(k, window, beats, taken, out, made),
+            Phase::WriteBack(k) => Progress {
+                machine: self.write_back_step(k, window),
+                taken,
+                made,
+            },
+            Phase::Ended => Progress {
+                machine: self,
+                taken,
+                made,
+            },
+            Phase::Halted => Progress {
+                machine: self,
+                taken,
+                made,
+            },
+            Phase::Faulted(_) => Progress {
+                machine: self,
+                taken,
+                made,
+            },
+        }
+    }
+
+    // 8 where the machine breaks a rule; 9 where beats, in or out, have an odd number of bytes; 4 where the window's length is
+    // not the machine's.
+    pub(crate) fn checked(self, window: &[u8], beats: &[u8], out: &[u8]) -> Lent
+        ensures { λ r. ⌜ lentAs r ≡ lentOf self (now (window .entry)) (now (beats .entry)) (now (out .entry)) ⌝ }
+    {
+        if !self.keeps() {
+            return Lent::Refused(Refusal::BadImage);
+        }
+        let even = (beats.len() % 2 == 0) & (out.len() % 2 == 0);
+        if !even {
+            return Lent::Refused(Refusal::OddStream);
+        }
+        if window.len() != self.window.length as usize {
+            return Lent::Refused(Refusal::OtherWindow);
+        }
+        Lent::Serves
+    }
+
+    // One step, or why it cannot be taken.
+    pub fn step(self, window: &mut [u8], beats: &[u8], out: &mut [u8]) -> StepAnswer
+        ensures { λ r. ⌜ Stepped self (now (window .entry)) (now (beats .entry)) (now (out .entry)) r (now (window .exit)) (now (out .exit)) ⌝ }
+    {
+        let lent = self.checked(window, beats, out);
+        if let Lent::Refused(why) = lent {
+            return StepAnswer::Refused(why);
+        }
+        let wait = self.wait(0 < beats.len() / 2, 0 < out.len() / 2);
+        if let Wait::Stop(why) = wait {
+            return StepAnswer::Stopped(why);
+        }
+        StepAnswer::Taken(self.step_at(window, beats, 0, out, 0))
     }
 }
