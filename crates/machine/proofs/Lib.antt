@@ -7,3 +7,5 @@ pub mod Turning
 pub mod Readiness
 pub mod Waiting
 pub mod Outcomes
+pub mod LoopLaws
+pub mod Standing

@@ -65,3 +65,7 @@ none-made xs at = rw (add-zero at) (sym (take-append-drop at xs))
 
 pub beat-made : (xs : List ℕ) (made b : ℕ) → made < length xs / 2 → putAt xs (2 * made) (bytesOf MostFirst 2 b) ≡ put xs (2 * made) (beatBytes (b ∷ []))
 beat-made xs made b h = put-in xs (2 * made) (bytesOf MostFirst 2 b) (omega arith)
+
+pub beat-bytes-append : (bs cs : List ℕ) → beatBytes (bs ++ cs) ≡ beatBytes bs ++ beatBytes cs
+beat-bytes-append [] cs = refl
+beat-bytes-append (b ∷ bs) cs = rw (beat-bytes-append bs cs)

@@ -23,8 +23,8 @@ use Rattle.machine.specs.declared.steps.Wait.the-variants.{Go, Stop}
 use Rattle.machine.specs.State.{run}
 use Rattle.machine.specs.Step.{World, Answer, taken, stopped, step, stepIn, restStep, fetchStep, fetched, wantsLength, copyStep, sendStep, sendTo, receiveFrom, moveStep, sourceOf, destinationOf}
 use Rattle.machine.specs.Beats.{beatsIn}
-use Rattle.machine.specs.Turns.{worldAt, waitOf, some, Goes}
-use Rattle.machine.proofs.Streams.{some-beat}
+use Rattle.machine.specs.Turns.{worldAt, waitOf, some, Waits, Goes}
+use Rattle.machine.proofs.Streams.{some-beat, some-room}
 
 -- an answer that is a step; a choice of two of them is one
 data Step : Answer → Type 0 where
@@ -137,3 +137,10 @@ rest-runs w e = runs-by (run (w .machine .control)) _ e
 
 pub never-goes : {r : Reason} → Stop r ≡ Go → ⊥
 never-goes e = let z : _≡_ {A = ℕ} 0 1 = cc in omega arith
+
+-- in the middle of lent slices, whatever was made before
+pub waits-at : (m : Machine) (window beats : List ℕ) (took : ℕ) (out : List ℕ) (made : ℕ) {r : Wait}
+    → Waits step m (ltb took (length beats / 2)) (ltb made (length out / 2)) r → (o : List ℕ)
+    → waitOf (step (worldAt m window beats took o (length out / 2 - made))) ≡ r
+waits-at m window beats took out made f o =
+    sym (f window (drop took (beatsIn beats)) o (length out / 2 - made) (some-beat beats took) (some-room (length out / 2) made))

@@ -1,3 +1,4 @@
+use Rattle.machine.proofs.Waiting.{waits-at}
 use Rattle.machine.proofs.Outcomes.{serves-ready, wait-stopped, step-refused, step-stopped, step-taken}
 use Rattle.machine.proofs.Streams.{some-beat, some-room}
 use Rattle.machine.specs.Turns.{lentAs}
@@ -48,7 +49,7 @@ enum-told-2 : tie.Need-enum-told-2
 enum-told-2 c = search needs
 
 step-at-requires : tie.Need-step-at-requires
-step-at-requires c κs = let a = c .before .before .before .before .before .before .before .before .before .before .before .before .before .args in (serves-ready (a .self) (a .window .now) (a .beats .now) (a .out .now) (sym (c .before .before .before .before .before .before .before .checked .ensures) ∙ ap lentAs (c .before .before .before .before .before .enum-told .given .1)), (record { taken-in = search needs; made-in = search needs }, sym (c .before .before .before .before .wait .ensures (a .window .now) (beatsIn (a .beats .now)) [] (length (a .out .now) / 2 - 0) (some-beat (a .beats .now) 0) (some-room (length (a .out .now) / 2) 0)) ∙ c .before .before .enum-told2 .given .1))
+step-at-requires c κs = let a = c .before .before .before .before .before .before .before .before .before .before .before .before .before .args in (serves-ready (a .self) (a .window .now) (a .beats .now) (a .out .now) (sym (c .before .before .before .before .before .before .before .checked .ensures) ∙ ap lentAs (c .before .before .before .before .before .enum-told .given .1)), (record { taken-in = search needs; made-in = search needs }, waits-at (a .self) (a .window .now) (a .beats .now) 0 (a .out .now) 0 (c .before .before .before .before .wait .ensures) [] ∙ c .before .before .enum-told2 .given .1))
 
 same-length-5 : tie.Need-same-length-5
 same-length-5 c = search needs
