@@ -1,3 +1,11 @@
 pub mod Writes
 pub mod Answers
 pub mod Offsets
+pub mod Places
+pub mod Streams
+pub mod Turning
+pub mod Readiness
+pub mod Waiting
+pub mod Outcomes
+pub mod LoopLaws
+pub mod Standing

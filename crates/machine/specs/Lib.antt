@@ -4,3 +4,4 @@ pub mod Registers
 pub mod Beats
 pub mod Step
 pub mod Run
+pub mod Turns

@@ -1,7 +1,9 @@
 // The SG-DMA core: what it keeps, its registers, its saved image, its steps and runs. The machine goes into each call by value and
 // comes back from it. (Altera, Embedded Peripherals, chapter 23, as the paper states it.)
 pub mod registers;
+pub mod runs;
 pub mod saved;
+pub mod steps;
 
 ghost use mathlib.Core.Path.{_≡_};
 ghost use Prim.Native.Nat.{_<_};

@@ -1,0 +1,50 @@
+use Rattle.machine.specs.Step.{completed}
+use borrow.Author.Needs.{needs}
+use Rattle.machine.proofs.Machine.completed.Statement.{statement}
+use Rattle.machine.proofs.Machine.completed.Tie as tie
+
+has-requires : tie.Need-has-requires
+has-requires c κs = search needs
+
+has-requires-2 : tie.Need-has-requires-2
+has-requires-2 c κs = search needs
+
+cast-counted : tie.Need-cast-counted
+cast-counted c = search needs
+
+counted-requires : tie.Need-counted-requires
+counted-requires c κs = search needs
+
+has-requires-3 : tie.Need-has-requires-3
+has-requires-3 c κs = search needs
+
+has-requires-4 : tie.Need-has-requires-4
+has-requires-4 c κs = search needs
+
+has-requires-5 : tie.Need-has-requires-5
+has-requires-5 c κs = search needs
+
+has-requires-6 : tie.Need-has-requires-6
+has-requires-6 c κs = search needs
+
+after-back-requires : tie.Need-after-back-requires
+after-back-requires c κs = search needs
+
+returns : tie.Need-returns
+unfolding completed
+returns c = simp (c .before .before .before .before .after-back .ensures, c .before .before .before .before .before .before .before .before .before .before .before .before .before .before .before .before .before .before .before .counted .ensures, c .before .before .before .before .before .before .before .before .before .before .before .before .before .before .before .before .before .before .before .before .has2 .ensures, c .before .before .before .before .before .before .before .before .before .before .before .before .before .before .before .before .before .before .before .before .before .has .ensures, c .before .before .before .before .before .before .before .before .before .before .before .before .before .before .before .before .before .before .has3 .ensures, c .before .before .before .before .before .before .before .before .before .before .before .before .before .before .before .before .has4 .ensures, c .before .before .before .before .before .before .before .before .before .before .before .before .before .before .has5 .ensures, c .before .before .before .before .before .before .before .before .before .before .before .before .before .has6 .ensures)
+
+pub completed-spec : {M : Type 1} → statement M
+completed-spec =
+    tie.close
+    (tie.spec
+    has-requires
+    has-requires-2
+    cast-counted
+    counted-requires
+    has-requires-3
+    has-requires-4
+    has-requires-5
+    has-requires-6
+    after-back-requires
+    returns)

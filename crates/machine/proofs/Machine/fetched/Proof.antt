@@ -1,0 +1,45 @@
+use mathlib.Core.Path.{_∙_, sym}
+use Rattle.machine.specs.Step.{fetched}
+use borrow.Author.Needs.{needs}
+use Rattle.machine.proofs.Machine.fetched.Statement.{statement}
+use Rattle.machine.proofs.Machine.fetched.Tie as tie
+
+wants-length-requires : tie.Need-wants-length-requires
+wants-length-requires c κs = search needs
+
+has-requires : tie.Need-has-requires
+has-requires c κs = search needs
+
+faulted-requires : tie.Need-faulted-requires
+faulted-requires c κs = search needs
+
+begun-requires : tie.Need-begun-requires
+begun-requires c κs = search needs
+
+ended-requires : tie.Need-ended-requires
+ended-requires c κs = search needs
+
+returns : tie.Need-returns
+unfolding fetched
+returns c = λ memory input output room. simp (sym (c .before .before .before .has .ensures .value) ∙ c .before .before .if1 .taken, sym (c .before .before .before .before .before .wants-length .ensures), c .before .if2 .taken, c .faulted .ensures)
+
+returns-2 : tie.Need-returns-2
+unfolding fetched
+returns-2 c = λ memory input output room. simp (sym (c .before .before .before .has .ensures .value) ∙ c .before .before .if1 .taken, sym (c .before .before .before .before .before .wants-length .ensures), c .before .if2 .left, c .begun .ensures)
+
+returns-3 : tie.Need-returns-3
+unfolding fetched
+returns-3 c = λ memory input output room. simp (sym (c .before .before .has .ensures .value) ∙ c .before .if1 .left, c .ended .ensures)
+
+pub fetched-spec : {M : Type 1} → statement M
+fetched-spec =
+    tie.close
+    (tie.spec
+    wants-length-requires
+    has-requires
+    faulted-requires
+    begun-requires
+    ended-requires
+    returns
+    returns-2
+    returns-3)

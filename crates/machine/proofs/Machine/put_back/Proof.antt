@@ -1,0 +1,49 @@
+use mathlib.Core.Bool.{true≢false}
+use mathlib.Core.Path.{refl, _∙_, sym}
+use Rattle.machine.proofs.Places.{outside, place}
+use Rattle.machine.specs.Step.{writtenBack}
+use borrow.Author.Needs.{needs}
+use Rattle.machine.proofs.Machine.put_back.Statement.{statement}
+use Rattle.machine.proofs.Machine.put_back.Tie as tie
+
+cast-t7 : tie.Need-cast-t7
+cast-t7 c = search needs
+
+locate-requires : tie.Need-locate-requires
+locate-requires c κs = search needs
+
+enum-known-found : tie.Need-enum-known-found
+enum-known-found c = search needs
+
+enum-told : tie.Need-enum-told
+enum-told c = search needs
+
+returns : tie.Need-returns
+returns c = absurd (true≢false (sym (c .before .before .before .before .before .pre) ∙ outside (c .before .before .locate .ensures) refl (c .enum-told .given .1)))
+
+written-control-requires : tie.Need-written-control-requires
+written-control-requires c κs = search needs
+
+write-back-requires : tie.Need-write-back-requires
+write-back-requires c κs = search needs
+
+same-length : tie.Need-same-length
+same-length c = search needs
+
+returns-2 : tie.Need-returns-2
+unfolding writtenBack
+returns-2 c = λ input output room. c .before .before .write-back .ensures .lent ∙ simp (place (c .before .before .before .before .before .before .before .before .locate .ensures) refl (c .before .before .before .before .before .before .found .given .1), c .before .before .before .before .written-control .ensures)
+
+pub put-back-spec : {M : Type 1} → statement M
+put-back-spec =
+    tie.close
+    (tie.spec
+    cast-t7
+    locate-requires
+    enum-known-found
+    enum-told
+    returns
+    written-control-requires
+    write-back-requires
+    same-length
+    returns-2)

@@ -1,0 +1,95 @@
+use native.Mathlib.Omega.{arith}
+use Rattle.machine.proofs.Places.{inside, outside, place, fits}
+use Rattle.machine.proofs.Turning.{receive-in, receive-out}
+use borrow.Author.Needs.{needs}
+use Rattle.machine.proofs.Machine.receive_step.Statement.{statement}
+use Rattle.machine.proofs.Machine.receive_step.Tie as tie
+
+write-address-requires : tie.Need-write-address-requires
+write-address-requires c κs = search needs
+
+locate-requires : tie.Need-locate-requires
+locate-requires c κs = search needs
+
+enum-told : tie.Need-enum-told
+enum-told c = search needs
+
+cut-requires : tie.Need-cut-requires
+cut-requires c κs = search needs
+
+faulted-requires : tie.Need-faulted-requires
+faulted-requires c κs = search needs
+
+enum-known-found : tie.Need-enum-known-found
+enum-known-found c = search needs
+
+index-requires : tie.Need-index-requires
+index-requires c κs = search needs
+
+mul-get-u16 : tie.Need-mul-get-u16
+mul-get-u16 c = search needs
+
+get-u16-requires : tie.Need-get-u16-requires
+get-u16-requires c κs = search needs
+
+cast-has : tie.Need-cast-has
+cast-has c = search needs
+
+cast-has-2 : tie.Need-cast-has-2
+cast-has-2 c = search needs
+
+has-requires : tie.Need-has-requires
+has-requires c κs = search needs
+
+cast-window : tie.Need-cast-window
+cast-window c = search needs
+
+slice-write-window : tie.Need-slice-write-window
+slice-write-window c = omega (arith, fits (c .before .before .before .before .before .before .locate .ensures) (c .before .before .before .before .found .given .1), c .before .before .index .ensures .value, c .before .before .before .before .before .before .before .before .before .before .pre .0)
+
+cast-with-byte : tie.Need-cast-with-byte
+cast-with-byte c = search needs
+
+with-byte-requires : tie.Need-with-byte-requires
+with-byte-requires c κs = search needs
+
+onward-requires : tie.Need-onward-requires
+onward-requires c κs = search needs
+
+add-t17 : tie.Need-add-t17
+add-t17 c = omega (arith, c .before .before .before .before .before .before .before .before .before .before .before .before .good, c .before .before .before .before .before .before .before .before .before .before .before .before .pre .1 .1)
+
+returns : tie.Need-returns
+returns c = (search needs, λ out made. simp (c .faulted .ensures, c .before .cut .ensures, c .before .before .before .before .before .write-address .ensures) (receive-out _ _ _ _ _ _ _ (c .before .before .before .before .before .before .before .before .pre .1 .1) (outside (c .before .before .before .before .locate .ensures) (c .before .before .before .before .before .write-address .ensures) (c .before .before .enum-told .given .1))))
+
+same-length : tie.Need-same-length
+same-length c = search needs
+
+returns-2 : tie.Need-returns-2
+returns-2 c = (omega (arith, c .before .before .before .before .before .before .before .before .before .before .before .before .pre .1 .1), λ out made. simp (c .onward .ensures, c .before .with-byte .ensures, c .before .before .has .ensures, c .before .before .before .get-u16 .ensures .value, c .before .before .before .before .index .ensures .value, place (c .before .before .before .before .before .before .before .before .locate .ensures) (c .before .before .before .before .before .before .before .before .before .write-address .ensures) (c .before .before .before .before .before .before .found .given .1)) (receive-in _ _ _ _ _ _ _ (c .before .before .before .before .before .before .before .before .before .before .before .before .pre .1 .1) (inside (c .before .before .before .before .before .before .before .before .locate .ensures) (c .before .before .before .before .before .before .before .before .before .write-address .ensures) (c .before .before .before .before .before .before .found .given .1))))
+
+pub receive-step-spec : {M : Type 1} → statement M
+receive-step-spec =
+    tie.close
+    (tie.spec
+    write-address-requires
+    locate-requires
+    enum-told
+    cut-requires
+    faulted-requires
+    enum-known-found
+    index-requires
+    mul-get-u16
+    get-u16-requires
+    cast-has
+    cast-has-2
+    has-requires
+    cast-window
+    slice-write-window
+    cast-with-byte
+    with-byte-requires
+    onward-requires
+    add-t17
+    returns
+    same-length
+    returns-2)

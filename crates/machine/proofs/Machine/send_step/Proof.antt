@@ -1,0 +1,83 @@
+use mathlib.Core.Path.{ap, _∙_}
+use native.Mathlib.Omega.{arith}
+use Prim.Native.Nat.{ℕ}
+use lib.ListN.{getD}
+use Rattle.machine.proofs.Places.{inside, outside, place, fits}
+use Rattle.machine.proofs.Turning.{send-in, send-out}
+use Rattle.machine.specs.Step.{beatFor}
+use borrow.Author.Needs.{needs}
+use Rattle.machine.proofs.Machine.send_step.Statement.{statement}
+use Rattle.machine.proofs.Machine.send_step.Tie as tie
+
+read-address-requires : tie.Need-read-address-requires
+read-address-requires c κs = search needs
+
+locate-requires : tie.Need-locate-requires
+locate-requires c κs = search needs
+
+enum-told : tie.Need-enum-told
+enum-told c = search needs
+
+cut-requires : tie.Need-cut-requires
+cut-requires c κs = search needs
+
+faulted-requires : tie.Need-faulted-requires
+faulted-requires c κs = search needs
+
+enum-known-found : tie.Need-enum-known-found
+enum-known-found c = search needs
+
+index-requires : tie.Need-index-requires
+index-requires c κs = search needs
+
+shared-slice-read-beat : tie.Need-shared-slice-read-beat
+shared-slice-read-beat c = omega (arith, fits (c .before .before .before .before .before .locate .ensures) (c .before .before .before .found .given .1), c .before .index .ensures .value, c .before .before .before .before .before .before .before .before .before .pre .0)
+
+beat-requires : tie.Need-beat-requires
+beat-requires c κs = search needs
+
+mul-put-u16 : tie.Need-mul-put-u16
+mul-put-u16 c = search needs
+
+put-u16-requires : tie.Need-put-u16-requires
+put-u16-requires c κs = search needs
+
+with-byte-requires : tie.Need-with-byte-requires
+with-byte-requires c κs = search needs
+
+onward-requires : tie.Need-onward-requires
+onward-requires c κs = search needs
+
+add-t20 : tie.Need-add-t20
+add-t20 c = omega (arith, c .before .before .before .before .before .before .before .before .before .before .before .before .before .before .before .before .good, c .before .before .before .before .before .before .before .before .before .before .before .before .before .before .before .before .pre .1 .1 .0)
+
+returns : tie.Need-returns
+returns c = (search needs, λ beats taken. simp (c .faulted .ensures, c .before .cut .ensures, c .before .before .before .before .before .read-address .ensures) (send-out _ _ _ _ _ _ _ (outside (c .before .before .before .before .locate .ensures) (c .before .before .before .before .before .read-address .ensures) (c .before .before .enum-told .given .1))))
+
+same-length : tie.Need-same-length
+same-length c = search needs
+
+returns-2 : tie.Need-returns-2
+returns-2 c = let a = c .before .before .before .before .before .before .before .before .before .before .before .before .before .before .before .before .args in let isin = inside (c .before .before .before .before .before .before .before .before .before .before .before .before .locate .ensures) (c .before .before .before .before .before .before .before .before .before .before .before .before .before .read-address .ensures) (c .before .before .before .before .before .before .before .before .before .before .found .given .1) in let room = c .before .before .before .before .before .before .before .before .before .before .before .before .before .before .before .before .pre .1 .1 .1 isin in (omega (arith, room), λ beats taken. simp (c .onward .ensures, c .before .with-byte .ensures, c .before .before .before .before .put-u16 .ensures .lent) (send-in (a .self) (a .k) (a .window .now) beats taken (a .out .now) (a .made) isin room (c .before .before .before .before .before .before .beat .result) (c .before .before .before .before .before .before .beat .ensures ∙ ap (λ (x : ℕ). beatFor (a .k) (getD (a .window .now) x 0)) (c .before .before .before .before .before .before .before .before .index .ensures .value ∙ place (c .before .before .before .before .before .before .before .before .before .before .before .before .locate .ensures) (c .before .before .before .before .before .before .before .before .before .before .before .before .before .read-address .ensures) (c .before .before .before .before .before .before .before .before .before .before .found .given .1)))))
+
+pub send-step-spec : {M : Type 1} → statement M
+send-step-spec =
+    tie.close
+    (tie.spec
+    read-address-requires
+    locate-requires
+    enum-told
+    cut-requires
+    faulted-requires
+    enum-known-found
+    index-requires
+    shared-slice-read-beat
+    beat-requires
+    mul-put-u16
+    put-u16-requires
+    with-byte-requires
+    onward-requires
+    add-t20
+    returns
+    same-length
+    returns-2)

@@ -1,0 +1,82 @@
+use Rattle.machine.proofs.Waiting.{waits-at}
+use Rattle.machine.proofs.Outcomes.{serves-ready, wait-stopped, step-refused, step-stopped, step-taken}
+use Rattle.machine.proofs.Streams.{some-beat, some-room}
+use Rattle.machine.specs.Turns.{lentAs}
+use Rattle.machine.specs.Beats.{beatsIn}
+use lib.ListN.{length, drop}
+use mathlib.Core.List.{[]}
+use mathlib.Core.Path.{refl, sym, ap, _∙_}
+use Prim.Native.Nat.{_-_, _/_}
+use native.Mathlib.Omega.{arith}
+use borrow.Author.Needs.{needs}
+use Rattle.machine.proofs.Machine.step.Statement.{statement}
+use Rattle.machine.proofs.Machine.step.Tie as tie
+
+checked-requires : tie.Need-checked-requires
+checked-requires c κs = search needs
+
+enum-known-lent : tie.Need-enum-known-lent
+enum-known-lent c = search needs
+
+same-length : tie.Need-same-length
+same-length c = search needs
+
+same-length-2 : tie.Need-same-length-2
+same-length-2 c = search needs
+
+returns : tie.Need-returns
+returns c = step-refused (sym (c .before .before .before .checked .ensures) ∙ ap lentAs (c .before .lent .given .1))
+
+enum-told : tie.Need-enum-told
+enum-told c = search needs
+
+wait-requires : tie.Need-wait-requires
+wait-requires c κs = search needs
+
+enum-known-wait : tie.Need-enum-known-wait
+enum-known-wait c = search needs
+
+same-length-3 : tie.Need-same-length-3
+same-length-3 c = search needs
+
+same-length-4 : tie.Need-same-length-4
+same-length-4 c = search needs
+
+returns-2 : tie.Need-returns-2
+returns-2 c = let a = c .before .before .before .before .before .before .before .before .before .before .before .before .args in step-stopped (sym (c .before .before .before .before .before .before .checked .ensures) ∙ ap lentAs (c .before .before .before .before .enum-told .given .1)) (wait-stopped _ (sym (c .before .before .before .wait .ensures (a .window .now) (beatsIn (a .beats .now)) [] (length (a .out .now) / 2) (some-beat (a .beats .now) 0) refl) ∙ c .before .wait2 .given .1))
+
+enum-told-2 : tie.Need-enum-told-2
+enum-told-2 c = search needs
+
+step-at-requires : tie.Need-step-at-requires
+step-at-requires c κs = let a = c .before .before .before .before .before .before .before .before .before .before .before .before .before .args in (serves-ready (a .self) (a .window .now) (a .beats .now) (a .out .now) (sym (c .before .before .before .before .before .before .before .checked .ensures) ∙ ap lentAs (c .before .before .before .before .before .enum-told .given .1)), (record { taken-in = search needs; made-in = search needs }, waits-at (a .self) (a .window .now) (a .beats .now) 0 (a .out .now) 0 (c .before .before .before .before .wait .ensures) [] ∙ c .before .before .enum-told2 .given .1))
+
+same-length-5 : tie.Need-same-length-5
+same-length-5 c = search needs
+
+same-length-6 : tie.Need-same-length-6
+same-length-6 c = search needs
+
+returns-3 : tie.Need-returns-3
+returns-3 c = step-taken (sym (c .before .before .before .before .before .before .before .before .before .before .before .before .checked .ensures) ∙ ap lentAs (c .before .before .before .before .before .before .before .before .before .before .enum-told .given .1)) (c .before .before .before .before .step-at .ensures .0) (c .before .before .before .before .step-at .ensures .1)
+
+pub step-spec : {M : Type 1} → statement M
+step-spec =
+    tie.close
+    (tie.spec
+    checked-requires
+    enum-known-lent
+    same-length
+    same-length-2
+    returns
+    enum-told
+    wait-requires
+    enum-known-wait
+    same-length-3
+    same-length-4
+    returns-2
+    enum-told-2
+    step-at-requires
+    same-length-5
+    same-length-6
+    returns-3)

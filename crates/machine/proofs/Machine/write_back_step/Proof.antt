@@ -1,0 +1,21 @@
+use Rattle.machine.specs.Step.{writeBackStep}
+use borrow.Author.Needs.{needs}
+use Rattle.machine.proofs.Machine.write_back_step.Statement.{statement}
+use Rattle.machine.proofs.Machine.write_back_step.Tie as tie
+
+put-back-requires : tie.Need-put-back-requires
+put-back-requires c κs = search needs
+
+completed-requires : tie.Need-completed-requires
+completed-requires c κs = search needs
+
+same-length : tie.Need-same-length
+same-length c = search needs
+
+returns : tie.Need-returns
+unfolding writeBackStep
+returns c = λ input output room. simp (c .completed .ensures, c .before .before .before .put-back .ensures input output room)
+
+pub write-back-step-spec : {M : Type 1} → statement M
+write-back-step-spec =
+    tie.close (tie.spec put-back-requires completed-requires same-length returns)

@@ -1,0 +1,26 @@
+-- What an answer of the window check says of an address that the code computed.
+-- Assumes nothing.
+use Prim.Native.Nat.{ℕ, _+_, _≤_}
+use mathlib.Core.Path.{_≡_, sym, ap, _∙_}
+use mathlib.Core.Bool.{Bool, true, false}
+use Rattle.bus.specs.declared.Window.{Window}
+use Rattle.bus.specs.declared.Place.{Place}
+use Rattle.bus.specs.declared.Located.{Located}
+use Rattle.bus.specs.declared.Located.the-variants.{At, Outside}
+use Rattle.bus.specs.Window.{inWindow, placeOf, Sought}
+use Rattle.bus.proofs.Limits.{located-is}
+use Rattle.image.proofs.Windows.{at-in, outside-out}
+
+module _ {w : Window} {a b n : ℕ} {r : Located} (s : Sought w a n r) (same : a ≡ b) where
+  pub outside : r ≡ Outside → inWindow w b n ≡ false
+  outside e = ap (λ (x : ℕ). inWindow w x n) (sym same) ∙ outside-out w a n (sym (s .answer) ∙ e)
+
+  module _ {p : Place} (e : r ≡ At p) where
+    pub inside : inWindow w b n ≡ true
+    inside = ap (λ (x : ℕ). inWindow w x n) (sym same) ∙ at-in w a n p (sym (s .answer) ∙ e)
+
+    pub place : p .0 ≡ placeOf w b
+    place = located-is w a n p (sym (s .answer) ∙ e) .0 ∙ ap (λ (x : ℕ). placeOf w x) same
+
+pub fits : {w : Window} {a n : ℕ} {r : Located} → Sought w a n r → {p : Place} → r ≡ At p → p .0 + n ≤ w .length
+fits {w} {a} {n} s {p} e = located-is w a n p (sym (s .answer) ∙ e) .1

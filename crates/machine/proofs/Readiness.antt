@@ -1,0 +1,205 @@
+-- A machine that keeps the image rules is ready for a step, and a step leaves it ready for the next.
+-- Assumes nothing.
+use Prim.Native.Nat.{ℕ, zero, suc, _+_, _%_, _^_, _≤_, _<_}
+use mathlib.Core.Path.{_≡_, refl, sym, ap, subst, _∙_}
+use mathlib.Core.Bool.{Bool, true, false, not, cond, _&&_, _||_, true≢false}
+use mathlib.Core.List.{List, [], _∷_}
+use native.Mathlib.Omega.{arith}
+use lib.Dec.{eqb}
+use lib.ListN.{length}
+use borrow.Author.Tests.{eqb-true, eqb-false}
+use Rattle.bus.specs.Window.{inWindow, placeOf}
+use Rattle.descriptor.specs.declared.Descriptor.{Descriptor}
+use Rattle.descriptor.specs.Layout.{owned, descriptorAt}
+use Rattle.image.specs.Rules.{asked, keepsRules, lowestBroken}
+use Rattle.image.specs.Rules as rules
+use Rattle.image.proofs.Facts.{move-lt, address-inside}
+use Rattle.machine.specs.declared.Machine.{Machine}
+use Rattle.machine.specs.declared.Mode.{Mode}
+use Rattle.machine.specs.declared.Mode.the-variants.{MemoryToMemory, MemoryToStream, StreamToMemory}
+use Rattle.machine.specs.declared.Work.{Work}
+use Rattle.machine.specs.declared.Phase.{Phase}
+use Rattle.machine.specs.declared.Phase.the-variants.{Rest, Fetch, Move, WriteBack, Ended, Halted, Faulted}
+use Rattle.machine.specs.declared.Reason.{Reason}
+use Rattle.machine.specs.State.{modeNumber, phaseNumber, run, stopDmaEr, withPhase}
+use Rattle.machine.specs.Saved.{inHand, fieldsOf, keeps}
+use Rattle.machine.specs.Beats.{beatError, beatEop}
+use Rattle.machine.specs.Step.{World, Answer, taken, stopped, step, stepIn, restStep, fetchStep, fetched, wantsLength, moveStep, copyStep, sendStep, sendTo, receiveFrom, writeBackStep, completed, afterBack, onward, withByte, whole, sourceOf, destinationOf}
+use Rattle.machine.specs.Turns.{Left, Placed, Ready, stepsOn, steps}
+
+-- what a step leads to is ready
+data Stays (n : ℕ) : Answer → Type 0 where
+  goes : {v : World} → Ready (v .machine) n → Stays n (taken v)
+  stops : {r : Reason} → Stays n (stopped r)
+
+either : (n : ℕ) (b : Bool) {x y : Answer} → (b ≡ true → Stays n x) → (b ≡ false → Stays n y) → Stays n (cond b x y)
+either n true f g = f refl
+either n false f g = g refl
+
+-- ---- Fetch
+
+some-length : (b : Bool) (n : ℕ) → eqb n 0 ≡ b → 0 < cond b 65535 n
+some-length true n e = omega arith
+some-length false n e = let h : (n ≡ 0 → ⊥) = eqb-false n 0 e in omega arith
+
+begins : (o : Mode) (n : ℕ) → (wantsLength o && eqb n 0) ≡ false → 0 < asked (modeNumber o) n
+begins MemoryToMemory n e = let h : (n ≡ 0 → ⊥) = eqb-false n 0 e in omega arith
+begins MemoryToStream n e = let h : (n ≡ 0 → ⊥) = eqb-false n 0 e in omega arith
+begins StreamToMemory n e = some-length (eqb n 0) n refl
+
+module _ (n : ℕ) (w : World) (s : w .machine .window .length ≡ n) where
+  fetched-stays : (d : Descriptor) → inWindow (w .machine .window) (w .machine .pointer .0) 32 ≡ true → Stays n (fetched w d)
+  unfolding fetched
+  fetched-stays d h =
+      either n (owned (d .control .0))
+      (λ e.
+      either n (wantsLength (w .machine .mode) && eqb (d .length) 0)
+      (λ f. goes (record { size = s; left = tt; placed = tt }))
+      (λ f. goes (record { size = s; left = begins (w .machine .mode) (d .length) f; placed = h })))
+      (λ e. goes (record { size = s; left = tt; placed = tt }))
+
+  fetch-stays : Stays n (fetchStep w)
+  unfolding fetchStep
+  fetch-stays =
+      either n (run (w .machine .control))
+      (λ e.
+      either n (eqb (w .machine .pointer .0 % 4) 0)
+      (λ f.
+      either n (inWindow (w .machine .window) (w .machine .pointer .0) 32) (λ g. fetched-stays _ g)
+      (λ g. goes (record { size = s; left = tt; placed = tt })))
+      (λ f. goes (record { size = s; left = tt; placed = tt })))
+      (λ e. goes (record { size = s; left = tt; placed = tt }))
+
+-- ---- Move
+
+or-right : (a b : Bool) → (a || b) ≡ false → b ≡ false
+or-right true b e = absurd (true≢false e)
+or-right false b e = e
+
+module _ (n : ℕ) (m : Machine) (k : Work) (s : m .window .length ≡ n) (p : inWindow (m .window) (k .at) 32 ≡ true) where
+  onward-by : (b : Bool) → (k .eop || eqb (k .moved) (whole m k)) ≡ b → k .moved ≤ whole m k → Ready (withPhase (cond b (WriteBack k) (Move k)) m) n
+  onward-by true e l = record { size = s; left = tt; placed = p }
+  onward-by false e l =
+      let other : (k .moved ≡ whole m k → ⊥) = eqb-false _ _ (or-right (k .eop) _ e) in
+      record { size = s; left = omega arith; placed = p }
+
+  onward-ready : k .moved ≤ whole m k → Ready (onward m k) n
+  unfolding onward
+  onward-ready l = onward-by _ refl l
+
+module _ (n : ℕ) (w : World) (k : Work) (s : w .machine .window .length ≡ n) (l : k .moved < whole (w .machine) k)
+    (p : inWindow (w .machine .window) (k .at) 32 ≡ true) where
+  byte-ready : (errors : ℕ) (eop : Bool) → Ready (onward (w .machine) (withByte errors eop k)) n
+  byte-ready errors eop = onward-ready n (w .machine) (withByte errors eop k) s p (omega arith)
+
+  copy-stays : Stays n (copyStep w k)
+  unfolding copyStep
+  copy-stays =
+      either n (inWindow (w .machine .window) (sourceOf k) 1)
+      (λ e. either n (inWindow (w .machine .window) (destinationOf k) 1) (λ f. goes (byte-ready 0 false)) (λ f. goes (record { size = s; left = tt; placed = tt })))
+      (λ e. goes (record { size = s; left = tt; placed = tt }))
+
+  send-to-stays : (room : ℕ) → Stays n (sendTo w k room)
+  send-to-stays zero = stops
+  send-to-stays (suc room) = goes (byte-ready 0 false)
+
+  send-stays : Stays n (sendStep w k)
+  unfolding sendStep
+  send-stays = either n (inWindow (w .machine .window) (sourceOf k) 1) (λ e. send-to-stays (w .room)) (λ e. goes (record { size = s; left = tt; placed = tt }))
+
+  receive-stays : (input : List ℕ) → Stays n (receiveFrom w k input)
+  receive-stays [] = stops
+  receive-stays (b ∷ bs) =
+      either n (inWindow (w .machine .window) (destinationOf k) 1) (λ e. goes (byte-ready (beatError b) (beatEop b)))
+      (λ e. goes (record { size = s; left = tt; placed = tt }))
+
+  move-stays : (o : Mode) → Stays n (moveStep o w k)
+  move-stays MemoryToMemory = copy-stays
+  move-stays MemoryToStream = send-stays
+  move-stays StreamToMemory = receive-stays (w .input)
+
+whole-by : (b : Bool) (n : ℕ) → n ≤ 65535 → cond b 65535 n ≤ 65535
+whole-by true n h = omega arith
+whole-by false n h = h
+
+-- one byte more can be counted
+pub left-lt : (m : Machine) (k : Work) → k .length ≤ 65535 → k .moved < whole m k → k .moved < 65535
+left-lt m k h l = omega (arith, whole-by (eqb (modeNumber (m .mode)) 2 && eqb (k .length) 0) (k .length) h)
+
+-- ---- the others
+
+after-left : (m : Machine) (runs halts : Bool) → Left m (afterBack runs halts)
+after-left m true true = tt
+after-left m true false = tt
+after-left m false halts = tt
+
+after-placed : (m : Machine) (runs halts : Bool) → Placed m (afterBack runs halts)
+after-placed m true true = tt
+after-placed m true false = tt
+after-placed m false halts = tt
+
+completed-ready : (n : ℕ) (m : Machine) (k : Work) → m .window .length ≡ n → Ready (completed m k) n
+unfolding completed
+completed-ready n m k s =
+    let halts : Bool = not (eqb (k .errors) 0) && stopDmaEr (m .control) in
+    record { size = s; left = after-left _ (run (m .control)) halts; placed = after-placed _ (run (m .control)) halts }
+
+phase-stays : (n : ℕ) (phase : Phase) (w : World) → w .machine .window .length ≡ n → Left (w .machine) phase → Placed (w .machine) phase
+    → Stays n (stepIn phase w)
+unfolding restStep writeBackStep
+phase-stays n Rest w s l p = either n (run (w .machine .control)) (λ e. goes (record { size = s; left = tt; placed = tt })) (λ e. stops)
+phase-stays n Fetch w s l p = fetch-stays n w s
+phase-stays n (Move k) w s l p = move-stays n w k s l p (w .machine .mode)
+phase-stays n (WriteBack k) w s l p = goes (completed-ready n (w .machine) k s)
+phase-stays n Ended w s l p = stops
+phase-stays n Halted w s l p = stops
+phase-stays n (Faulted f) w s l p = stops
+
+step-stays : (n : ℕ) (w : World) → Ready (w .machine) n → Stays n (step w)
+unfolding step
+step-stays n w r = phase-stays n (w .machine .phase) w (r .size) (r .left) (r .placed)
+
+steps-stay : (n count : ℕ) (a : Answer) → Stays n a → Stays n (stepsOn count a)
+steps-stay n zero a h = h
+steps-stay n (suc count) (stopped r) h = stops
+steps-stay n (suc count) (taken w) (goes h) = steps-stay n count (step w) (step-stays n w h)
+
+taken-ready : (n : ℕ) (v : World) → Stays n (taken v) → Ready (v .machine) n
+taken-ready n v (goes h) = h
+
+-- steps leave it ready
+pub steps-ready : (n count : ℕ) (w v : World) → steps count w ≡ taken v → Ready (w .machine) n → Ready (v .machine) n
+unfolding steps
+steps-ready n count w v e h = taken-ready n v (subst (λ (a : Answer). Stays n a) e (steps-stay n count (taken w) (goes h)))
+
+-- ---- the image rules
+
+abbrev inHandNumber : Phase → Bool
+inHandNumber p = rules.inHand (phaseNumber p)
+
+module _ (m : Machine) (e : lowestBroken (fieldsOf m) ≡ 0) where
+  left-by : (p : Phase) → m .phase ≡ p → Left m p
+  left-by Rest q = tt
+  left-by Fetch q = tt
+  left-by (Move k) q =
+      subst (λ (p : Phase). inHand p .moved < asked (modeNumber (m .mode)) (inHand p .length)) q (move-lt (fieldsOf m) e (ap phaseNumber q))
+  left-by (WriteBack k) q = tt
+  left-by Ended q = tt
+  left-by Halted q = tt
+  left-by (Faulted f) q = tt
+
+  placed-by : (p : Phase) → m .phase ≡ p → Placed m p
+  placed-by Rest q = tt
+  placed-by Fetch q = tt
+  placed-by (Move k) q = subst (λ (p : Phase). inWindow (m .window) (inHand p .at) 32 ≡ true) q (address-inside (fieldsOf m) e (ap inHandNumber q))
+  placed-by (WriteBack k) q = subst (λ (p : Phase). inWindow (m .window) (inHand p .at) 32 ≡ true) q (address-inside (fieldsOf m) e (ap inHandNumber q))
+  placed-by Ended q = tt
+  placed-by Halted q = tt
+  placed-by (Faulted f) q = tt
+
+-- a machine that keeps them is ready
+pub keeps-ready : (m : Machine) (n : ℕ) → keeps m ≡ true → n ≡ m .window .length → Ready m n
+unfolding keepsRules
+keeps-ready m n e s =
+    let z : lowestBroken (fieldsOf m) ≡ 0 = eqb-true _ _ e in
+    record { size = sym s; left = left-by m z (m .phase) refl; placed = placed-by m z (m .phase) refl }

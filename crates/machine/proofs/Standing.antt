@@ -1,0 +1,125 @@
+-- Where a run stands in the middle of what it is lent: what the loop keeps, and what it promises where it ends.
+-- Assumes nothing.
+use Prim.Native.Nat.{ℕ, zero, suc, _+_, _-_, _*_, _/_, _≤_}
+use mathlib.Core.Path.{_≡_, refl, sym, ap, _∙_}
+use mathlib.Core.List.{List, [], _∷_, _++_}
+use native.Mathlib.Nat.{zero-add, add-zero, sub-zero}
+use native.Mathlib.Omega.{arith}
+use lib.ListN.{length, drop, length-append}
+use Rattle.words.specs.Slices.{put}
+use Rattle.words.proofs.Slices.{put-put}
+use Rattle.bus.specs.declared.Refusal.{Refusal}
+use Rattle.machine.specs.declared.Machine.{Machine}
+use Rattle.machine.specs.declared.Ran.{Ran}
+use Rattle.machine.specs.declared.Reason.{Reason}
+use Rattle.machine.specs.declared.Reason.the-variants as reason
+use Rattle.machine.specs.declared.RunAnswer.{RunAnswer}
+use Rattle.machine.specs.declared.RunAnswer.the-variants as many
+use Rattle.machine.specs.declared.steps.Wait.{Wait}
+use Rattle.machine.specs.declared.steps.Wait.the-variants.{Go, Stop}
+use Rattle.machine.specs.Beats.{beatsIn, beatBytes}
+use Rattle.machine.specs.Step.{World, Answer, taken, step}
+use Rattle.machine.specs.Run.{Report, run, Lent, serves, refused, lentOf, worldOf, takenSince, outputOver, ranAs, runAnswer, windowAfter, outAfter, HasRun}
+use Rattle.machine.specs.Turns.{worldAt, progress, waitOf, steps, Within, Went, Ready}
+use Rattle.machine.proofs.Streams.{length-beat-bytes, beat-bytes-append, none-made}
+use Rattle.machine.proofs.Readiness.{steps-ready}
+use Rattle.machine.proofs.LoopLaws.{report, moreBy, run-stops, run-out, run-steps, more-none, more-more}
+use Rattle.machine.proofs.Outcomes.{serves-ready, took-since, over}
+
+-- so many steps led here, and the run goes on from here as it would have gone on
+pub record Stands (m₀ : Machine) (window₀ beats out₀ : List ℕ) (budget : ℕ) (window out : List ℕ) (m : Machine) (took made count : ℕ) : Type 0 where
+  pub window-length : length window ≡ length window₀
+  pub out-length : length out ≡ length out₀
+  pub spent : count ≤ budget
+  pub within : Within beats out took made
+  pub ready : Ready m (length window)
+  pub output : List ℕ
+  pub counted : made ≡ length output
+  pub wrote : out ≡ put out₀ 0 (beatBytes output)
+  pub same : run budget (worldOf m₀ window₀ beats out₀)
+      ≡ moreBy count (run (budget - count) (worldAt m window beats took output (length out / 2 - made)))
+
+module _ (m₀ : Machine) (window₀ beats out₀ : List ℕ) (budget : ℕ) where
+  pub stands-first : lentOf m₀ window₀ beats out₀ ≡ serves → Stands m₀ window₀ beats out₀ budget window₀ out₀ m₀ 0 0 0
+  stands-first e =
+      record {
+        window-length = refl;
+        out-length = refl;
+        spent = omega arith;
+        within = record { taken-in = omega arith; made-in = omega arith };
+        ready = serves-ready m₀ window₀ beats out₀ e;
+        output = [];
+        counted = refl;
+        wrote = none-made out₀ 0;
+        same = rw (sub-zero budget, sub-zero (length out₀ / 2)) (sym (more-none (run budget (worldOf m₀ window₀ beats out₀))));
+      }
+
+  module _ (window out : List ℕ) (m : Machine) (took made count : ℕ) (s : Stands m₀ window₀ beats out₀ budget window out m took made count) where
+    abbrev pub here : World
+    here = worldAt m window beats took (s .output) (length out / 2 - made)
+
+    -- after n steps more
+    pub stands-on : (n : ℕ) (window' out' : List ℕ) (m' : Machine) (took' made' : ℕ) → n ≤ budget - count → length window' ≡ length window
+        → length out' ≡ length out → Within beats out took' made'
+        → Went (λ (w : World). steps n w) m window beats took out made (progress m' took' made') window' out'
+        → Stands m₀ window₀ beats out₀ budget window' out' m' took' made' (count + n)
+    stands-on n window' out' m' took' made' h wl ol b g =
+        let there = worldAt m' window' beats took' (s .output ++ g .new) (length out / 2 - made') in
+        let left : budget - count ≡ n + (budget - (count + n)) = omega arith in
+        let goes : steps n here ≡ taken there = g .goes (s .output) in
+        let front : 2 * made ≡ 0 + length (beatBytes (s .output)) = omega (arith, length-beat-bytes (s .output)) in
+        let inside : 0 + length (beatBytes (s .output)) ≤ length out₀ = omega arith in
+        record {
+          window-length = wl ∙ s .window-length;
+          out-length = ol ∙ s .out-length;
+          spent = omega arith;
+          within = record { taken-in = b .taken-in; made-in = omega arith };
+          ready = rw wl (steps-ready (length window) n here there goes (s .ready));
+          output = s .output ++ g .new;
+          counted = simp length-append (omega arith);
+          wrote = g .wrote ∙ rw (front, s .wrote, beat-bytes-append) (put-put out₀ 0 (beatBytes (s .output)) (beatBytes (g .new)) inside);
+          same = s .same
+              ∙ ap (moreBy count) (ap (λ (k : ℕ). run k here) left ∙ run-steps n (budget - (count + n)) here there goes)
+              ∙ more-more count n _
+              ∙ ap (λ (l : ℕ). moreBy (count + n) (run (budget - (count + n)) (worldAt m' window' beats took' (s .output ++ g .new) (l / 2 - made')))) (sym ol);
+        }
+
+    ends : (r : Reason) → run (budget - count) here ≡ report here 0 r → lentOf m₀ window₀ beats out₀ ≡ serves
+        → HasRun m₀ window₀ beats out₀ budget
+        (many.Done (record { machine = m; reason = r; steps = count; taken = took; made = made })) window out
+    ends r f e =
+        let w = worldOf m₀ window₀ beats out₀ in
+        let full : run budget w ≡ report here count r = s .same ∙ ap (moreBy count) f ∙ ap (λ (k : ℕ). report here k r) (add-zero count) in
+        let since : length (beatsIn beats) - length (drop took (beatsIn beats)) ≡ took = took-since beats took (s .within .taken-in) in
+        let tells : record { machine = m; reason = r; steps = count; taken = took; made = made } ≡ ranAs w (report here count r) = rw (since, s .counted) in
+        record {
+          answer = ap many.Done tells
+              ∙ sym (ap (λ (l : Lent). runAnswer l w budget) e ∙ ap (λ (x : Report). many.Done (ranAs w x)) full);
+          window-after = sym (ap (λ (l : Lent). windowAfter l (run budget w .world) window₀) e ∙ ap (λ (x : Report). x .world .memory) full);
+          out-after = s .wrote ∙ over out₀ (s .output)
+              ∙ sym (ap (λ (l : Lent). outAfter l (run budget w .world) out₀) e ∙ ap (λ (x : Report). outputOver (x .world) out₀) full);
+        }
+
+    -- where no step can be taken
+    pub stands-stopped : (r : Reason) → waitOf (step here) ≡ Stop r → lentOf m₀ window₀ beats out₀ ≡ serves
+        → HasRun m₀ window₀ beats out₀ budget
+        (many.Done (record { machine = m; reason = r; steps = count; taken = took; made = made })) window out
+    stands-stopped r f e = ends r (run-stops (budget - count) here r f) e
+
+    -- where the budget is spent, and one can
+    pub stands-out : waitOf (step here) ≡ Go → budget ≡ count → lentOf m₀ window₀ beats out₀ ≡ serves
+        → HasRun m₀ window₀ beats out₀ budget
+        (many.Done (record { machine = m; reason = reason.Budget; steps = count; taken = took; made = made })) window out
+    stands-out f b e =
+        let none : budget - count ≡ 0 = omega arith in
+        ends reason.Budget (ap (λ (k : ℕ). run k here) none ∙ run-out here f) e
+
+pub run-refused : {m : Machine} {window beats out : List ℕ} {budget : ℕ} {why : Refusal} → lentOf m window beats out ≡ refused why
+    → HasRun m window beats out budget (many.Refused why) window out
+run-refused {m} {window} {beats} {out} {budget} e =
+    let w = worldOf m window beats out in
+    record {
+      answer = sym (ap (λ (l : Lent). runAnswer l w budget) e);
+      window-after = sym (ap (λ (l : Lent). windowAfter l (run budget w .world) window) e);
+      out-after = sym (ap (λ (l : Lent). outAfter l (run budget w .world) out) e);
+    }

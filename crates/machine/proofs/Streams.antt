@@ -1,0 +1,71 @@
+-- Beats in lent bytes: the next one, and those made.
+-- Assumes nothing.
+use Prim.Native.Nat.{ℕ, zero, suc, _+_, _-_, _*_, _/_, _≤_, _<_}
+use mathlib.Core.Path.{_≡_, refl, sym, ap, _∙_}
+use mathlib.Core.Bool.{Bool, true, false}
+use mathlib.Core.List.{List, [], _∷_, _++_, append-nil}
+use native.Mathlib.Nat.{add-zero, suc-ne-zero}
+use native.Mathlib.Omega.{arith}
+use lib.ListN.{length, take, drop, length-append, length-drop, take-append-drop, drop-of-length-le}
+use lib.Dec.{ltb}
+use borrow.Author.Tests.{lt-ltb, le-ltb, ltb-true, ltb-false}
+use Rattle.words.specs.declared.Order.the-variants.{MostFirst}
+use Rattle.words.specs.Orders.{bytesOf, numberOf}
+use Rattle.words.specs.Slices.{put, putAt, numberAt}
+use Rattle.words.proofs.Slices.{put-in, put-put, number-in}
+use Rattle.machine.specs.Beats.{beatsIn, beatBytes}
+use Rattle.machine.specs.Turns.{some}
+
+half : (n : ℕ) → suc (suc n) / 2 ≡ suc (n / 2)
+half n = omega arith
+
+pub length-beats : (xs : List ℕ) → length (beatsIn xs) ≡ length xs / 2
+length-beats [] = refl
+length-beats (x ∷ []) = refl
+length-beats (x ∷ y ∷ xs) = ap suc (length-beats xs) ∙ sym (half (length xs))
+
+-- the beat number i of lent bytes
+abbrev pub beatAt : List ℕ → ℕ → ℕ
+beatAt xs i = numberAt MostFirst 2 xs (2 * i)
+
+shifted : (x y : ℕ) (xs : List ℕ) (at : ℕ) → at + 2 ≤ length xs → numberAt MostFirst 2 (x ∷ y ∷ xs) (suc (suc at)) ≡ numberAt MostFirst 2 xs at
+shifted x y xs at h = number-in (x ∷ y ∷ xs) (suc (suc at)) MostFirst 2 (omega arith) ∙ sym (number-in xs at MostFirst 2 h)
+
+pub next-beat : (xs : List ℕ) (i : ℕ) → i < length xs / 2 → drop i (beatsIn xs) ≡ beatAt xs i ∷ drop (i + 1) (beatsIn xs)
+next-beat [] i h = absurd (omega arith)
+next-beat (x ∷ []) i h = absurd (omega arith)
+next-beat (x ∷ y ∷ xs) zero h = ap (λ (b : ℕ). b ∷ beatsIn xs) (sym (number-in (x ∷ y ∷ xs) 0 MostFirst 2 (omega arith)))
+next-beat (x ∷ y ∷ xs) (suc i) h =
+    let two : 2 * suc i ≡ suc (suc (2 * i)) = omega arith in
+    let more : suc i + 1 ≡ suc (i + 1) = omega arith in
+    rw (two, more, shifted x y xs (2 * i) (omega arith)) (next-beat xs i (omega arith))
+
+-- there is a beat, and there is room
+some-by : (b : Bool) (xs : List ℕ) (i : ℕ) → ltb i (length xs / 2) ≡ b → some (drop i (beatsIn xs)) ≡ b
+some-by true xs i e = rw (next-beat xs i (ltb-true _ _ e))
+some-by false xs i e = rw (drop-of-length-le (beatsIn xs) {i = i} (rw (length-beats xs) (ltb-false _ _ e)))
+
+pub some-beat : (xs : List ℕ) (i : ℕ) → ltb i (length xs / 2) ≡ some (drop i (beatsIn xs))
+some-beat xs i = sym (some-by (ltb i (length xs / 2)) xs i refl)
+
+room-by : (b : Bool) (room made : ℕ) → ltb made room ≡ b → b ≡ ltb 0 (room - made)
+room-by true room made e = let h : made < room = ltb-true made room e in sym (lt-ltb 0 (room - made) (omega arith))
+room-by false room made e = let h : room ≤ made = ltb-false made room e in sym (le-ltb 0 (room - made) (omega arith))
+
+pub some-room : (room made : ℕ) → ltb made room ≡ ltb 0 (room - made)
+some-room room made = room-by (ltb made room) room made refl
+
+-- beats made
+pub length-beat-bytes : (bs : List ℕ) → length (beatBytes bs) ≡ 2 * length bs
+length-beat-bytes [] = refl
+length-beat-bytes (b ∷ bs) = let l : length (beatBytes bs) ≡ 2 * length bs = length-beat-bytes bs in omega arith
+
+pub none-made : (xs : List ℕ) (at : ℕ) → xs ≡ put xs at (beatBytes [])
+none-made xs at = rw (add-zero at) (sym (take-append-drop at xs))
+
+pub beat-made : (xs : List ℕ) (made b : ℕ) → made < length xs / 2 → putAt xs (2 * made) (bytesOf MostFirst 2 b) ≡ put xs (2 * made) (beatBytes (b ∷ []))
+beat-made xs made b h = put-in xs (2 * made) (bytesOf MostFirst 2 b) (omega arith)
+
+pub beat-bytes-append : (bs cs : List ℕ) → beatBytes (bs ++ cs) ≡ beatBytes bs ++ beatBytes cs
+beat-bytes-append [] cs = refl
+beat-bytes-append (b ∷ bs) cs = rw (beat-bytes-append bs cs)

@@ -1,0 +1,77 @@
+-- Rules applied in the middle of lent slices.
+-- Assumes nothing.
+use Prim.Native.Nat.{ℕ, zero, suc, _+_, _-_, _*_, _/_, _%_, _^_, _≤_, _<_}
+use mathlib.Core.Path.{_≡_, refl, sym, ap, _∙_}
+use mathlib.Core.Bool.{Bool, true, false}
+use mathlib.Core.List.{List, [], _∷_, _++_, append-nil}
+use native.Mathlib.Nat.{add-zero}
+use native.Mathlib.Omega.{arith}
+use lib.ListN.{length, drop, getD, set}
+use Rattle.words.specs.declared.Order.the-variants.{MostFirst}
+use Rattle.words.specs.Orders.{bytesOf}
+use Rattle.words.specs.Slices.{putAt}
+use Rattle.bus.specs.Window.{inWindow, placeOf}
+use Rattle.machine.specs.declared.Machine.{Machine}
+use Rattle.machine.specs.declared.Progress.{Progress}
+use Rattle.machine.specs.declared.Work.{Work}
+use Rattle.machine.specs.Beats.{beatsIn, beatBytes, beatError, beatEop, beatData}
+use Rattle.machine.specs.Step.{World, Answer, taken, sourceOf, destinationOf, onward, withByte, beatFor, sendStep, receiveFrom}
+use Rattle.machine.specs.Turns.{world, worldAt, progress, inFault, Still, Went}
+use Rattle.machine.proofs.Streams.{beatAt, next-beat, none-made, beat-made}
+
+module _ (rule : World → Answer) (m m' : Machine) (window window' beats : List ℕ) (took : ℕ) (out : List ℕ) (made : ℕ) where
+  -- no beat made
+  pub went-none : (took' : ℕ)
+      → ((o : List ℕ) → rule (worldAt m window beats took o (length out / 2 - made)) ≡ taken (worldAt m' window' beats took' o (length out / 2 - made)))
+      → Went rule m window beats took out made (progress m' took' made) window' out
+  went-none took' f =
+      record {
+        new = [];
+        counted = sym (add-zero made);
+        wrote = none-made out (2 * made);
+        goes = λ o. f o ∙ ap (λ (x : List ℕ). taken (worldAt m' window' beats took' x (length out / 2 - made))) (sym (append-nil o));
+      }
+
+  -- no beat taken either
+  pub went-still : Still rule m window m' window' → Went rule m window beats took out made (progress m' took made) window' out
+  went-still s = went-none took (λ o. s (drop took (beatsIn beats)) o (length out / 2 - made))
+
+-- a rule that says the same of the machine
+pub went-as : (other rule : World → Answer) {m : Machine} {window beats : List ℕ} {took : ℕ} {out : List ℕ} {made : ℕ} {r : Progress} {window' out' : List ℕ}
+    → ((memory input output : List ℕ) (room : ℕ) → rule (world m memory input output room) ≡ other (world m memory input output room))
+    → Went other m window beats took out made r window' out' → Went rule m window beats took out made r window' out'
+went-as other rule e g =
+    record { new = g .new; counted = g .counted; wrote = g .wrote; goes = λ o. e _ _ _ _ ∙ g .goes o }
+
+-- mode 1
+module _ (m : Machine) (k : Work) (window beats : List ℕ) (took : ℕ) (out : List ℕ) (made : ℕ) where
+  pub send-out : inWindow (m .window) (sourceOf k) 1 ≡ false
+      → Went (λ (w : World). sendStep w k) m window beats took out made (progress (inFault m 13 (sourceOf k % 2 ^ 32)) took made) window out
+  unfolding sendStep
+  send-out e = went-none (λ (w : World). sendStep w k) m _ window window beats took out made took (λ o. rw e)
+
+  pub send-in : inWindow (m .window) (sourceOf k) 1 ≡ true → made < length out / 2 → (b : ℕ)
+      → b ≡ beatFor k (getD window (placeOf (m .window) (sourceOf k)) 0)
+      → Went (λ (w : World). sendStep w k) m window beats took out made (progress (onward m (withByte 0 false k)) took (made + 1)) window
+      (putAt out (2 * made) (bytesOf MostFirst 2 b))
+  unfolding sendStep
+  send-in e h b same =
+      let left : length out / 2 - made ≡ suc (length out / 2 - (made + 1)) = omega arith in
+      record {
+        new = b ∷ [];
+        counted = refl;
+        wrote = beat-made out made b h;
+        goes = λ o. rw (e, left, same);
+      }
+
+-- mode 2
+module _ (m : Machine) (k : Work) (window beats : List ℕ) (took : ℕ) (out : List ℕ) (made : ℕ) (h : took < length beats / 2) where
+  pub receive-out : inWindow (m .window) (destinationOf k) 1 ≡ false
+      → Went (λ (w : World). receiveFrom w k (w .input)) m window beats took out made (progress (inFault m 14 (destinationOf k % 2 ^ 32)) took made) window out
+  receive-out e = went-none (λ (w : World). receiveFrom w k (w .input)) m _ window window beats took out made took (λ o. rw (next-beat beats took h, e))
+
+  pub receive-in : inWindow (m .window) (destinationOf k) 1 ≡ true
+      → Went (λ (w : World). receiveFrom w k (w .input)) m window beats took out made
+      (progress (onward m (withByte (beatError (beatAt beats took)) (beatEop (beatAt beats took)) k)) (took + 1) made)
+      (set window (placeOf (m .window) (destinationOf k)) (beatData (beatAt beats took))) out
+  receive-in e = went-none (λ (w : World). receiveFrom w k (w .input)) m _ window _ beats took out made (took + 1) (λ o. rw (next-beat beats took h, e))

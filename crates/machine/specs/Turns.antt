@@ -1,0 +1,125 @@
+-- What the helpers' contracts cite: a world by its parts, several steps at once, and what a machine keeps that a step may be
+-- safe. No promise cites it, so nothing here need be believed.
+-- Assumes nothing.
+use Prim.Native.Nat.{ℕ, zero, suc, _+_, _-_, _*_, _/_, _≤_, _<_}
+use mathlib.Core.Path.{_≡_}
+use mathlib.Core.Bool.{Bool, true, false}
+use mathlib.Core.List.{List, [], _∷_, _++_}
+use lib.Dec.{ltb}
+use lib.ListN.{length, drop}
+use Rattle.words.specs.Slices.{put}
+use Rattle.bus.specs.Window.{inWindow}
+use Rattle.machine.specs.declared.Machine.{Machine}
+use Rattle.machine.specs.declared.Progress.{Progress}
+use Rattle.machine.specs.declared.Phase.{Phase}
+use Rattle.machine.specs.declared.Phase.the-variants.{Rest, Fetch, Move, WriteBack, Ended, Halted, Faulted}
+use Rattle.machine.specs.declared.steps.Wait.{Wait}
+use Rattle.machine.specs.declared.steps.Wait.the-variants.{Go, Stop}
+use Rattle.machine.specs.declared.steps.Lent as code
+use Rattle.machine.specs.declared.steps.Lent.the-variants as lent
+use Rattle.machine.specs.State.{withPhase, withBusy}
+use Rattle.machine.specs.Beats.{beatsIn, beatBytes}
+use Rattle.machine.specs.Step.{World, Answer, taken, stopped, step, whole}
+use Rattle.machine.specs.Run.{Lent, serves, refused}
+
+-- ---- worlds
+
+abbrev pub world : Machine → (memory input output : List ℕ) (room : ℕ) → World
+world m memory input output room = record { machine = m; memory = memory; input = input; output = output; room = room }
+
+-- the world in the middle of lent beats, of which so many are taken
+abbrev pub worldAt : Machine → (window beats : List ℕ) (took : ℕ) (output : List ℕ) (room : ℕ) → World
+worldAt m window beats took output room = world m window (drop took (beatsIn beats)) output room
+
+abbrev pub progress : Machine → (took made : ℕ) → Progress
+progress m took made = record { machine = m; taken = took; made = made }
+
+-- ---- the machine in a fault
+
+abbrev pub inFault : Machine → (code address : ℕ) → Machine
+inFault m code address = withPhase (Faulted (record { code = code; address = address })) (withBusy false m)
+
+-- ---- whether a step can be taken
+
+abbrev pub waitOf : Answer → Wait
+waitOf (taken v) = Go
+waitOf (stopped r) = Stop r
+
+abbrev pub some : List ℕ → Bool
+some [] = false
+some (b ∷ bs) = true
+
+-- what a rule's waiting depends on: whether there is a beat, and whether there is room
+abbrev pub Waits : (World → Answer) → Machine → (more room : Bool) → Wait → Type 0
+Waits rule m more room r =
+    (memory input output : List ℕ) (left : ℕ) → more ≡ some input → room ≡ ltb 0 left → r ≡ waitOf (rule (world m memory input output left))
+
+-- a rule can be applied, in the middle of lent slices
+abbrev pub Goes : (World → Answer) → Machine → (window beats : List ℕ) (took : ℕ) (out : List ℕ) (made : ℕ) → Type 0
+Goes rule m window beats took out made = waitOf (rule (worldAt m window beats took [] (length out / 2 - made))) ≡ Go
+
+-- ---- what is lent
+
+abbrev pub lentAs : code.Lent → Lent
+lentAs lent.Serves = serves
+lentAs (lent.Refused why) = refused why
+
+-- no more beats are taken than there are, or made than there is room for
+pub record Within (beats out : List ℕ) (took made : ℕ) : Type 0 where
+  pub taken-in : took ≤ length beats / 2
+  pub made-in : made ≤ length out / 2
+
+-- ---- steps
+
+-- n steps after an answer; no step after one that could not be taken
+abbrev pub stepsOn : ℕ → Answer → Answer
+stepsOn zero a = a
+stepsOn (suc n) (stopped r) = stopped r
+stepsOn (suc n) (taken w) = stepsOn n (step w)
+
+-- n applications of the step rule
+unfoldable pub steps : ℕ → World → Answer
+steps n w = stepsOn n (taken w)
+
+-- a rule that can be applied, and touches neither beats nor output
+abbrev pub Still : (World → Answer) → Machine → (window : List ℕ) → Machine → (window' : List ℕ) → Type 0
+Still rule m window m' window' =
+    (input output : List ℕ) (room : ℕ) → rule (world m window input output room) ≡ taken (world m' window' input output room)
+
+-- a rule that can be applied, in the middle of lent slices: `new` are the beats that it made, and o those made before
+pub record Went (rule : World → Answer) (m : Machine) (window beats : List ℕ) (took : ℕ) (out : List ℕ) (made : ℕ) (r : Progress)
+    (window' out' : List ℕ) : Type 0 where
+  pub new : List ℕ
+  pub counted : r .made ≡ made + length new
+  pub wrote : out' ≡ put out (2 * made) (beatBytes new)
+  pub goes : (o : List ℕ)
+      → rule (worldAt m window beats took o (length out / 2 - made))
+      ≡ taken (worldAt (r .machine) window' beats (r .taken) (o ++ new) (length out / 2 - r .made))
+
+-- ---- what a step needs of a machine
+
+-- in Move there is a byte left to move
+abbrev pub Left : Machine → Phase → Type 0
+Left m Rest = Unit {0}
+Left m Fetch = Unit {0}
+Left m (Move k) = k .moved < whole m k
+Left m (WriteBack k) = Unit {0}
+Left m Ended = Unit {0}
+Left m Halted = Unit {0}
+Left m (Faulted f) = Unit {0}
+
+-- the descriptor in hand lies in the window
+abbrev pub Placed : Machine → Phase → Type 0
+Placed m Rest = Unit {0}
+Placed m Fetch = Unit {0}
+Placed m (Move k) = inWindow (m .window) (k .at) 32 ≡ true
+Placed m (WriteBack k) = inWindow (m .window) (k .at) 32 ≡ true
+Placed m Ended = Unit {0}
+Placed m Halted = Unit {0}
+Placed m (Faulted f) = Unit {0}
+
+-- and the lent window is the machine's
+pub record Ready (m : Machine) (lent : ℕ) : Type 0 where
+  pub size : m .window .length ≡ lent
+  pub left : Left m (m .phase)
+  pub placed : Placed m (m .phase)

@@ -1,0 +1,640 @@
+// One step, by phase, in the paper's order.
+ghost use mathlib.Core.Path.{_≡_};
+ghost use mathlib.Core.Bool.{Bool, true, cond};
+ghost use mathlib.Core.List.{List};
+ghost use Prim.Native.Nat.{ℕ, _+_, _%_, _/_, _^_, _≤_, _<_};
+ghost use lib.ListN.{length, drop};
+ghost use Rattle.bus.specs.Window.{inWindow};
+ghost use Rattle.image.specs.Rules.{asked as askedOf};
+ghost use Rattle.machine.specs.State.{modeNumber, withPhase, withBusy, withPointer};
+ghost use Rattle.machine.specs.Beats.{beatsIn, outputBeat};
+ghost use Rattle.machine.specs.Step.{World, wantsLength, begun as begunOf, ended as endedOf, byteAddress, sourceOf, destinationOf, withByte, onward as onwardOf, beatFor, writtenControl, writtenBack, counted as countedOf, afterBack, completed as completedOf, taken as takenTo};
+ghost use Rattle.machine.specs.Step.{fetched as fetchedOf, fetchStep, copyStep, sendStep, receiveFrom, moveStep, writeBackStep, step as stepOf};
+ghost use Rattle.machine.specs.Run.{lentOf, Stepped};
+ghost use Rattle.machine.specs.declared.Phase.the-variants.{Fetch, Move};
+ghost use Rattle.machine.specs.Turns.{world, progress, inFault, Waits, Goes, lentAs, Within, Still, Went, Ready};
+use crate::Control;
+use crate::Count;
+use crate::Fault;
+use crate::Machine;
+use crate::Mode;
+use crate::Phase;
+use crate::Pointer;
+use crate::Progress;
+use crate::Reason;
+use crate::StepAnswer;
+use crate::Work;
+use crate::has;
+use bus::BusAddress;
+use bus::Located;
+use bus::Refusal;
+use descriptor::DescControl;
+use descriptor::Descriptor;
+use words::Order;
+use words::get_u16;
+use words::put_u16;
+
+// Input beats: error 7, EOP 1, data 8. Output beats: zero 6, SOP 1, EOP 1, data 8.
+const ERROR: u16 = 512;
+
+const SOP: u16 = 512;
+
+const EOP: u16 = 256;
+
+// Whether a step can be taken, or why not.
+pub(crate) enum Wait {
+    Go,
+    Stop(Reason),
+}
+
+// Whether what is lent serves the machine, or the first refusal that applies.
+pub(crate) enum Lent {
+    Serves,
+    Refused(Refusal),
+}
+
+// Modes 0 and 1 take no length of 0.
+fn wants_length(mode: Mode) -> bool
+    ensures { λ r. ⌜ r ≡ wantsLength mode ⌝ }
+{
+    match mode {
+        Mode::MemoryToMemory => true,
+        Mode::MemoryToStream => true,
+        Mode::StreamToMemory => false,
+    }
+}
+
+// The bytes that a length asks for: in mode 2 a 0 means 65,535.
+pub(crate) fn asked(mode: Mode, length: u16) -> u16
+    ensures { λ r. ⌜ r ≡ askedOf (modeNumber mode) length ⌝ }
+{
+    match mode {
+        Mode::MemoryToMemory => length,
+        Mode::MemoryToStream => length,
+        Mode::StreamToMemory => if length == 0 { 65_535 } else { length },
+    }
+}
+
+// Byte i is at start + i, without i under the FIXED bit.
+fn byte_address(fixed: bool, start: u32, i: u16) -> u64
+    ensures { λ r. ⌜ r ≡ byteAddress fixed start i ⌝ }
+{
+    if fixed {
+        start as u64
+    } else {
+        start as u64 + i as u64
+    }
+}
+
+// An address modulo 2^32, as a fault keeps it.
+fn cut(address: BusAddress) -> u32
+    ensures { λ r. ⌜ r ≡ address .0 % 2 ^ 32 ⌝ }
+{
+    (address.0 % 0x1_0000_0000) as u32
+}
+
+// The weight of a flag of an output beat, where it is set.
+fn weight(flag: bool, weight: u16) -> u16
+    ensures { λ r. ⌜ (r ≡ cond flag weight 0) × (r ≤ weight) ⌝ }
+{
+    if flag { weight } else { 0 }
+}
+
+// Zero 6, SOP 1, EOP 1, data 8.
+fn output_beat(sop: bool, eop: bool, byte: u8) -> u16
+    ensures { λ r. ⌜ r ≡ outputBeat sop eop byte ⌝ }
+{
+    weight(sop, SOP) + weight(eop, EOP) + byte as u16
+}
+
+// If MAX is 0 the count becomes 0; else one more, and on reaching MAX or more it becomes 0.
+fn counted(count: u8, max: u8) -> Count
+    ensures { λ r. ⌜ r ≡ countedOf count max ⌝ }
+{
+    let next = count as u32 + 1;
+    if max == 0 {
+        return Count {
+            count: 0,
+            full: false,
+        };
+    }
+    if max as u32 <= next {
+        return Count {
+            count: 0,
+            full: true,
+        };
+    }
+    Count {
+        count: next as u8,
+        full: false,
+    }
+}
+
+// RUN 0: Rest; errors with STOP_DMA_ER: Halted; else Fetch.
+fn after_back(run: bool, halts: bool) -> Phase
+    ensures { λ r. ⌜ r ≡ afterBack run halts ⌝ }
+{
+    if run {
+        if halts { Phase::Halted } else { Phase::Fetch }
+    } else {
+        Phase::Rest
+    }
+}
+
+impl Work {
+    // Where the next byte is read.
+    pub(crate) fn read_address(self) -> BusAddress
+        ensures { λ r. ⌜ r .0 ≡ sourceOf self ⌝ }
+    {
+        let control = self.control;
+        let fixed = control.has(DescControl::READ_FIXED_ADDRESS);
+        BusAddress(byte_address(fixed, self.source, self.moved))
+    }
+
+    // Where the next byte is written.
+    pub(crate) fn write_address(self) -> BusAddress
+        ensures { λ r. ⌜ r .0 ≡ destinationOf self ⌝ }
+    {
+        let control = self.control;
+        let fixed = control.has(DescControl::WRITE_FIXED_ADDRESS);
+        BusAddress(byte_address(fixed, self.destination, self.moved))
+    }
+
+    // One byte more, its errors gathered by OR.
+    fn with_byte(self, errors: u8, eop: bool) -> Work
+        requires { ⌜ self .moved < 65535 ⌝ }
+        ensures { λ r. ⌜ r ≡ withByte errors eop self ⌝ }
+    {
+        Work {
+            errors: self.errors | errors,
+            moved: self.moved + 1,
+            eop,
+            ..self
+        }
+    }
+
+    // The output beat of the next byte: SOP on byte 0 if WRITE_FIXED, EOP on byte L-1 if GENERATE_EOP.
+    fn beat(self, byte: u8) -> u16
+        ensures { λ r. ⌜ r ≡ beatFor self byte ⌝ }
+    {
+        let control = self.control;
+        let next = self.moved as u32 + 1;
+        let sop = control.has(DescControl::WRITE_FIXED_ADDRESS) & (self.moved == 0);
+        let eop = control.has(DescControl::GENERATE_EOP) & (next == self.length as u32);
+        output_beat(sop, eop, byte)
+    }
+}
+
+impl Machine {
+    // A fault sets BUSY 0 and keeps code and address.
+    fn faulted(self, code: u8, address: u32) -> Machine
+        ensures { λ r. ⌜ r ≡ inFault self code address ⌝ }
+    {
+        let mut m = self;
+        m.status.busy = false;
+        Machine {
+            phase: Phase::Faulted(Fault { code, address }),
+            ..m
+        }
+    }
+
+    // When L bytes are moved or a taken beat had EOP, go to WriteBack.
+    fn onward(self, k: Work) -> Machine
+        ensures { λ r. ⌜ r ≡ onwardOf self k ⌝ }
+    {
+        let mode = self.mode;
+        let done = k.eop | (k.moved == asked(mode, k.length));
+        if done {
+            Machine {
+                phase: Phase::WriteBack(k),
+                ..self
+            }
+        } else {
+            Machine {
+                phase: Phase::Move(k),
+                ..self
+            }
+        }
+    }
+
+    // Rest, RUN 1: BUSY 1, go to Fetch.
+    fn started(self) -> Machine
+        ensures { λ r. ⌜ r ≡ withPhase Fetch (withBusy true self) ⌝ }
+    {
+        let mut m = self;
+        m.status.busy = true;
+        Machine {
+            phase: Phase::Fetch,
+            ..m
+        }
+    }
+
+    // OWNED 0: set CHAIN_COMPLETED, pend if IE_CHAIN, go to Ended.
+    fn ended(self) -> Machine
+        ensures { λ r. ⌜ r ≡ endedOf self ⌝ }
+    {
+        let pending = self.pending | has(self.control.0, Control::IE_CHAIN);
+        let mut m = self;
+        m.status.chain = true;
+        Machine {
+            phase: Phase::Ended,
+            pending,
+            ..m
+        }
+    }
+
+    // Keep the fields, set the pointer to next_desc_ptr, go to Move.
+    fn begun(self, d: Descriptor) -> Machine
+        ensures { λ r. ⌜ r ≡ withPhase (Move (begunOf (self .pointer .0) d)) (withPointer (d .next) self) ⌝ }
+    {
+        let control = d.control;
+        let work = Work {
+            at: self.pointer.0,
+            source: d.source,
+            destination: d.destination,
+            length: d.length,
+            control,
+            errors: 0,
+            moved: 0,
+            eop: false,
+        };
+        Machine {
+            phase: Phase::Move(work),
+            pointer: Pointer(d.next),
+            ..self
+        }
+    }
+
+    // The control byte as fetched, with OWNED cleared unless PARK.
+    fn written_control(self, k: Work) -> u8
+        ensures { λ r. ⌜ r ≡ writtenControl self k ⌝ }
+    {
+        if has(self.control.0, Control::PARK) {
+            k.control.0
+        } else {
+            k.control.0 % DescControl::OWNED_BY_HW
+        }
+    }
+
+    // The registers after a descriptor, each event pending under its own enable alone.
+    fn completed(self, k: Work) -> Machine
+        ensures { λ r. ⌜ r ≡ completedOf self k ⌝ }
+    {
+        let c = self.control.0;
+        let failed = k.errors != 0;
+        let run = has(c, Control::RUN);
+        let halts = failed & has(c, Control::STOP_DMA_ER);
+        let n = counted(self.count, (c / Control::MAX_DESC_PROCESSED % 256) as u8);
+        let pending = self.pending
+            | has(c, Control::IE_DESCRIPTOR)
+            | (has(c, Control::IE_EOP) & k.eop)
+            | (has(c, Control::IE_ERROR) & failed)
+            | (has(c, Control::IE_MAX) & n.full);
+        let eop = self.status.eop | k.eop;
+        let error = self.status.error | failed;
+        let busy = run & !halts;
+        let mut m = self;
+        m.status.descriptor = true;
+        m.status.eop = eop;
+        m.status.error = error;
+        m.status.busy = busy;
+        Machine {
+            phase: after_back(run, halts),
+            pending,
+            count: n.count,
+            ..m
+        }
+    }
+}
+
+// The steps of each phase, where they can be taken.
+impl Machine {
+    // OWNED 0 ends the chain; length 0 in mode 0 or 1 is fault 12.
+    fn fetched(self, d: Descriptor) -> Machine
+        ensures { λ r. ⌜ ((memory : List ℕ) → Still (λ (w : World). fetchedOf w d) self memory r memory) ⌝ }
+    {
+        let control = d.control;
+        let mode = self.mode;
+        let empty = wants_length(mode) & (d.length == 0);
+        if control.has(DescControl::OWNED_BY_HW) {
+            if empty {
+                self.faulted(12, self.pointer.0)
+            } else {
+                self.begun(d)
+            }
+        } else {
+            self.ended()
+        }
+    }
+
+    // RUN 0: Rest. Otherwise the 32 bytes at the pointer: misaligned, fault 10; not in the window, fault 11.
+    fn fetch_step(self, window: &[u8]) -> Machine
+        ensures { λ r. ⌜ Still fetchStep self (now (window .entry)) r (now (window .entry)) ⌝ }
+    {
+        let pointer = self.pointer.0;
+        if has(self.control.0, Control::RUN) {
+            if pointer % 4 == 0 {
+                let found = self.window.locate(BusAddress(pointer as u64), 32);
+                match found {
+                    Located::Outside => self.faulted(11, pointer),
+                    Located::At(place) => self.fetched(descriptor::at(window, place)),
+                }
+            } else {
+                self.faulted(10, pointer)
+            }
+        } else {
+            self.rested()
+        }
+    }
+
+    // Mode 0: source outside, 13; destination outside, 14.
+    fn copy_step(self, k: Work, window: &mut [u8]) -> Machine
+        requires { ⌜ self .window .length ≡ length (now window) ⌝ }
+        requires { ⌜ k .moved < 65535 ⌝ }
+        ensures { λ r. ⌜ Still (λ (w : World). copyStep w k) self (now (window .entry)) r (now (window .exit)) ⌝ }
+    {
+        let a = k.read_address();
+        let b = k.write_address();
+        let from = self.window.locate(a, 1);
+        match from {
+            Located::Outside => self.faulted(13, cut(a)),
+            Located::At(p) => {
+                let to = self.window.locate(b, 1);
+                match to {
+                    Located::Outside => self.faulted(14, cut(b)),
+                    Located::At(q) => {
+                        let i = p.index();
+                        let j = q.index();
+                        window[j] = window[i];
+                        self.onward(k.with_byte(0, false))
+                    }
+                }
+            }
+        }
+    }
+
+    // Mode 1: 13; then the beat is made, for which there is room.
+    fn send_step(self, k: Work, window: &[u8], out: &mut [u8], made: usize) -> Progress
+        requires { ⌜ self .window .length ≡ length (now window) ⌝ }
+        requires { ⌜ k .moved < 65535 ⌝ }
+        requires { ⌜ made ≤ length (now out) / 2 ⌝ }
+        requires { ⌜ (inWindow (self .window) (sourceOf k) 1 ≡ true → made < length (now out) / 2) ⌝ }
+        ensures { λ r. ⌜ r .made ≤ length (now (out .entry)) / 2 ⌝ }
+        ensures { λ r. ⌜ ((beats : List ℕ) (taken : ℕ) → Went (λ (w : World). sendStep w k) self (now (window .entry)) beats taken (now (out .entry)) made (progress (r .machine) taken (r .made)) (now (window .entry)) (now (out .exit))) ⌝ }
+    {
+        let a = k.read_address();
+        let found = self.window.locate(a, 1);
+        match found {
+            Located::Outside => Progress {
+                machine: self.faulted(13, cut(a)),
+                taken: 0,
+                made,
+            },
+            Located::At(place) => {
+                let at = place.index();
+                let beat = k.beat(window[at]);
+                put_u16(Order::MostFirst, out, 2 * made, beat);
+                Progress {
+                    machine: self.onward(k.with_byte(0, false)),
+                    taken: 0,
+                    made: made + 1,
+                }
+            }
+        }
+    }
+
+    // Mode 2: 14, and then the beat is not taken.
+    fn receive_step(self, k: Work, window: &mut [u8], beats: &[u8], taken: usize) -> Progress
+        requires { ⌜ self .window .length ≡ length (now window) ⌝ }
+        requires { ⌜ k .moved < 65535 ⌝ }
+        requires { ⌜ taken < length (now beats) / 2 ⌝ }
+        ensures { λ r. ⌜ r .taken ≤ length (now (beats .entry)) / 2 ⌝ }
+        ensures { λ r. ⌜ ((out : List ℕ) (made : ℕ) → Went (λ (w : World). receiveFrom w k (w .input)) self (now (window .entry)) (now (beats .entry)) taken out made (progress (r .machine) (r .taken) made) (now (window .exit)) out) ⌝ }
+    {
+        let a = k.write_address();
+        let found = self.window.locate(a, 1);
+        match found {
+            Located::Outside => Progress {
+                machine: self.faulted(14, cut(a)),
+                taken,
+                made: 0,
+            },
+            Located::At(place) => {
+                let at = place.index();
+                let beat = get_u16(Order::MostFirst, beats, 2 * taken);
+                let eop = has(beat as u32, EOP as u32);
+                window[at] = (beat % 256) as u8;
+                let next = k.with_byte((beat / ERROR) as u8, eop);
+                Progress {
+                    machine: self.onward(next),
+                    taken: taken + 1,
+                    made: 0,
+                }
+            }
+        }
+    }
+
+    // The last four descriptor bytes: actual, errors, control.
+    fn put_back(self, k: Work, window: &mut [u8])
+        requires { ⌜ inWindow (self .window) (k .at) 32 ≡ true ⌝ }
+        ensures { λ _. ⌜ ((input output : List ℕ) (room : ℕ) → now (window .exit) ≡ writtenBack (world self (now (window .entry)) input output room) k) ⌝ }
+    {
+        let found = self.window.locate(BusAddress(k.at as u64), 32);
+        let Located::At(place) = found else {
+            return;
+        };
+        let control = self.written_control(k);
+        descriptor::write_back(window, place, k.moved, k.errors, control);
+    }
+
+    fn write_back_step(self, k: Work, window: &mut [u8]) -> Machine
+        requires { ⌜ inWindow (self .window) (k .at) 32 ≡ true ⌝ }
+        ensures { λ r. ⌜ Still (λ (w : World). writeBackStep w k) self (now (window .entry)) r (now (window .exit)) ⌝ }
+    {
+        self.put_back(k, window);
+        self.completed(k)
+    }
+}
+
+// Whether a step can be taken.
+impl Machine {
+    // Move: no room, no step, but 13 comes before that; no beat, no step.
+    fn move_wait(self, k: Work, more: bool, room: bool) -> Wait
+        ensures { λ r. ⌜ Waits (λ (w : World). moveStep (self .mode) w k) self more room r ⌝ }
+    {
+        let mode = self.mode;
+        match mode {
+            Mode::MemoryToMemory => Wait::Go,
+            Mode::MemoryToStream => {
+                if room {
+                    return Wait::Go;
+                }
+                let found = self.window.locate(k.read_address(), 1);
+                match found {
+                    Located::Outside => Wait::Go,
+                    Located::At(_) => Wait::Stop(Reason::OutputFull),
+                }
+            }
+            Mode::StreamToMemory => if more {
+                Wait::Go
+            } else {
+                Wait::Stop(Reason::NeedsInput)
+            },
+        }
+    }
+
+    // Where there is a beat to take, or not, and room for one, or not.
+    pub(crate) fn wait(self, more: bool, room: bool) -> Wait
+        ensures { λ r. ⌜ Waits stepOf self more room r ⌝ }
+    {
+        let phase = self.phase;
+        match phase {
+            Phase::Rest => if has(self.control.0, Control::RUN) {
+                Wait::Go
+            } else {
+                Wait::Stop(Reason::Rest)
+            },
+            Phase::Fetch => Wait::Go,
+            Phase::Move(k) => self.move_wait(k, more, room),
+            Phase::WriteBack(_) => Wait::Go,
+            Phase::Ended => Wait::Stop(Reason::Ended),
+            Phase::Halted => Wait::Stop(Reason::Halted),
+            Phase::Faulted(_) => Wait::Stop(Reason::Faulted),
+        }
+    }
+}
+
+// One step.
+impl Machine {
+    // Move, by the mode.
+    fn move_step(
+        self,
+        k: Work,
+        window: &mut [u8],
+        beats: &[u8],
+        taken: usize,
+        out: &mut [u8],
+        made: usize,
+    ) -> Progress
+        requires { ⌜ self .window .length ≡ length (now window) ⌝ }
+        requires { ⌜ k .moved < 65535 ⌝ }
+        requires { ⌜ Within (now beats) (now out) taken made ⌝ }
+        requires { ⌜ Goes (λ (w : World). moveStep (self .mode) w k) self (now window) (now beats) taken (now out) made ⌝ }
+        ensures { λ r. ⌜ Within (now (beats .entry)) (now (out .entry)) (r .taken) (r .made) ⌝ }
+        ensures { λ r. ⌜ Went (λ (w : World). moveStep (self .mode) w k) self (now (window .entry)) (now (beats .entry)) taken (now (out .entry)) made r (now (window .exit)) (now (out .exit)) ⌝ }
+    {
+        let mode = self.mode;
+        match mode {
+            Mode::MemoryToMemory => {
+                let machine = self.copy_step(k, window);
+                Progress {
+                    machine,
+                    taken,
+                    made,
+                }
+            }
+            Mode::MemoryToStream => {
+                let sent = self.send_step(k, window, out, made);
+                let machine = sent.machine;
+                Progress {
+                    machine,
+                    taken,
+                    made: sent.made,
+                }
+            }
+            Mode::StreamToMemory => {
+                let got = self.receive_step(k, window, beats, taken);
+                let machine = got.machine;
+                Progress {
+                    machine,
+                    taken: got.taken,
+                    made,
+                }
+            }
+        }
+    }
+
+    // The step that can be taken, where so many beats are taken and made already.
+    pub(crate) fn step_at(
+        self,
+        window: &mut [u8],
+        beats: &[u8],
+        taken: usize,
+        out: &mut [u8],
+        made: usize,
+    ) -> Progress
+        requires { ⌜ Ready self (length (now window)) ⌝ }
+        requires { ⌜ Within (now beats) (now out) taken made ⌝ }
+        requires { ⌜ Goes stepOf self (now window) (now beats) taken (now out) made ⌝ }
+        ensures { λ r. ⌜ Within (now (beats .entry)) (now (out .entry)) (r .taken) (r .made) ⌝ }
+        ensures { λ r. ⌜ Went stepOf self (now (window .entry)) (now (beats .entry)) taken (now (out .entry)) made r (now (window .exit)) (now (out .exit)) ⌝ }
+    {
+        let phase = self.phase;
+        match phase {
+            Phase::Rest => Progress {
+                machine: self.started(),
+                taken,
+                made,
+            },
+            Phase::Fetch => Progress {
+                machine: self.fetch_step(window),
+                taken,
+                made,
+            },
+            Phase::Move(k) => self.move_step(k, window, beats, taken, out, made),
+            Phase::WriteBack(k) => Progress {
+                machine: self.write_back_step(k, window),
+                taken,
+                made,
+            },
+            Phase::Ended => Progress {
+                machine: self,
+                taken,
+                made,
+            },
+            Phase::Halted => Progress {
+                machine: self,
+                taken,
+                made,
+            },
+            Phase::Faulted(_) => Progress {
+                machine: self,
+                taken,
+                made,
+            },
+        }
+    }
+
+    // 8 where the machine breaks a rule; 9 where beats, in or out, have an odd number of bytes; 4 where the window's length is
+    // not the machine's.
+    pub(crate) fn checked(self, window: &[u8], beats: &[u8], out: &[u8]) -> Lent
+        ensures { λ r. ⌜ lentAs r ≡ lentOf self (now (window .entry)) (now (beats .entry)) (now (out .entry)) ⌝ }
+    {
+        if !self.keeps() {
+            return Lent::Refused(Refusal::BadImage);
+        }
+        let even = (beats.len() % 2 == 0) & (out.len() % 2 == 0);
+        if !even {
+            return Lent::Refused(Refusal::OddStream);
+        }
+        if window.len() != self.window.length as usize {
+            return Lent::Refused(Refusal::OtherWindow);
+        }
+        Lent::Serves
+    }
+
+    // One step, or why it cannot be taken.
+    pub fn step(self, window: &mut [u8], beats: &[u8], out: &mut [u8]) -> StepAnswer
+        ensures { λ r. ⌜ Stepped self (now (window .entry)) (now (beats .entry)) (now (out .entry)) r (now (window .exit)) (now (out .exit)) ⌝ }
+    {
+        let lent = self.checked(window, beats, out);
+        if let Lent::Refused(why) = lent {
+            return StepAnswer::Refused(why);
+        }
+        let wait = self.wait(0 < beats.len() / 2, 0 < out.len() / 2);
+        if let Wait::Stop(why) = wait {
+            return StepAnswer::Stopped(why);
+        }
+        StepAnswer::Taken(self.step_at(window, beats, 0, out, 0))
+    }
+}
