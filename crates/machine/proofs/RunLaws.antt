@@ -1,9 +1,9 @@
 -- The laws of a run: what it tells, what it leaves, and how runs follow each other.
 -- Assumes nothing.
-use Prim.Native.Nat.{ℕ, zero, suc, _+_, _≤_}
+use Prim.Native.Nat.{ℕ, zero, suc, _+_, _≤_, _<_}
 use mathlib.Core.Path.{_≡_, refl, sym, ap, subst, subst⁻¹, _∙_}
 use mathlib.Core.Logic.{_≢_}
-use native.Mathlib.Nat.{suc-add, zero-add}
+use native.Mathlib.Nat.{suc-add, zero-add, le-of-suc-le-suc, not-suc-le-zero}
 use native.Mathlib.Omega.{arith}
 use Rattle.machine.specs.declared.Reason.{Reason}
 use Rattle.machine.specs.declared.Reason.the-variants.{Budget}
@@ -127,3 +127,42 @@ budget-only b w h = by (run-tells b w .found)
     by : Found b (run b w) → (run b w .steps ≡ b) × ((v : World) × (step (run b w .world) ≡ taken v))
     by (stops e) = absurd (never-budget (run b w .world) (e ∙ ap stopped h))
     by (spent v e f g) = (g, (v, e))
+
+-- ---- along a way
+
+module _ {P : World → Type 0} where
+  pub join : {a b : ℕ} {w v u : World} → Along P a w v → Along P b v u → Along P (a + b) w u
+  join {b = b} {u = u} (here {w = w} p) r = subst (λ (n : ℕ). Along P n w u) (sym (zero-add b)) r
+  join {b = b} {u = u} (more {n = n} {w = w} p e l) r = subst (λ (n : ℕ). Along P n w u) (sym (suc-add n b)) (more p e (join l r))
+
+  pub along-first : {n : ℕ} {w u : World} → Along P n w u → P w
+  along-first (here p) = p
+  along-first (more p e l) = p
+
+  pub along-last : {n : ℕ} {w u : World} → Along P n w u → P u
+  along-last (here p) = p
+  along-last (more p e l) = along-last l
+
+  -- to where it stops: a run with budget enough tells just that
+  pub run-to-end : {n : ℕ} {w u : World} {r : Reason} → Along P n w u → step u ≡ stopped r → (b : ℕ) → n ≤ b
+      → run b w ≡ record { reason = r; steps = n; world = u }
+  run-to-end (here {w = w} p) e b h = run-stopped w _ e b
+  run-to-end (more p q l) e zero h = absurd (not-suc-le-zero h)
+  run-to-end (more {w = w} {v = v} p q l) e (suc b) h = run-taken w v q b ∙ ap oneMore (run-to-end l e b (le-of-suc-le-suc h))
+
+  -- a smaller budget is spent
+  pub run-short : {n : ℕ} {w u : World} → Along P n w u → (b : ℕ) → b < n → (run b w .steps ≡ b) × (run b w .reason ≡ Budget)
+  run-short (here p) b h = absurd (not-suc-le-zero h)
+  run-short (more {w = w} {v = v} p q l) zero h = rw (run-spent w v q) (refl, refl)
+  run-short (more {w = w} {v = v} p q l) (suc b) h =
+      rw (run-taken w v q b) (let i = run-short l b (le-of-suc-le-suc h) in (ap suc (i .0), i .1))
+
+  -- and the run stands on the way, whatever the budget
+  pub run-on-way : {n : ℕ} {w u : World} {r : Reason} → Along P n w u → step u ≡ stopped r → (b : ℕ) → P (run b w .world)
+  run-on-way (here {w = w} p) e b = rw (run-stopped w _ e b) p
+  run-on-way (more {w = w} {v = v} p q l) e zero = rw (run-spent w v q) p
+  run-on-way (more {w = w} {v = v} p q l) e (suc b) = rw (run-taken w v q b) (run-on-way l e b)
+
+pub along-map : {P Q : World → Type 0} → ((w : World) → P w → Q w) → {n : ℕ} {w u : World} → Along P n w u → Along Q n w u
+along-map f (here {w = w} p) = here (f w p)
+along-map f (more {w = w} p e l) = more (f w p) e (along-map f l)
