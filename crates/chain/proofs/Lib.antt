@@ -5,3 +5,4 @@ pub mod Moves
 pub mod Blocks
 pub mod Walk
 pub mod Theorem
+pub mod Instances
