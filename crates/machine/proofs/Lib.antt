@@ -9,3 +9,6 @@ pub mod Waiting
 pub mod Outcomes
 pub mod LoopLaws
 pub mod Standing
+pub mod Puts
+pub mod StepLaws
+pub mod RunLaws

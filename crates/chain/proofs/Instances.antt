@@ -1,0 +1,209 @@
+-- The premises can be met, and what is concluded there in numbers: known run 1 of the paper; and a chain of three with an EOP in
+-- the second and a fixed destination in the third.
+-- Assumes nothing.
+use Prim.Native.Nat.{ℕ, suc, _+_, _≤_, _<_}
+use mathlib.Core.Path.{_≡_, refl, sym}
+use mathlib.Core.Logic.{_≢_}
+use mathlib.Core.Bool.{Bool, true, not, _&&_}
+use mathlib.Core.List.{List, [], _∷_, _++_}
+use native.Mathlib.Omega.{arith}
+use lib.Dec.{eqb, ltb}
+use lib.ListN.{length, getD, take, drop, replicate}
+use lib.Seq.{split-at}
+use borrow.Author.Tests.{ltb-true, eqb-false, not-true}
+use Rattle.words.specs.Slices.{part}
+use Rattle.bus.specs.Window.{inWindow, placeOf}
+use Rattle.descriptor.specs.declared.Job.{Job}
+use Rattle.descriptor.specs.Layout.{bytesFor, descriptorAt}
+use Rattle.image.proofs.Facts.{and-left, and-right}
+use Rattle.machine.specs.declared.Ran.{Ran}
+use Rattle.machine.specs.declared.Reason.the-variants.{Ended}
+use Rattle.machine.specs.Run.{run, ranAs}
+use Rattle.chain.specs.Chain.{All, Given, worldFor, everyLink, Off, Sent, sent, Premises, Outcome}
+use Rattle.chain.proofs.Theorem.{chain-theorem}
+
+-- ---- tests that compute
+
+abbrev bytesOnly : List ℕ → Bool
+bytesOnly [] = true
+bytesOnly (x ∷ xs) = ltb x 256 && bytesOnly xs
+
+are-bytes : (xs : List ℕ) → bytesOnly xs ≡ true → All (λ x. x < 256) xs
+are-bytes [] e = tt
+are-bytes (x ∷ xs) e = (ltb-true x 256 (and-left _ _ e), are-bytes xs (and-right (ltb x 256) _ e))
+
+abbrev noneTo : ℕ → List Sent → Bool
+noneTo q [] = true
+noneTo q (s ∷ ss) = not (eqb (s .to) q) && noneTo q ss
+
+none-to : (q : ℕ) (ss : List Sent) → noneTo q ss ≡ true → All (λ s. s .to ≢ q) ss
+none-to q [] e = tt
+none-to q (s ∷ ss) e = (eqb-false _ _ (not-true _ (and-left _ _ e)), none-to q ss (and-right (not (eqb (s .to) q)) _ e))
+
+abbrev none : Sent
+none = record { to = 0; byte = 0 }
+
+-- byte n of all that are sent, and none after it to its address
+module _ {g : Given} {ran : Ran} {memory : List ℕ} (o : Outcome g ran memory) (n : ℕ) where
+  landed-nth : n < length (sent g) → noneTo (getD (sent g) n none .to) (drop (suc n) (sent g)) ≡ true
+      → getD memory (placeOf (g .window) (getD (sent g) n none .to)) 0 ≡ getD (sent g) n none .byte
+  landed-nth h e = o .landed (take n (sent g)) (drop (suc n) (sent g)) (getD (sent g) n none) (split-at (sent g) n none h) (none-to (getD (sent g) n none .to) (drop (suc n) (sent g)) e)
+
+-- ---- what is concluded, in numbers
+
+-- bytes at a place
+pub record There : Type 0 where
+  pub place : ℕ
+  pub bytes : List ℕ
+
+abbrev pub after : Given → List ℕ
+after g = run 100 (worldFor g) .world .memory
+
+abbrev pub told : Given → Ran
+told g = ranAs (worldFor g) (run 100 (worldFor g))
+
+pub record InNumbers (g : Given) (steps taken pointer : ℕ) (fours : List There) (landed : List Sent) : Type 0 where
+  pub meets : Premises g
+  pub reason : told g .reason ≡ Ended
+  pub steps-are : told g .steps ≡ steps
+  pub taken-are : told g .taken ≡ taken
+  pub pointer-is : told g .machine .pointer .0 ≡ pointer
+  pub fours-are : All (λ x. part (after g) (x .place) 4 ≡ x .bytes) fours
+  pub landed-are : All (λ s. getD (after g) (placeOf (g .window) (s .to)) 0 ≡ s .byte) landed
+
+abbrev job : (destination next length control : ℕ) → Job
+job destination next length control =
+    record { source = 0; destination = destination; next = next; length = length; control = record { 0 = control } }
+
+-- ---- known run 1
+
+abbrev pub known : Given
+known =
+    record {
+      window = record { base = 4096; length = 256 };
+      memory = bytesFor (job 4224 4128 4 0x80) ++ replicate 224 0;
+      pointer = 4096;
+      control = 0x20;
+      beats = 0x0011 ∷ 0x0022 ∷ 0x0033 ∷ 0x0044 ∷ [];
+      room = 0;
+      k = 1;
+    }
+
+known-off : (q : ℕ) → 4160 ≤ q → All (λ l. Off l q) (everyLink known)
+unfolding descriptorAt bytesFor
+known-off q h = (λ i a. omega arith, (λ i a. omega arith, tt))
+
+known-meets : Premises known
+unfolding descriptorAt bytesFor inWindow
+known-meets =
+    record {
+      run-set = refl;
+      park-clear = refl;
+      stop-clear = refl;
+      lent = refl;
+      bytes = are-bytes (known .memory) refl;
+      k-owned = (refl, tt);
+      last-unowned = refl;
+      aligned = (refl, (refl, tt));
+      inside = (refl, (refl, tt));
+      apart = ((λ i a j b. omega arith, tt), (tt, tt));
+      stream = (refl, tt);
+      lands = (refl, (refl, (refl, (refl, tt))));
+      outside = (known-off 4224 (omega arith), (known-off 4225 (omega arith), (known-off 4226 (omega arith), (known-off 4227 (omega arith), tt))));
+    }
+
+known-outcome : Outcome known (told known) (after known)
+unfolding descriptorAt bytesFor
+known-outcome = chain-theorem known known-meets 100 (omega arith)
+
+pub known-run-1 : InNumbers known 8 4 4128
+    (record { place = 28; bytes = 0x04 ∷ 0x00 ∷ 0x00 ∷ 0x00 ∷ [] } ∷ [])
+    (record { to = 4224; byte = 0x11 } ∷ record { to = 4225; byte = 0x22 } ∷ record { to = 4226; byte = 0x33 } ∷ record { to = 4227; byte = 0x44 } ∷ [])
+unfolding descriptorAt bytesFor
+known-run-1 =
+    let o = known-outcome in
+    record {
+      meets = known-meets;
+      reason = o .reason;
+      steps-are = o .steps;
+      taken-are = o .taken;
+      pointer-is = o .pointer;
+      fours-are = (o .done .0 .four, tt);
+      landed-are = (
+        landed-nth o 0 (omega arith) refl,
+        (landed-nth o 1 (omega arith) refl, (landed-nth o 2 (omega arith) refl, (landed-nth o 3 (omega arith) refl, tt))),
+      );
+    }
+
+-- ---- three descriptors, not in the order of their addresses. The second has length 0, other control bits and an EOP with an
+-- error; its first byte lands where the first descriptor's last did. The third is fixed. Interrupts, MAX_DESC_PROCESSED, SW_RESET,
+-- a bit that is not stored and CLEAR_INTERRUPT are written, and a beat is left over
+
+abbrev pub three : Given
+three =
+    record {
+      window = record { base = 4096; length = 256 };
+      memory = bytesFor (job 4224 4160 3 0x80) ++ (bytesFor (job 4240 4192 3 0x84) ++ (bytesFor (job 4226 4128 0 0xF8) ++ replicate 160 0));
+      pointer = 4096;
+      control = 0x801102BF;
+      beats = 0x0011 ∷ 0x0022 ∷ 0x0033 ∷ 0x0044 ∷ 0x0755 ∷ 0x0266 ∷ 0x0077 ∷ 0x0088 ∷ 0x0099 ∷ [];
+      room = 7;
+      k = 3;
+    }
+
+three-off : (q : ℕ) → 4224 ≤ q → All (λ l. Off l q) (everyLink three)
+unfolding descriptorAt bytesFor
+three-off q h = (λ i a. omega arith, (λ i a. omega arith, (λ i a. omega arith, (λ i a. omega arith, tt))))
+
+three-meets : Premises three
+unfolding descriptorAt bytesFor inWindow
+three-meets =
+    record {
+      run-set = refl;
+      park-clear = refl;
+      stop-clear = refl;
+      lent = refl;
+      bytes = are-bytes (three .memory) refl;
+      k-owned = (refl, (refl, (refl, tt)));
+      last-unowned = refl;
+      aligned = (refl, (refl, (refl, (refl, tt))));
+      inside = (refl, (refl, (refl, (refl, tt))));
+      apart = (
+        (λ i a j b. omega arith, (λ i a j b. omega arith, (λ i a j b. omega arith, tt))),
+        ((λ i a j b. omega arith, (λ i a j b. omega arith, tt)), ((λ i a j b. omega arith, tt), (tt, tt))),
+      );
+      stream = (refl, (refl, (refl, tt)));
+      lands = (refl, (refl, (refl, (refl, (refl, (refl, (refl, (refl, tt))))))));
+      outside = (
+        three-off 4224 (omega arith),
+        (three-off 4225 (omega arith),
+        (three-off 4226 (omega arith),
+        (three-off 4226 (omega arith),
+        (three-off 4227 (omega arith), (three-off 4240 (omega arith), (three-off 4240 (omega arith), (three-off 4240 (omega arith), tt))))))),
+      );
+    }
+
+three-outcome : Outcome three (told three) (after three)
+unfolding descriptorAt bytesFor
+three-outcome = chain-theorem three three-meets 100 (omega arith)
+
+pub chain-of-three : InNumbers three 16 8 4192
+    (record { place = 28; bytes = 0x03 ∷ 0x00 ∷ 0x00 ∷ 0x00 ∷ [] }
+    ∷ record { place = 92; bytes = 0x02 ∷ 0x00 ∷ 0x03 ∷ 0x78 ∷ [] } ∷ record { place = 60; bytes = 0x03 ∷ 0x00 ∷ 0x01 ∷ 0x04 ∷ [] } ∷ [])
+    (record { to = 4224; byte = 0x11 } ∷ record { to = 4225; byte = 0x22 } ∷ record { to = 4226; byte = 0x44 } ∷ record { to = 4227; byte = 0x55 } ∷ record { to = 4240; byte = 0x88 } ∷ [])
+unfolding descriptorAt bytesFor
+chain-of-three =
+    let o = three-outcome in
+    record {
+      meets = three-meets;
+      reason = o .reason;
+      steps-are = o .steps;
+      taken-are = o .taken;
+      pointer-is = o .pointer;
+      fours-are = (o .done .0 .four, (o .done .1 .0 .four, (o .done .1 .1 .0 .four, tt)));
+      landed-are = (
+        landed-nth o 0 (omega arith) refl,
+        (landed-nth o 1 (omega arith) refl,
+        (landed-nth o 3 (omega arith) refl, (landed-nth o 4 (omega arith) refl, (landed-nth o 7 (omega arith) refl, tt)))),
+      );
+    }

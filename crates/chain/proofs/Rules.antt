@@ -1,0 +1,130 @@
+-- The step rule where the chain meets it, phase by phase, in stream-to-memory mode.
+-- Assumes nothing.
+use Prim.Native.Nat.{ℕ, _+_, _%_}
+use mathlib.Core.Path.{_≡_, refl, sym, ap, subst, _∙_}
+use mathlib.Core.Bool.{Bool, true, false, not, cond, _&&_, _||_, and-comm}
+use mathlib.Core.List.{List, [], _∷_}
+use lib.Dec.{eqb}
+use lib.ListN.{set}
+use borrow.Author.Tests.{eq-eqb, ne-eqb}
+use Rattle.words.specs.Slices.{putAt}
+use Rattle.bus.specs.Window.{inWindow, placeOf}
+use Rattle.descriptor.specs.Layout.{owned, lastFour, descriptorAt}
+use Rattle.descriptor.specs.declared.Descriptor.{Descriptor}
+use Rattle.machine.specs.declared.Machine.{Machine}
+use Rattle.machine.specs.declared.Mode.{Mode}
+use Rattle.machine.specs.declared.Mode.the-variants.{StreamToMemory}
+use Rattle.machine.specs.declared.Control.{Control}
+use Rattle.machine.specs.declared.Work.{Work}
+use Rattle.machine.specs.declared.Phase.{Phase}
+use Rattle.machine.specs.declared.Phase.the-variants.{Rest, Fetch, Move, WriteBack, Ended}
+use Rattle.machine.specs.declared.Reason.the-variants as reason
+use Rattle.machine.specs.State.{run, stopDmaEr, park, withPointer, withPhase, withBusy}
+use Rattle.machine.specs.Beats.{beatError, beatEop, beatData}
+use Rattle.machine.specs.Step.{World, Answer, taken, stopped, became, restStep, ended, wantsLength, begun, fetched, fetchStep, whole, destinationOf, withByte, onward, receiveFrom, moveStep, writtenControl, writtenBack, completed, writeBackStep, stepIn, step}
+use Rattle.chain.specs.Chain.{Link, linkAt}
+
+-- the machine runs, in this mode, and neither parks nor stops on errors
+pub record SetSo (mode : Mode) (control : Control) : Type 0 where
+  pub mode-is : mode ≡ StreamToMemory
+  pub runs : run control ≡ true
+  pub unparked : park control ≡ false
+  pub unstopped : stopDmaEr control ≡ false
+
+abbrev pub Set : Machine → Type 0
+Set m = SetSo (m .mode) (m .control)
+
+pub rest-step : (w : World) → w .machine .phase ≡ Rest → run (w .machine .control) ≡ true
+    → step w ≡ taken (became w (withPhase Fetch (withBusy true (w .machine))))
+unfolding step restStep
+rest-step w p r = rw (p, r)
+
+-- ---- Fetch
+
+-- the descriptor's fields are kept, and the pointer is at the next
+abbrev pub fetchedWorld : World → Link → World
+fetchedWorld w l = became w (withPhase (Move (begun (l .at) (l .says))) (withPointer (l .says .next) (w .machine)))
+
+module _ (w : World) (l : Link) (p : w .machine .phase ≡ Fetch) (c : Set (w .machine)) (h : l ≡ linkAt (w .machine .window) (w .memory) (w .machine .pointer .0))
+    (a : l .at % 4 ≡ 0) (i : inWindow (w .machine .window) (l .at) 32 ≡ true) where
+  looked : step w ≡ fetched w (descriptorAt (w .memory) (placeOf (w .machine .window) (w .machine .pointer .0)))
+  unfolding step fetchStep
+  looked =
+      let al : eqb (w .machine .pointer .0 % 4) 0 ≡ true = eq-eqb _ _ (subst (λ (x : Link). x .at % 4 ≡ 0) h a) in
+      let il : inWindow (w .machine .window) (w .machine .pointer .0) 32 ≡ true =
+      subst (λ (x : Link). inWindow (w .machine .window) (x .at) 32 ≡ true) h i in
+      rw (p, c .runs, al, il)
+
+  pub fetch-step : owned (l .says .control .0) ≡ true → step w ≡ taken (fetchedWorld w l)
+  unfolding fetched
+  fetch-step o =
+      let ol : owned (descriptorAt (w .memory) (placeOf (w .machine .window) (w .machine .pointer .0)) .control .0) ≡ true =
+      subst (λ (x : Link). owned (x .says .control .0) ≡ true) h o in
+      let long : (d : Descriptor) → (wantsLength (w .machine .mode) && eqb (d .length) 0) ≡ false =
+      λ d. ap (λ (x : Mode). wantsLength x && eqb (d .length) 0) (c .mode-is) in
+      looked ∙ rw (ol, long) (ap (λ (x : Link). taken (fetchedWorld w x)) (sym h))
+
+  pub end-step : owned (l .says .control .0) ≡ false → step w ≡ taken (became w (ended (w .machine)))
+  unfolding fetched
+  end-step o =
+      let ol : owned (descriptorAt (w .memory) (placeOf (w .machine .window) (w .machine .pointer .0)) .control .0) ≡ false =
+      subst (λ (x : Link). owned (x .says .control .0) ≡ false) h o in
+      looked ∙ rw ol
+
+-- ---- Move
+
+-- a beat is taken, and its byte written
+abbrev pub receivedWorld : World → Work → ℕ → List ℕ → Phase → World
+receivedWorld w k b bs q =
+    record {
+      machine = withPhase q (w .machine);
+      memory = set (w .memory) (placeOf (w .machine .window) (destinationOf k)) (beatData b);
+      input = bs;
+      output = w .output;
+      room = w .room;
+    }
+
+abbrev pub withBeat : ℕ → Work → Work
+withBeat b k = withByte (beatError b) (beatEop b) k
+
+-- where the work goes: on, or to WriteBack after an EOP or the last byte
+abbrev pub goesTo : Machine → Work → Phase
+goesTo m k = cond (k .eop || eqb (k .moved) (whole m k)) (WriteBack k) (Move k)
+
+pub move-step : (w : World) (k : Work) (b : ℕ) (bs : List ℕ) (q : Phase) → w .machine .phase ≡ Move k → Set (w .machine)
+    → w .input ≡ b ∷ bs → inWindow (w .machine .window) (destinationOf k) 1 ≡ true
+    → goesTo (w .machine) (withBeat b k) ≡ q → step w ≡ taken (receivedWorld w k b bs q)
+unfolding step onward
+move-step w k b bs q p c i h g =
+    ap (λ (x : Phase). stepIn x w) p ∙ ap (λ (x : Mode). moveStep x w k) (c .mode-is) ∙ ap (receiveFrom w k) i
+    ∙ rw h (ap (λ (x : Phase). taken (receivedWorld w k b bs x)) g)
+
+-- ---- WriteBack
+
+-- the last four bytes are written
+abbrev pub markedWorld : World → Work → World
+markedWorld w k =
+    record {
+      machine = record {
+        mode = w .machine .mode;
+        window = w .machine .window;
+        status = completed (w .machine) k .status;
+        control = w .machine .control;
+        pointer = w .machine .pointer;
+        phase = Fetch;
+        pending = completed (w .machine) k .pending;
+        count = completed (w .machine) k .count;
+      };
+      memory = putAt (w .memory) (placeOf (w .machine .window) (k .at) + 28) (lastFour (k .moved) (k .errors) (k .control .0 % 128));
+      input = w .input;
+      output = w .output;
+      room = w .room;
+    }
+
+pub write-step : (w : World) (k : Work) → w .machine .phase ≡ WriteBack k → Set (w .machine) → step w ≡ taken (markedWorld w k)
+unfolding step writeBackStep writtenBack writtenControl completed
+write-step w k p c = ap (λ (x : Phase). stepIn x w) p ∙ simp (c .runs, c .unparked, c .unstopped, and-false)
+  where
+    and-false : (a : Bool) → (a && false) ≡ false
+    and-false true = refl
+    and-false false = refl

@@ -1,0 +1,181 @@
+-- Demand 3: the chain theorem.
+-- Assumes nothing.
+use Prim.Native.Nat.{ℕ, zero, suc, _+_, _-_, _/_, _%_, _^_, _≤_, _<_}
+use mathlib.Core.Path.{_≡_, refl, sym, ap, ap₂, subst, subst⁻¹, _∙_}
+use mathlib.Core.Logic.{_≢_}
+use mathlib.Core.Bool.{Bool, true, false, _&&_}
+use mathlib.Core.List.{List, [], _∷_, _++_}
+use native.Mathlib.Omega.{arith}
+use lib.ListN.{length, getD, take, drop, length-take}
+use Rattle.words.specs.declared.Order.the-variants.{LeastFirst}
+use Rattle.words.specs.Bits.{bit}
+use Rattle.words.specs.Orders.{numberOf}
+use Rattle.words.specs.Slices.{part}
+use Rattle.words.proofs.Bytes.{AllBytes, take-bytes, drop-bytes}
+use Rattle.bus.specs.declared.Window.{Window}
+use Rattle.bus.specs.Window.{inWindow, placeOf}
+use Rattle.descriptor.specs.declared.Descriptor.{Descriptor}
+use Rattle.descriptor.specs.Layout.{owned, descriptorAt}
+use Rattle.descriptor.proofs.Reading.{by-offset, there}
+use Rattle.machine.specs.declared.Machine.{Machine}
+use Rattle.machine.specs.declared.Mode.the-variants.{StreamToMemory}
+use Rattle.machine.specs.declared.Phase.the-variants.{Fetch}
+use Rattle.machine.specs.declared.Reason.the-variants.{Ended, Budget}
+use Rattle.machine.specs.State.{withPointer, withPhase, withBusy, fresh}
+use Rattle.machine.specs.Registers.{stored, controlWritten}
+use Rattle.machine.specs.Step.{World, became}
+use Rattle.machine.specs.Run.{Report, run, takenSince, ranAs}
+use Rattle.machine.proofs.Writes.{write-runs}
+use Rattle.machine.proofs.RunLaws.{Along, more, along-first, along-map, run-to-end, run-short, run-on-way}
+use Rattle.chain.specs.Chain.{All, Given, machineFor, worldFor, Link, linkAt, linksFrom, linkAfter, links, last, everyLink, Share, sharesOf, shares, given, cost, takes, wants, Sent, sentByAll, sent, Off, Premises, Done, FirstFew, AtEveryStep, counts, Outcome}
+use Rattle.chain.proofs.Lists.{all-map, all-left, all-right, all-shares}
+use Rattle.chain.proofs.Memory.{Placed, placed, lastAt, lastAt-none, lastAt-last}
+use Rattle.chain.proofs.Rules.{rest-step}
+use Rattle.chain.proofs.Blocks.{OffFour}
+use Rattle.chain.proofs.Walk.{Chain, Ready, Walked, walk}
+
+-- ---- the chain as it is walked
+
+chain-is : (w : Window) (m : List ℕ) (a k : ℕ) → All (λ l. owned (l .says .control .0) ≡ true) (linksFrom w m a k)
+    → owned (linkAfter w m a k .says .control .0) ≡ false → Chain w m a (linksFrom w m a k) (linkAfter w m a k)
+chain-is w m a zero o u = (refl, u)
+chain-is w m a (suc k) o u = (refl, o .0, chain-is w m _ k (o .1) u)
+
+all-bytes : (xs : List ℕ) → All (λ x. x < 256) xs → AllBytes xs
+all-bytes [] a = tt
+all-bytes (x ∷ xs) a = (a .0, all-bytes xs (a .1))
+
+-- a length is a number of 16 bits
+two-bytes : (xs : List ℕ) → length xs ≤ 2 → AllBytes xs → numberOf LeastFirst xs < 65536
+two-bytes [] l a = omega arith
+two-bytes (x ∷ []) l a = let b : x < 256 = a .0 in omega arith
+two-bytes (x ∷ y ∷ []) l a = let b : x < 256 = a .0 in let c : y < 256 = a .1 .0 in omega arith
+two-bytes (x ∷ y ∷ z ∷ xs) l a = absurd (omega arith)
+
+length-short : (m : List ℕ) (p : ℕ) → AllBytes m → p + 32 ≤ length m → descriptorAt m p .length < 65536
+length-short m p a f =
+    subst⁻¹ (λ (d : Descriptor). d .length < 65536) (there m p f ∙ by-offset (part m p 32))
+    (two-bytes (part (part m p 32) 24 2) (omega (arith, length-take 2 (drop 24 (part m p 32))))
+    (take-bytes 2 (drop 24 (part m p 32)) (drop-bytes 24 (part m p 32) (take-bytes 32 (drop p m) (drop-bytes p m a)))))
+
+links-short : (w : Window) (m : List ℕ) (a k : ℕ) → AllBytes m → length m ≡ w .length
+    → All (λ l. inWindow w (l .at) 32 ≡ true) (linksFrom w m a k) → All (λ l. l .says .length < 65536) (linksFrom w m a k)
+links-short w m a zero b e i = tt
+links-short w m a (suc k) b e i = (
+  length-short m (placeOf w a) b (let p : Placed w a 32 = placed w a 32 (i .0) in omega (arith, p .fits)),
+  links-short w m _ k b e (i .1),
+)
+
+stored-5 : (c : ℕ) → c % 262144 / 32 % 2 ≡ c / 32 % 2
+stored-5 c = omega arith
+
+stored-6 : (c : ℕ) → c % 262144 / 64 % 2 ≡ c / 64 % 2
+stored-6 c = omega arith
+
+stored-17 : (c : ℕ) → c % 262144 / 131072 % 2 ≡ c / 131072 % 2
+stored-17 c = omega arith
+
+and-false : (b : Bool) → (b && false) ≡ false
+and-false true = refl
+and-false false = refl
+
+counts-given : (w : Window) (m : List ℕ) (ls : List Link) (bs : List ℕ) → All (Done w m) (sharesOf ls bs) → counts w m ls ≡ given (sharesOf ls bs)
+counts-given w m [] bs a = refl
+counts-given w m (l ∷ ls) bs a = ap₂ _+_ (a .0 .count) (counts-given w m ls _ (a .1))
+
+module _ (g : Given) (h : Premises g) where
+  -- the machine after the two writes, and after the step out of Rest
+  abbrev m0 : Machine
+  m0 = stored (g .control) (withPointer (g .pointer) (fresh StreamToMemory (g .window)))
+
+  abbrev w0 : World
+  w0 = record { machine = m0; memory = g .memory; input = g .beats; output = []; room = g .room }
+
+  abbrev w1 : World
+  w1 = became w0 (withPhase Fetch (withBusy true m0))
+
+  starts : worldFor g ≡ w0
+  starts =
+      ap (λ (m : Machine). record { machine = m; memory = g .memory; input = g .beats; output = []; room = g .room })
+      (write-runs (g .control) (withPointer (g .pointer) (fresh StreamToMemory (g .window))) (and-false (bit 16 (g .control))) (h .run-set))
+
+  ready : Ready w1 (links g) (last g)
+  ready =
+      record {
+        fetching = refl;
+        set = record {
+          mode-is = refl;
+          runs = rw (stored-5 (g .control)) (h .run-set);
+          unparked = rw (stored-17 (g .control)) (h .park-clear);
+          unstopped = rw (stored-6 (g .control)) (h .stop-clear);
+        };
+        lent = h .lent;
+        chain = chain-is (g .window) (g .memory) (g .pointer) (g .k) (h .k-owned) (h .last-unowned);
+        short = links-short (g .window) (g .memory) (g .pointer) (g .k) (all-bytes (g .memory) (h .bytes)) (h .lent)
+            (all-left (λ l. inWindow (g .window) (l .at) 32 ≡ true) (links g) (last g ∷ []) (h .inside));
+        aligned = h .aligned;
+        inside = h .inside;
+        apart = h .apart;
+        stream = h .stream;
+        lands = h .lands;
+        outside = h .outside;
+      }
+
+  walked : Walked w1 (links g) (last g)
+  walked = walk (links g) w1 (last g) ready
+
+  way : Along (λ w. FirstFew (g .window) (g .memory) (shares g) (w .memory)) (2 + cost (shares g)) w0 (walked .last)
+  way =
+      subst (λ (n : ℕ). Along (λ w. FirstFew (g .window) (g .memory) (shares g) (w .memory)) n w0 (walked .last))
+      (let x : suc (cost (shares g) + 1) ≡ 2 + cost (shares g) = omega arith in x)
+      (more (along-first (walked .along) .few) (rest-step w0 refl (ready .set .runs)) (along-map (λ w i. i .few) (walked .along)))
+
+  -- After every step those of the k marked done are the first few of the chain, each with the count of bytes the stream gave it.
+  pub chain-at-every-step : AtEveryStep g
+  chain-at-every-step =
+      record {
+        first-few = λ b. subst⁻¹ (λ (w : World). FirstFew (g .window) (g .memory) (shares g) (run b w .world .memory)) starts (run-on-way way (walked .stops) b);
+        spent = λ b k. subst⁻¹ (λ (w : World). (run b w .steps ≡ b) × (run b w .reason ≡ Budget)) starts (run-short way b k);
+      }
+
+  -- where the run ends
+  abbrev report : Report
+  report = record { reason = Ended; steps = 2 + cost (shares g); world = walked .last }
+
+  lands-last : (before after : List Sent) (s : Sent) → sent g ≡ before ++ s ∷ after → All (λ y. y .to ≢ s .to) after
+      → getD (walked .last .memory) (placeOf (g .window) (s .to)) 0 ≡ s .byte
+  lands-last before after s e a =
+      let p : ℕ = placeOf (g .window) (s .to) in
+      let at : Placed (g .window) (s .to) 1 =
+      placed _ _ _ (all-right (λ x. inWindow (g .window) (x .to) 1 ≡ true) before (s ∷ after) (subst (All (λ x. inWindow (g .window) (x .to) 1 ≡ true)) e (h .lands)) .0) in
+      let off : All (λ l. Off l (s .to)) (everyLink g) =
+      all-right (λ x. All (λ l. Off l (x .to)) (everyLink g)) before (s ∷ after) (subst (All (λ x. All (λ l. Off l (x .to)) (everyLink g))) e (h .outside)) .0 in
+      let four : All (λ l. OffFour (g .window) p l) (links g) =
+      all-map (λ l o j k f. o (28 + j) (omega arith) (sym (at .address) ∙ f)) (links g) (all-left (λ l. Off l (s .to)) (links g) (last g ∷ []) off) in
+      walked .bytes p (all-shares (OffFour (g .window) p) (links g) (g .beats) four)
+      ∙ ap (λ (q : ℕ). lastAt q (sent g) (getD (g .memory) p 0)) (at .address)
+      ∙ ap (λ (x : List Sent). lastAt (s .to) x (getD (g .memory) p 0)) e
+      ∙ lastAt-last s before after (getD (g .memory) p 0) a
+
+  outcome : Outcome g (ranAs w0 report) (walked .last .memory)
+  outcome =
+      let given-taken : takenSince w0 (walked .last) ≡ given (shares g) = omega (arith, walked .taken) in
+      record {
+        reason = refl;
+        steps = refl;
+        done = walked .done;
+        sum = counts-given (g .window) (walked .last .memory) (links g) (g .beats) (walked .done) ∙ sym given-taken;
+        landed = lands-last;
+        frame = λ p a b. walked .bytes p (all-shares (OffFour (g .window) p) (links g) (g .beats) b) ∙ lastAt-none (g .window .base + p) (sent g) (getD (g .memory) p 0) a;
+        size = walked .size;
+        taken = given-taken;
+        made = ap length (walked .made);
+        pointer = walked .pointer;
+      }
+
+  -- With budget enough: for every budget at least that number.
+  pub chain-theorem : (budget : ℕ) → 2 + cost (shares g) ≤ budget
+      → Outcome g (ranAs (worldFor g) (run budget (worldFor g))) (run budget (worldFor g) .world .memory)
+  chain-theorem budget k =
+      subst⁻¹ (λ (w : World). Outcome g (ranAs w (run budget w)) (run budget w .world .memory)) starts
+      (subst⁻¹ (λ (r : Report). Outcome g (ranAs w0 r) (r .world .memory)) (run-to-end way (walked .stops) budget k) outcome)

@@ -1,0 +1,321 @@
+-- A chain, from its first Fetch to Ended.
+-- Assumes nothing.
+use Prim.Native.Nat.{ℕ, zero, suc, _+_, _-_, _%_, _≤_, _<_}
+use mathlib.Core.Path.{_≡_, refl, sym, ap, subst, subst⁻¹, _∙_}
+use mathlib.Core.Logic.{_≢_}
+use mathlib.Core.Bool.{Bool, true, false, cond}
+use mathlib.Core.List.{List, [], _∷_, _++_}
+use native.Mathlib.Omega.{arith}
+use lib.Dec.{eqb}
+use lib.ListN.{length, getD, take, drop, length-drop}
+use borrow.Author.Tests.{eqb-false}
+use Rattle.words.specs.Slices.{part, put, putAt}
+use Rattle.words.proofs.Slices.{put-in, part-put}
+use Rattle.bus.specs.declared.Window.{Window}
+use Rattle.bus.specs.Window.{inWindow, placeOf}
+use Rattle.descriptor.specs.declared.Descriptor.{Descriptor}
+use Rattle.descriptor.specs.Layout.{owned, descriptorAt, lastFour}
+use Rattle.image.specs.Rules.{asked}
+use Rattle.machine.specs.declared.Mode.{Mode}
+use Rattle.machine.specs.declared.Work.{Work}
+use Rattle.machine.specs.declared.Phase.the-variants.{Fetch, Move}
+use Rattle.machine.specs.declared.Reason.the-variants.{Ended}
+use Rattle.machine.specs.State.{modeNumber}
+use Rattle.machine.specs.Step.{World, taken, stopped, became, ended, begun, whole, stepIn, step}
+use Rattle.machine.proofs.Puts.{length-put-at, put-off}
+use Rattle.machine.proofs.RunLaws.{Along, here, more, join, along-map, along-last}
+use Rattle.chain.specs.Chain.{All, Pairwise, Link, linkAt, Off, Apart, wants, takes, Enough, Share, sharesOf, given, cost, gathered, Sent, sentBy, sentByAll, Done, Waiting, FirstFew}
+use Rattle.chain.proofs.Lists.{all-map, all-map2, all-left, all-right, all-drop, all-each, all-swap, all-shares}
+use Rattle.chain.proofs.Memory.{Placed, placed, part-ext, says-same, writes, length-writes, lastAt, last-writer, lastAt-append}
+use Rattle.chain.proofs.Rules.{Set, fetchedWorld, fetch-step, end-step, markedWorld, write-step}
+use Rattle.chain.proofs.Moves.{Takes, takes-taken, takes-fit, worked, worked-at, worked-control, worked-moved, worked-errors, deliveredWorld, moves}
+use Rattle.chain.proofs.Blocks.{Same, OffBytes, OffFour, off-four, apart-sym, Kept, kept-none, kept-byte, kept-block, Inv, inv-block, done-by-four, done-stays, waits}
+
+-- in the memory m the chain from the address a on is the owned ls, and then the unowned e
+abbrev pub Chain : Window → List ℕ → ℕ → List Link → Link → Type 0
+Chain w m a [] e = (e ≡ linkAt w m a) × (owned (e .says .control .0) ≡ false)
+Chain w m a (l ∷ ls) e = (l ≡ linkAt w m a) × (owned (l .says .control .0) ≡ true) × Chain w m (l .says .next) ls e
+
+-- the chain is the same where all descriptors say the same
+chain-same : (w : Window) (m o : List ℕ) (a : ℕ) (ls : List Link) (e : Link)
+    → All (λ (l : Link). descriptorAt o (placeOf w (l .at)) ≡ descriptorAt m (placeOf w (l .at))) (ls ++ e ∷ [])
+    → Chain w m a ls e → Chain w o a ls e
+chain-same w m o a [] e h c = (
+  c .0 ∙ ap (λ (d : Descriptor). record { at = a; says = d })
+      (sym (subst (λ (l : Link). descriptorAt o (placeOf w (l .at)) ≡ descriptorAt m (placeOf w (l .at))) (c .0) (h .0))),
+  c .1,
+)
+chain-same w m o a (l ∷ ls) e h c = (
+  c .0 ∙ ap (λ (d : Descriptor). record { at = a; says = d })
+      (sym (subst (λ (l : Link). descriptorAt o (placeOf w (l .at)) ≡ descriptorAt m (placeOf w (l .at))) (c .0) (h .0))),
+  c .1,
+  chain-same w m o _ ls e (h .1) (c .2),
+)
+
+-- each is owned in memory
+chain-owned : (w : Window) (m : List ℕ) (a : ℕ) (ls : List Link) (e : Link) → Chain w m a ls e
+    → All (λ (l : Link). owned (linkAt w m (l .at) .says .control .0) ≡ true) ls
+chain-owned w m a [] e c = tt
+chain-owned w m a (l ∷ ls) e c = (
+  subst⁻¹ (λ (x : Link). owned (linkAt w m (x .at) .says .control .0) ≡ true) (c .0)
+      (subst (λ (x : Link). owned (x .says .control .0) ≡ true) (c .0) (c .1)),
+  chain-owned w m _ ls e (c .2),
+)
+
+-- ---- the premises at a Fetch, and what comes of them
+
+pub record Ready (w : World) (ls : List Link) (e : Link) : Type 0 where
+  pub fetching : w .machine .phase ≡ Fetch
+  pub set : Set (w .machine)
+  pub lent : length (w .memory) ≡ w .machine .window .length
+  pub chain : Chain (w .machine .window) (w .memory) (w .machine .pointer .0) ls e
+  pub short : All (λ l. l .says .length < 65536) ls
+  pub aligned : All (λ l. l .at % 4 ≡ 0) (ls ++ e ∷ [])
+  pub inside : All (λ l. inWindow (w .machine .window) (l .at) 32 ≡ true) (ls ++ e ∷ [])
+  pub apart : Pairwise Apart (ls ++ e ∷ [])
+  pub stream : Enough ls (w .input)
+  pub lands : All (λ s. inWindow (w .machine .window) (s .to) 1 ≡ true) (sentByAll (sharesOf ls (w .input)))
+  pub outside : All (λ s. All (λ l. Off l (s .to)) (ls ++ e ∷ [])) (sentByAll (sharesOf ls (w .input)))
+
+pub record Walked (w : World) (ls : List Link) (e : Link) : Type 0 where
+  pub last : World
+  pub along : Along (λ x. Inv (w .machine .window) (w .memory) (sharesOf ls (w .input)) (x .memory)) (cost (sharesOf ls (w .input)) + 1) w last
+  pub stops : step last ≡ stopped Ended
+  pub taken : length (w .input) ≡ given (sharesOf ls (w .input)) + length (last .input)
+  pub made : last .output ≡ w .output
+  pub pointer : last .machine .pointer .0 ≡ e .at
+  pub done : All (Done (w .machine .window) (last .memory)) (sharesOf ls (w .input))
+  pub size : length (last .memory) ≡ length (w .memory)
+  pub bytes : (p : ℕ) → All (λ (s : Share). OffFour (w .machine .window) p (s .link)) (sharesOf ls (w .input))
+      → getD (last .memory) p 0 ≡ lastAt (w .machine .window .base + p) (sentByAll (sharesOf ls (w .input))) (getD (w .memory) p 0)
+
+walk-none : (w : World) (e : Link) → Ready w [] e → Walked w [] e
+unfolding step
+walk-none w e r =
+    let inv : Inv (w .machine .window) (w .memory) [] (w .memory) =
+    record { size = refl; frame = λ p a b. refl; few = record { few = 0; within = omega arith; done = tt; waiting = tt } } in
+    record {
+      last = became w (ended (w .machine));
+      along = more inv (end-step w e (r .fetching) (r .set) (r .chain .0) (r .aligned .0) (r .inside .0) (r .chain .1)) (here inv);
+      stops = refl;
+      taken = omega arith;
+      made = refl;
+      pointer = sym (ap (λ (l : Link). l .at) (r .chain .0));
+      done = tt;
+      size = refl;
+      bytes = λ p o. refl;
+    }
+
+wants-some : (d : Descriptor) → 0 < wants d
+wants-some d = by (eqb (d .length) 0) refl
+  where
+    by : (x : Bool) → eqb (d .length) 0 ≡ x → 0 < cond x 65535 (d .length)
+    by true h = omega arith
+    by false h = let n : d .length ≢ 0 = eqb-false (d .length) 0 h in omega arith
+
+wants-short : (d : Descriptor) → d .length < 65536 → wants d < 65536
+wants-short d k = by (eqb (d .length) 0)
+  where
+    by : (x : Bool) → cond x 65535 (d .length) < 65536
+    by true = omega arith
+    by false = k
+
+-- ---- one descriptor
+
+abbrev windowOf : World → Window
+windowOf w = w .machine .window
+
+module _ (w : World) (l : Link) (ls : List Link) (e : Link) (r : Ready w (l ∷ ls) e) where
+  abbrev t : List ℕ
+  t = takes (wants (l .says)) (w .input)
+
+  abbrev share : Share
+  share = record { link = l; beats = t }
+
+  abbrev others : List Share
+  others = sharesOf ls (drop (length t) (w .input))
+
+  abbrev begins : Work
+  begins = begun (l .at) (l .says)
+
+  abbrev k : Work
+  k = worked begins t
+
+  -- after its bytes, and after its mark
+  abbrev w1 : World
+  w1 = deliveredWorld (fetchedWorld w l) begins t (w .input)
+
+  abbrev w2 : World
+  w2 = markedWorld w1 k
+
+  taking : Takes (wants (l .says)) t (w .input)
+  taking = takes-taken (wants (l .says)) (w .input) (wants-some (l .says)) (r .stream .0)
+
+  stands : Placed (windowOf w) (l .at) 32
+  stands = placed (windowOf w) (l .at) 32 (r .inside .0)
+
+  -- every link is in the window, and off the bytes of this one
+  all-stand : All (λ (x : Link). Placed (windowOf w) (x .at) 32) (l ∷ ls ++ e ∷ [])
+  all-stand = all-map (λ x h. placed (windowOf w) (x .at) 32 h) (l ∷ ls ++ e ∷ []) (r .inside)
+
+  bytes-off : All (λ (x : Link). All (λ s. Off x (s .to)) (sentBy share)) (l ∷ ls ++ e ∷ [])
+  bytes-off =
+      all-swap (λ (s : Sent) (x : Link). Off x (s .to)) (sentBy share) (l ∷ ls ++ e ∷ [])
+      (all-left (λ s. All (λ x. Off x (s .to)) (l ∷ ls ++ e ∷ [])) (sentBy share) (sentByAll others) (r .outside))
+
+  bytes-land : All (λ s. inWindow (windowOf w) (s .to) 1 ≡ true) (sentBy share)
+  bytes-land = all-left (λ s. inWindow (windowOf w) (s .to) 1 ≡ true) (sentBy share) (sentByAll others) (r .lands)
+
+  sending : Along (λ x. Kept (windowOf w) (w .memory) (sentBy share) (x .memory)) (suc (length t)) w w1
+  sending =
+      let want : whole (fetchedWorld w l .machine) begins ≡ wants (l .says) = ap (λ (x : Mode). asked (modeNumber x) (l .says .length)) (r .set .mode-is) in
+      more (kept-none _ _ _) (fetch-step w l (r .fetching) (r .set) (r .chain .0) (r .aligned .0) (r .inside .0) (r .chain .1))
+      (moves (Kept (windowOf w) (w .memory) (sentBy share))
+      (λ s. (inWindow (windowOf w) (s .to) 1 ≡ true) × ((p : ℕ) → OffBytes (windowOf w) (sentBy share) p → s .to ≢ windowOf w .base + p))
+      taking (fetchedWorld w l) begins refl (r .set) refl (omega arith) (λ s q. q .0)
+      (λ m s q h. kept-byte (windowOf w) (w .memory) (sentBy share) m s (placed _ _ _ (q .0)) (q .1) h)
+      (all-map2 (λ s x y. (x, y)) (sentBy share) bytes-land (all-each (λ (p : ℕ) (s : Sent). s .to ≢ windowOf w .base + p) (sentBy share)))
+      (kept-none _ _ _))
+
+  kept : Kept (windowOf w) (w .memory) (sentBy share) (w1 .memory)
+  kept = along-last sending
+
+  -- while its bytes are sent, none is done
+  none-done : (m : List ℕ) → Kept (windowOf w) (w .memory) (sentBy share) m → Inv (windowOf w) (w .memory) (share ∷ others) m
+  none-done m h =
+      let held : All (Same (windowOf w) m (w .memory)) (l ∷ ls ++ e ∷ []) =
+      all-map2 (λ x i o. kept-block h x i o) (l ∷ ls ++ e ∷ []) all-stand bytes-off in
+      record {
+        size = h .size;
+        frame = λ p a b. h .frame p (all-left (λ s. s .to ≢ windowOf w .base + p) (sentBy share) (sentByAll others) a);
+        few = record {
+          few = 0;
+          within = omega arith;
+          done = tt;
+          waiting = all-map2 (λ s o i. waits (windowOf w) (w .memory) m s (h .size) o i) (share ∷ others)
+              (all-shares (λ x. owned (linkAt (windowOf w) (w .memory) (x .at) .says .control .0) ≡ true) (l ∷ ls) (w .input)
+              (chain-owned (windowOf w) (w .memory) (w .machine .pointer .0) (l ∷ ls) e (r .chain)))
+              (all-shares (Same (windowOf w) m (w .memory)) (l ∷ ls) (w .input)
+              (all-left _ (l ∷ ls) (e ∷ []) held));
+        };
+      }
+
+  -- ---- the mark
+
+  mark-step : step w1 ≡ taken w2
+  mark-step = write-step w1 k refl (r .set)
+
+  mark-is : w2 .memory
+      ≡ putAt (w1 .memory) (placeOf (windowOf w) (l .at) + 28) (lastFour (length t) (gathered 0 t) (l .says .control .0 % 128))
+  mark-is =
+      let n : k .moved ≡ length t = worked-moved begins t ∙ omega arith in
+      rw (worked-at begins t, n, worked-errors begins t, worked-control begins t)
+
+  mark-size : length (w2 .memory) ≡ length (w .memory)
+  mark-size = ap length mark-is ∙ length-put-at (w1 .memory) _ _ ∙ kept .size
+
+  mark-off : (p : ℕ) → OffFour (windowOf w) p l → getD (w2 .memory) p 0 ≡ getD (w1 .memory) p 0
+  mark-off p o =
+      ap (λ (m : List ℕ). getD m p 0) mark-is
+      ∙ put-off (w1 .memory) _ _ p
+      (λ j h f. o j h (let g : p ≡ placeOf (windowOf w) (l .at) + 28 + j = f in omega (arith, stands .address)))
+
+  fits : placeOf (windowOf w) (l .at) + 32 ≤ length (w .memory)
+  fits = omega (arith, stands .fits, r .lent)
+
+  abbrev four : List ℕ
+  four = lastFour (length t) (gathered 0 t) (l .says .control .0 % 128)
+
+  done-l : Done (windowOf w) (w2 .memory) share
+  done-l =
+      let p : ℕ = placeOf (windowOf w) (l .at) in
+      let room : p + 28 + length four ≤ length (w1 .memory) = omega (arith, fits, kept .size) in
+      done-by-four (windowOf w) (w2 .memory) share (omega (arith, fits, mark-size))
+      (let f = takes-fit taking in omega (arith, wants-short (l .says) (r .short .0)))
+      (ap (λ (m : List ℕ). part m (p + 28) 4) (mark-is ∙ put-in (w1 .memory) (p + 28) four room) ∙ part-put (w1 .memory) (p + 28) four 4 room refl)
+
+  -- the other descriptors are as they were
+  held : All (Same (windowOf w) (w2 .memory) (w .memory)) (ls ++ e ∷ [])
+  held =
+      all-map2 (λ x f a. f a) (ls ++ e ∷ []) (all-map2 (λ x h o. one x h o) (ls ++ e ∷ []) (all-stand .1) (bytes-off .1)) (r .apart .0)
+    where
+      one : (x : Link) → Placed (windowOf w) (x .at) 32 → All (λ s. Off x (s .to)) (sentBy share) → Apart l x
+          → Same (windowOf w) (w2 .memory) (w .memory) x
+      one x h o a =
+          part-ext (w2 .memory) (w1 .memory) (placeOf (windowOf w) (x .at)) 32 (mark-size ∙ sym (kept .size))
+          (λ i g. mark-off (placeOf (windowOf w) (x .at) + i) (off-four (windowOf w) x h i g l (apart-sym l x a)))
+          ∙ kept-block kept x h o
+
+  -- ---- the others
+
+  others-off : All (λ s. Off l (s .to)) (sentByAll others)
+  others-off =
+      all-map (λ s a. a .0) (sentByAll others)
+      (all-right (λ s. All (λ x. Off x (s .to)) (l ∷ ls ++ e ∷ [])) (sentBy share) (sentByAll others) (r .outside))
+
+  ready : Ready w2 ls e
+  ready =
+      record {
+        fetching = refl;
+        set = r .set;
+        lent = mark-size ∙ r .lent;
+        chain = chain-same (windowOf w) (w .memory) (w2 .memory) (l .says .next) ls e
+            (all-map (λ x h. says-same (w2 .memory) (w .memory) _ mark-size h) (ls ++ e ∷ []) held) (r .chain .2);
+        short = r .short .1;
+        aligned = r .aligned .1;
+        inside = r .inside .1;
+        apart = r .apart .1;
+        stream = r .stream .1;
+        lands = all-right (λ s. inWindow (windowOf w) (s .to) 1 ≡ true) (sentBy share) (sentByAll others) (r .lands);
+        outside = all-map (λ s a. a .1) (sentByAll others)
+            (all-right (λ s. All (λ x. Off x (s .to)) (l ∷ ls ++ e ∷ [])) (sentBy share) (sentByAll others) (r .outside));
+      }
+
+  -- while the others are walked, this one stays done
+  stays-done : (m : List ℕ) → Inv (windowOf w) (w2 .memory) others m → Done (windowOf w) m share
+  stays-done m v =
+      done-stays (windowOf w) (w2 .memory) m share (v .size)
+      (inv-block v l stands others-off (all-shares (Apart l) ls _ (all-left (Apart l) ls (e ∷ []) (r .apart .0)))) done-l
+
+  whole-inv : (m : List ℕ) → Inv (windowOf w) (w2 .memory) others m → Inv (windowOf w) (w .memory) (share ∷ others) m
+  whole-inv m v =
+      record {
+        size = v .size ∙ mark-size;
+        frame = λ p a b. v .frame p (all-right (λ s. s .to ≢ windowOf w .base + p) (sentBy share) (sentByAll others) a) (b .1)
+            ∙ mark-off p (b .0) ∙ kept .frame p (all-left (λ s. s .to ≢ windowOf w .base + p) (sentBy share) (sentByAll others) a);
+        few = record {
+          few = suc (v .few .few);
+          within = omega (arith, v .few .within);
+          done = (stays-done m v, v .few .done);
+          waiting = all-map2 (λ s x h. record { unmarked = x .unmarked; same = x .same ∙ h }) (drop (v .few .few) others) (v .few .waiting)
+              (all-drop _ (v .few .few) others (all-shares _ ls _ (all-left _ ls (e ∷ []) held)));
+        };
+      }
+
+  -- the bytes of this one
+  bytes-l : (p : ℕ) → OffFour (windowOf w) p l
+      → getD (w2 .memory) p 0 ≡ lastAt (windowOf w .base + p) (sentBy share) (getD (w .memory) p 0)
+  bytes-l p o =
+      mark-off p o ∙ last-writer (windowOf w) p (sentBy share) (w .memory) (r .lent) (all-map (λ s h. placed _ _ _ h) (sentBy share) bytes-land)
+
+  walk-more : Walked w2 ls e → Walked w (l ∷ ls) e
+  walk-more z =
+      record {
+        last = z .last;
+        along = subst (λ (n : ℕ). Along (λ x. Inv (windowOf w) (w .memory) (share ∷ others) (x .memory)) n w (z .last))
+            (let x : suc (length t) + suc (cost others + 1) ≡ length t + 2 + cost others + 1 = omega arith in x)
+            (join (along-map (λ x h. none-done (x .memory) h) sending)
+            (more (none-done (w1 .memory) kept) mark-step (along-map (λ x h. whole-inv (x .memory) h) (z .along))));
+        stops = z .stops;
+        taken = (let f = takes-fit taking in omega (arith, z .taken, length-drop (length t) (w .input)));
+        made = z .made;
+        pointer = z .pointer;
+        done = (stays-done (z .last .memory) (along-last (z .along)), z .done);
+        size = z .size ∙ mark-size;
+        bytes = λ p o. z .bytes p (o .1) ∙ ap (lastAt (windowOf w .base + p) (sentByAll others)) (bytes-l p (o .0))
+            ∙ sym (lastAt-append (windowOf w .base + p) (sentBy share) (sentByAll others) _);
+      }
+
+pub walk : (ls : List Link) (w : World) (e : Link) → Ready w ls e → Walked w ls e
+walk [] w e r = walk-none w e r
+walk (l ∷ ls) w e r = walk-more w l ls e r (walk ls (w2 w l ls e r) e (ready w l ls e r))

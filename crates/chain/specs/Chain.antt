@@ -1,0 +1,251 @@
+-- Demand 3: what one run makes of a chain of descriptors in memory and of the beats of a stream. What is given, the chain, what
+-- the stream gives each descriptor, where each byte lands; then the premises and the conclusions in the demand's order and words.
+-- The theorems are `chain-theorem` and `chain-at-every-step`.
+-- Assumes nothing.
+use Prim.Native.Nat.{ℕ, zero, suc, _+_, _%_, _≤_, _<_}
+use mathlib.Core.Path.{_≡_}
+use mathlib.Core.Logic.{_≢_}
+use mathlib.Core.Bool.{Bool, true, false, cond, _||_}
+use mathlib.Core.List.{List, [], _∷_, _++_}
+use lib.Bits.{bitOr}
+use lib.Dec.{eqb}
+use lib.ListN.{length, getD, take, drop}
+use Rattle.words.specs.Bits.{bit}
+use Rattle.words.specs.Slices.{part}
+use Rattle.bus.specs.declared.Window.{Window}
+use Rattle.bus.specs.Window.{inWindow, placeOf}
+use Rattle.descriptor.specs.declared.Descriptor.{Descriptor}
+use Rattle.descriptor.specs.Layout.{writeFixed, owned, descriptorAt, lastFour}
+use Rattle.machine.specs.declared.Machine.{Machine}
+use Rattle.machine.specs.declared.Mode.the-variants.{StreamToMemory}
+use Rattle.machine.specs.declared.Reason.the-variants.{Ended, Budget}
+use Rattle.machine.specs.declared.Ran.{Ran}
+use Rattle.machine.specs.State.{withPointer, fresh}
+use Rattle.machine.specs.Registers.{controlWritten}
+use Rattle.machine.specs.Beats.{beatError, beatEop, beatData}
+use Rattle.machine.specs.Step.{World}
+use Rattle.machine.specs.Run.{run}
+
+abbrev pub All {ℓ} : {A : Type ℓ} → (A → Type 0) → List A → Type 0
+All P [] = Unit {0}
+All P (x ∷ xs) = P x × All P xs
+
+-- of each and every later one
+abbrev pub Pairwise {ℓ} : {A : Type ℓ} → (A → A → Type 0) → List A → Type 0
+Pairwise R [] = Unit {0}
+Pairwise R (x ∷ xs) = All (R x) xs × Pairwise R xs
+
+-- ---- what is given
+
+-- the window and its bytes; what is written to pointer and control; the beats lent, the room for output; how many owned
+-- descriptors the chain has
+pub record Given : Type 0 where
+  pub window : Window
+  pub memory : List ℕ
+  pub pointer : ℕ
+  pub control : ℕ
+  pub beats : List ℕ
+  pub room : ℕ
+  pub k : ℕ
+
+-- "a fresh machine in stream-to-memory mode, its pointer set, then" control written
+abbrev pub machineFor : Given → Machine
+machineFor g = controlWritten (g .control) (withPointer (g .pointer) (fresh StreamToMemory (g .window)))
+
+-- where the one run is made
+abbrev pub worldFor : Given → World
+worldFor g = record { machine = machineFor g; memory = g .memory; input = g .beats; output = []; room = g .room }
+
+-- ---- the chain in memory
+
+-- a descriptor: its address, and what it says
+pub record Link : Type 0 where
+  pub at : ℕ
+  pub says : Descriptor
+
+abbrev pub linkAt : Window → List ℕ → ℕ → Link
+linkAt window memory a = record { at = a; says = descriptorAt memory (placeOf window a) }
+
+-- so many from the address a on, each at the next_desc_ptr of the one before
+abbrev pub linksFrom : Window → List ℕ → ℕ → ℕ → List Link
+linksFrom window memory a zero = []
+linksFrom window memory a (suc n) = linkAt window memory a ∷ linksFrom window memory (linkAt window memory a .says .next) n
+
+-- and the one after them
+abbrev pub linkAfter : Window → List ℕ → ℕ → ℕ → Link
+linkAfter window memory a zero = linkAt window memory a
+linkAfter window memory a (suc n) = linkAfter window memory (linkAt window memory a .says .next) n
+
+-- the k, the one at their end, and all of them
+abbrev pub links : Given → List Link
+links g = linksFrom (g .window) (g .memory) (g .pointer) (g .k)
+
+abbrev pub last : Given → Link
+last g = linkAfter (g .window) (g .memory) (g .pointer) (g .k)
+
+abbrev pub everyLink : Given → List Link
+everyLink g = links g ++ (last g ∷ [])
+
+-- the address q is none of a descriptor's 32
+abbrev pub Off : Link → ℕ → Type 0
+Off l q = (i : ℕ) → i < 32 → q ≢ l .at + i
+
+-- two descriptors have no byte in common
+abbrev pub Apart : Link → Link → Type 0
+Apart l m = (i : ℕ) → i < 32 → Off m (l .at + i)
+
+-- ---- what the stream gives a descriptor
+
+-- bytes_to_transfer; a 0 means 65,535
+abbrev pub wants : Descriptor → ℕ
+wants d = cond (eqb (d .length) 0) 65535 (d .length)
+
+-- of the beats n, or up to the first EOP
+abbrev pub takes : ℕ → List ℕ → List ℕ
+takes zero bs = []
+takes (suc n) [] = []
+takes (suc n) (b ∷ bs) = b ∷ cond (beatEop b) [] (takes n bs)
+
+-- whether the beats are so many, or hold an EOP before
+abbrev pub enough : ℕ → List ℕ → Bool
+enough zero bs = true
+enough (suc n) [] = false
+enough (suc n) (b ∷ bs) = beatEop b || enough n bs
+
+-- a descriptor and the beats that the stream gives it
+pub record Share : Type 0 where
+  pub link : Link
+  pub beats : List ℕ
+
+-- each takes from what those before it left
+abbrev pub sharesOf : List Link → List ℕ → List Share
+sharesOf [] bs = []
+sharesOf (l ∷ ls) bs = record { link = l; beats = takes (wants (l .says)) bs } ∷ sharesOf ls (drop (length (takes (wants (l .says)) bs)) bs)
+
+abbrev pub Enough : List Link → List ℕ → Type 0
+Enough [] bs = Unit {0}
+Enough (l ∷ ls) bs = (enough (wants (l .says)) bs ≡ true) × Enough ls (drop (length (takes (wants (l .says)) bs)) bs)
+
+abbrev pub shares : Given → List Share
+shares g = sharesOf (links g) (g .beats)
+
+-- the bytes given, and the steps: for each its bytes and 2 more
+abbrev pub given : List Share → ℕ
+given [] = 0
+given (s ∷ ss) = length (s .beats) + given ss
+
+abbrev pub cost : List Share → ℕ
+cost [] = 0
+cost (s ∷ ss) = length (s .beats) + 2 + cost ss
+
+-- the errors of beats, gathered by OR
+abbrev pub gathered : (errors : ℕ) → List ℕ → ℕ
+gathered errors [] = errors
+gathered errors (b ∷ bs) = gathered (bitOr errors (beatError b)) bs
+
+-- ---- where each byte lands
+
+-- a byte on its way to an address
+pub record Sent : Type 0 where
+  pub to : ℕ
+  pub byte : ℕ
+
+-- byte i at destination + i, without i under WRITE_FIXED
+abbrev pub landing : (fixed : Bool) (destination i : ℕ) → ℕ
+landing fixed destination i = cond fixed destination (destination + i)
+
+-- the bytes of beats, from byte i on
+abbrev pub sentFrom : (fixed : Bool) (destination i : ℕ) → List ℕ → List Sent
+sentFrom fixed destination i [] = []
+sentFrom fixed destination i (b ∷ bs) =
+    record { to = landing fixed destination i; byte = beatData b } ∷ sentFrom fixed destination (i + 1) bs
+
+abbrev pub sentBy : Share → List Sent
+sentBy s = sentFrom (writeFixed (s .link .says .control .0)) (s .link .says .destination) 0 (s .beats)
+
+-- in the order in which they are sent
+abbrev pub sentByAll : List Share → List Sent
+sentByAll [] = []
+sentByAll (s ∷ ss) = sentBy s ++ sentByAll ss
+
+abbrev pub sent : Given → List Sent
+sent g = sentByAll (shares g)
+
+-- ---- the premises
+
+pub record Premises (g : Given) : Type 0 where
+  -- "RUN set with PARK and STOP_DMA_ER clear"
+  pub run-set : bit 5 (g .control) ≡ true
+  pub park-clear : bit 17 (g .control) ≡ false
+  pub stop-clear : bit 6 (g .control) ≡ false
+  -- the window is lent whole, and what it holds is bytes
+  pub lent : length (g .memory) ≡ g .window .length
+  pub bytes : All (λ x. x < 256) (g .memory)
+  -- "k owned descriptors and one unowned at its end"
+  pub k-owned : All (λ l. owned (l .says .control .0) ≡ true) (links g)
+  pub last-unowned : owned (last g .says .control .0) ≡ false
+  -- "all aligned, in the window and not overlapping"
+  pub aligned : All (λ l. l .at % 4 ≡ 0) (everyLink g)
+  pub inside : All (λ l. inWindow (g .window) (l .at) 32 ≡ true) (everyLink g)
+  pub apart : Pairwise Apart (everyLink g)
+  -- "The stream holds every byte the chain will take"
+  pub stream : Enough (links g) (g .beats)
+  -- "and each lands in the window outside those descriptors"
+  pub lands : All (λ s. inWindow (g .window) (s .to) 1 ≡ true) (sent g)
+  pub outside : All (λ s. All (λ l. Off l (s .to)) (everyLink g)) (sent g)
+
+-- ---- the conclusions
+
+-- a descriptor "marked done", "with the count of bytes the stream gave it"; of its last four bytes also the errors of its beats,
+-- and its control as fetched but for OWNED
+pub record Done (window : Window) (memory : List ℕ) (s : Share) : Type 0 where
+  pub marked : owned (linkAt window memory (s .link .at) .says .control .0) ≡ false
+  pub count : linkAt window memory (s .link .at) .says .actual ≡ length (s .beats)
+  pub four : part memory (placeOf window (s .link .at) + 28) 4
+      ≡ lastFour (length (s .beats)) (gathered 0 (s .beats)) (s .link .says .control .0 % 128)
+
+-- one not yet done: still owned, its 32 bytes as they were before
+pub record Waiting (window : Window) (before memory : List ℕ) (s : Share) : Type 0 where
+  pub unmarked : owned (linkAt window memory (s .link .at) .says .control .0) ≡ true
+  pub same : part memory (placeOf window (s .link .at)) 32 ≡ part before (placeOf window (s .link .at)) 32
+
+-- "those of the k marked done are the first few of the chain"
+pub record FirstFew (window : Window) (before : List ℕ) (ss : List Share) (memory : List ℕ) : Type 0 where
+  pub few : ℕ
+  pub within : few ≤ length ss
+  pub done : All (Done window memory) (take few ss)
+  pub waiting : All (Waiting window before memory) (drop few ss)
+
+-- "After every step": with every budget
+pub record AtEveryStep (g : Given) : Type 0 where
+  pub first-few : (budget : ℕ) → FirstFew (g .window) (g .memory) (shares g) (run budget (worldFor g) .world .memory)
+  -- and a budget that is not enough is spent: there is a world after each of these steps
+  pub spent : (budget : ℕ) → budget < 2 + cost (shares g)
+      → (run budget (worldFor g) .steps ≡ budget) × (run budget (worldFor g) .reason ≡ Budget)
+
+-- the counts that the descriptors hold, summed
+abbrev pub counts : Window → List ℕ → List Link → ℕ
+counts window memory [] = 0
+counts window memory (l ∷ ls) = linkAt window memory (l .at) .says .actual + counts window memory ls
+
+-- what a run with budget enough tells, and the window's bytes after it
+pub record Outcome (g : Given) (ran : Ran) (memory : List ℕ) : Type 0 where
+  -- "it stops after exactly 2 steps plus, for each of the k, its bytes and 2 more"
+  pub reason : ran .reason ≡ Ended
+  pub steps : ran .steps ≡ 2 + cost (shares g)
+  -- all k are marked done
+  pub done : All (Done (g .window) memory) (shares g)
+  -- "the counts sum to the bytes taken"
+  pub sum : counts (g .window) memory (links g) ≡ ran .taken
+  -- "each landing place holds the last byte sent there"
+  pub landed : (before after : List Sent) (s : Sent) → sent g ≡ before ++ s ∷ after → All (λ later. later .to ≢ s .to) after
+      → getD memory (placeOf (g .window) (s .to)) 0 ≡ s .byte
+  -- "outside those places and the descriptors' last four bytes no byte of memory differs"
+  pub frame : (place : ℕ) → All (λ s. s .to ≢ g .window .base + place) (sent g)
+      → All (λ l. (j : ℕ) → j < 4 → g .window .base + place ≢ l .at + (28 + j)) (links g)
+      → getD memory place 0 ≡ getD (g .memory) place 0
+  pub size : length memory ≡ length (g .memory)
+  -- the beats taken are those given, none is made, and the pointer is at the chain's end
+  pub taken : ran .taken ≡ given (shares g)
+  pub made : ran .made ≡ 0
+  pub pointer : ran .machine .pointer .0 ≡ last g .at

@@ -1,0 +1,251 @@
+-- The laws of a step: what it leaves of the machine and of what is lent, and which bytes of memory it names.
+-- Assumes nothing.
+use Prim.Native.Nat.{ℕ, zero, suc, _+_, _-_, _%_, _≤_, _<_}
+use mathlib.Core.Path.{_≡_, refl, sym, ap, subst, _∙_}
+use mathlib.Core.Logic.{_≢_}
+use mathlib.Core.Bool.{Bool, true, false, cond, _&&_}
+use mathlib.Core.List.{List, [], _∷_, _++_, append-assoc, append-nil}
+use native.Mathlib.Numerals.{add-one}
+use native.Mathlib.Omega.{arith}
+use lib.Dec.{eqb}
+use lib.ListN.{length, getD, take, drop, set, length-append, length-set, length-drop}
+use lib.Seq.{drop-drop, getD-set-other, length-sets, sets}
+use Rattle.bus.specs.Window.{inWindow, placeOf}
+use Rattle.descriptor.specs.Layout.{owned, descriptorAt}
+use Rattle.machine.specs.declared.Machine.{Machine}
+use Rattle.machine.specs.declared.Mode.{Mode}
+use Rattle.machine.specs.declared.Mode.the-variants.{MemoryToMemory, MemoryToStream, StreamToMemory}
+use Rattle.machine.specs.declared.Work.{Work}
+use Rattle.machine.specs.declared.Phase.{Phase}
+use Rattle.machine.specs.declared.Phase.the-variants.{Rest, Fetch, Move, WriteBack, Ended, Halted, Faulted}
+use Rattle.machine.specs.declared.Reason.{Reason}
+use Rattle.machine.specs.declared.Reason.the-variants as reason
+use Rattle.machine.specs.State.{run}
+use Rattle.machine.specs.Step.{World, Answer, taken, stopped, became, restStep, fetched, fetchStep, wantsLength, sourceOf, destinationOf, beatFor, copyStep, sendTo, sendStep, receiveFrom, moveStep, onward, completed, writtenBack, writeBackStep, stepIn, step}
+use Rattle.machine.specs.Run.{reasonNumber, takenSince}
+use Rattle.machine.proofs.Puts.{length-put-at, put-off}
+
+-- ---- what n steps leave
+
+pub record Passed (n : ℕ) (w v : World) : Type 0 where
+  pub mode : v .machine .mode ≡ w .machine .mode
+  pub window : v .machine .window ≡ w .machine .window
+  -- the window's length never changes
+  pub memory : length (v .memory) ≡ length (w .memory)
+  -- beats are taken from the front
+  pub took : ℕ
+  pub there : took ≤ length (w .input)
+  pub input : v .input ≡ drop took (w .input)
+  -- beats are made at the end, into the room
+  pub made : List ℕ
+  pub output : v .output ≡ w .output ++ made
+  pub room : v .room + length made ≡ w .room
+  -- a step takes one or makes one or neither
+  pub moved : took + length made ≤ n
+
+pub passed-none : (n : ℕ) (w : World) → Passed n w w
+passed-none n w =
+    record {
+      mode = refl;
+      window = refl;
+      memory = refl;
+      took = 0;
+      there = omega arith;
+      input = refl;
+      made = [];
+      output = sym (append-nil (w .output));
+      room = omega arith;
+      moved = omega arith;
+    }
+
+pub passed-on : {a b : ℕ} {w v u : World} → Passed a w v → Passed b v u → Passed (a + b) w u
+passed-on {w = w} {v = v} {u = u} p q =
+    let l : length (v .input) ≡ length (w .input) - p .took = ap length (p .input) ∙ length-drop (p .took) (w .input) in
+    record {
+      mode = q .mode ∙ p .mode;
+      window = q .window ∙ p .window;
+      memory = q .memory ∙ p .memory;
+      took = p .took + q .took;
+      there = omega (arith, p .there, q .there);
+      input = q .input ∙ ap (drop (q .took)) (p .input) ∙ drop-drop (q .took) (p .took) (w .input);
+      made = p .made ++ q .made;
+      output = q .output ∙ ap (λ (l : List ℕ). l ++ q .made) (p .output) ∙ append-assoc (w .output) (p .made) (q .made);
+      room = simp length-append (omega (arith, p .room, q .room));
+      moved = simp length-append (omega (arith, p .moved, q .moved));
+    }
+
+-- the beats told are the beats taken
+pub took-since : {n : ℕ} {w v : World} → (p : Passed n w v) → takenSince w v ≡ p .took
+took-since {w = w} {v = v} p =
+    let l : length (v .input) ≡ length (w .input) - p .took = ap length (p .input) ∙ length-drop (p .took) (w .input) in
+    omega (arith, p .there)
+
+-- ---- the bytes that a step names
+
+-- the place q is none that the step names: the byte that a Move writes, the four that a WriteBack does
+abbrev pub sparesMove : Mode → World → Work → ℕ → Type 0
+sparesMove MemoryToMemory w k q = q ≢ placeOf (w .machine .window) (destinationOf k)
+sparesMove MemoryToStream w k q = Unit {0}
+sparesMove StreamToMemory w k q = q ≢ placeOf (w .machine .window) (destinationOf k)
+
+abbrev pub sparesIn : Phase → World → ℕ → Type 0
+sparesIn Rest w q = Unit {0}
+sparesIn Fetch w q = Unit {0}
+sparesIn (Move k) w q = sparesMove (w .machine .mode) w k q
+sparesIn (WriteBack k) w q = (j : ℕ) → j < 4 → q ≢ placeOf (w .machine .window) (k .at) + 28 + j
+sparesIn Ended w q = Unit {0}
+sparesIn Halted w q = Unit {0}
+sparesIn (Faulted f) w q = Unit {0}
+
+-- an answer with which a step spares the places `free`: it is taken and leaves them, or stops for a reason of its own
+pub data Sound (w : World) (free : ℕ → Type 0) : Answer → Type 0 where
+  goes : {v : World} → Passed 1 w v → ((q : ℕ) → free q → getD (v .memory) q 0 ≡ getD (w .memory) q 0) → Sound w free (taken v)
+  stays : {r : Reason} → r ≢ reason.Budget → Sound w free (stopped r)
+
+stops : {w : World} {free : ℕ → Type 0} (r : Reason) → reasonNumber r ≢ 6 → Sound w free (stopped r)
+stops r h = stays (λ e. h (ap reasonNumber e))
+
+choice : {w : World} {free : ℕ → Type 0} (b : Bool) {x y : Answer} → Sound w free x → Sound w free y → Sound w free (cond b x y)
+choice true p q = p
+choice false p q = q
+
+module _ (w : World) where
+  -- no beat is moved: machine and memory change
+  still : {free : ℕ → Type 0} (m : Machine) (mem : List ℕ) → m .mode ≡ w .machine .mode → m .window ≡ w .machine .window
+      → length mem ≡ length (w .memory) → ((q : ℕ) → free q → getD mem q 0 ≡ getD (w .memory) q 0)
+      → Sound w free (taken (record { machine = m; memory = mem; input = w .input; output = w .output; room = w .room }))
+  still m mem e f l h =
+      let p : Passed 1 w (record { machine = m; memory = mem; input = w .input; output = w .output; room = w .room }) =
+      record {
+        mode = e;
+        window = f;
+        memory = l;
+        took = 0;
+        there = omega arith;
+        input = refl;
+        made = [];
+        output = sym (append-nil (w .output));
+        room = omega arith;
+        moved = omega arith;
+      } in
+      goes p h
+
+  -- the machine alone changes
+  turned : {free : ℕ → Type 0} (m : Machine) → m .mode ≡ w .machine .mode → m .window ≡ w .machine .window → Sound w free (taken (became w m))
+  turned m e f = still m (w .memory) e f refl (λ q h. refl)
+
+  sound-rest : Sound w (λ q. Unit {0}) (restStep w)
+  unfolding restStep
+  sound-rest = choice (run (w .machine .control)) (turned _ refl refl) (stops reason.Rest (omega arith))
+
+  sound-fetch : Sound w (λ q. Unit {0}) (fetchStep w)
+  unfolding fetchStep fetched
+  sound-fetch =
+      let m = w .machine in
+      let d = descriptorAt (w .memory) (placeOf (m .window) (m .pointer .0)) in
+      choice (run (m .control))
+      (choice (eqb (m .pointer .0 % 4) 0)
+      (choice (inWindow (m .window) (m .pointer .0) 32)
+      (choice (owned (d .control .0))
+      (choice (wantsLength (m .mode) && eqb (d .length) 0) (turned _ refl refl) (turned _ refl refl)) (turned _ refl refl)) (turned _ refl refl))
+      (turned _ refl refl))
+      (turned _ refl refl)
+
+  module _ (k : Work) where
+    abbrev at : ℕ
+    at = placeOf (w .machine .window) (destinationOf k)
+
+    sound-copy : Sound w (λ q. q ≢ at) (copyStep w k)
+    unfolding copyStep onward
+    sound-copy =
+        choice (inWindow (w .machine .window) (sourceOf k) 1)
+        (choice (inWindow (w .machine .window) (destinationOf k) 1)
+        (still _ _ refl refl (length-set (w .memory) _ _) (λ q h. getD-set-other (w .memory) at q _ 0 h))
+        (turned _ refl refl))
+        (turned _ refl refl)
+
+    sound-send : (room : ℕ) → w .room ≡ room → Sound w (λ q. Unit {0}) (sendTo w k room)
+    unfolding onward
+    sound-send zero r = stops reason.OutputFull (omega arith)
+    sound-send (suc left) r =
+        goes
+        (record {
+          mode = refl;
+          window = refl;
+          memory = refl;
+          took = 0;
+          there = omega arith;
+          input = refl;
+          made = beatFor k (getD (w .memory) (placeOf (w .machine .window) (sourceOf k)) 0) ∷ [];
+          output = refl;
+          room = add-one left ∙ sym r;
+          moved = omega arith;
+        })
+        (λ q h. refl)
+
+    sound-receive : (input : List ℕ) → w .input ≡ input → Sound w (λ q. q ≢ at) (receiveFrom w k input)
+    unfolding onward
+    sound-receive [] i = stops reason.NeedsInput (omega arith)
+    sound-receive (b ∷ bs) i =
+        choice (inWindow (w .machine .window) (destinationOf k) 1)
+        (goes
+        (record {
+          mode = refl;
+          window = refl;
+          memory = length-set (w .memory) _ _;
+          took = 1;
+          there = rw i (omega arith);
+          input = rw i;
+          made = [];
+          output = sym (append-nil (w .output));
+          room = omega arith;
+          moved = omega arith;
+        })
+        (λ q h. getD-set-other (w .memory) at q _ 0 h))
+        (turned _ refl refl)
+
+    sound-back : Sound w (λ q. (j : ℕ) → j < 4 → q ≢ placeOf (w .machine .window) (k .at) + 28 + j) (writeBackStep w k)
+    unfolding writeBackStep writtenBack completed
+    sound-back = still _ _ refl refl (length-put-at (w .memory) _ _) (λ q h. put-off (w .memory) _ _ q h)
+
+  -- a step spares every byte of memory but those that it names
+  pub step-sound : Sound w (sparesIn (w .machine .phase) w) (step w)
+  unfolding step sendStep
+  step-sound = by (w .machine .phase)
+    where
+      by-mode : (k : Work) (m : Mode) → Sound w (sparesMove m w k) (moveStep m w k)
+      by-mode k MemoryToMemory = sound-copy k
+      by-mode k MemoryToStream = choice (inWindow (w .machine .window) (sourceOf k) 1) (sound-send k (w .room) refl) (turned _ refl refl)
+      by-mode k StreamToMemory = sound-receive k (w .input) refl
+
+      by : (p : Phase) → Sound w (sparesIn p w) (stepIn p w)
+      by Rest = sound-rest
+      by Fetch = sound-fetch
+      by (Move k) = by-mode k (w .machine .mode)
+      by (WriteBack k) = sound-back k
+      by Ended = stops reason.Ended (omega arith)
+      by Halted = stops reason.Halted (omega arith)
+      by (Faulted f) = stops reason.Faulted (omega arith)
+
+  module _ (v : World) (e : step w ≡ taken v) where
+    taken-is : {a : Answer} → Sound w (sparesIn (w .machine .phase) w) a → a ≡ taken v
+        → Passed 1 w v × ((q : ℕ) → sparesIn (w .machine .phase) w q → getD (v .memory) q 0 ≡ getD (w .memory) q 0)
+    taken-is (goes {v = u} p h) f =
+        let u-is : u ≡ v = cc in
+        subst (λ (x : World). Passed 1 w x × ((q : ℕ) → sparesIn (w .machine .phase) w q → getD (x .memory) q 0 ≡ getD (w .memory) q 0)) u-is (p, h)
+    taken-is (stays h) f = absurd (let z : _≡_ {A = ℕ} 0 1 = cc in omega arith)
+
+    pub step-passed : Passed 1 w v
+    step-passed = taken-is step-sound e .0
+
+    -- a step leaves every byte of memory but those that it names
+    pub step-spares : (q : ℕ) → sparesIn (w .machine .phase) w q → getD (v .memory) q 0 ≡ getD (w .memory) q 0
+    step-spares = taken-is step-sound e .1
+
+  -- a step never stops for the budget
+  pub never-budget : step w ≢ stopped reason.Budget
+  never-budget e = by step-sound e
+    where
+      by : {a : Answer} → Sound w (sparesIn (w .machine .phase) w) a → a ≢ stopped reason.Budget
+      by (goes p h) f = let z : _≡_ {A = ℕ} 0 1 = cc in omega arith
+      by (stays {r = r} h) f = h (let g : r ≡ reason.Budget = cc in g)
