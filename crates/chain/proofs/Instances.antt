@@ -15,7 +15,7 @@ use Rattle.words.specs.Slices.{part}
 use Rattle.bus.specs.Window.{inWindow, placeOf}
 use Rattle.descriptor.specs.declared.Job.{Job}
 use Rattle.descriptor.specs.Layout.{bytesFor, descriptorAt}
-use Rattle.image.proofs.Facts.{and-left, and-right}
+use Rattle.image.proofs.Tests.{and-left, and-right}
 use Rattle.machine.specs.declared.Ran.{Ran}
 use Rattle.machine.specs.declared.Reason.the-variants.{Ended}
 use Rattle.machine.specs.Run.{run, ranAs}

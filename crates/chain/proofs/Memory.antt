@@ -21,7 +21,7 @@ use Rattle.bus.specs.Window.{inWindow, placeOf}
 use Rattle.descriptor.specs.declared.Descriptor.{Descriptor}
 use Rattle.descriptor.specs.Layout.{owned, descriptorOf, descriptorAt, lastFour}
 use Rattle.descriptor.proofs.Reading.{by-offset, there}
-use Rattle.image.proofs.Facts.{and-left, and-right}
+use Rattle.image.proofs.Tests.{and-left, and-right}
 use Rattle.chain.specs.Chain.{All, Sent}
 
 -- ---- the window
