@@ -125,7 +125,8 @@ module _ (mode : Mode) (w : Window) (k : Work) (h : Hand mode w k) where
   back-rule : Moved mode k → (rule.movedKept 3 all (k .errors) (k .moved) ≡ true) × (rule.eopKept (modeNumber mode) 3 all (k .moved) (k .eop) ≡ true)
   back-rule g =
       let none : (either 0 1 (modeNumber mode) ⇒ not (k .eop)) ≡ true = rw (reads mode) (if-so _ _ (λ r. ap not (h .noEop r))) in
-      (both (le-leb _ _ (g .some)) (le-leb _ _ (g .most)), both (both none refl) (or-comm (eqb (k .moved) all) (k .eop) ∙ unless _ _ (λ z. eq-eqb _ _ (g .whole z))))
+      let enough : (eqb (k .moved) all || k .eop) ≡ true = or-comm (eqb (k .moved) all) (k .eop) ∙ unless _ _ (λ z. eq-eqb _ _ (g .whole z)) in
+      (both (le-leb _ _ (g .some)) (le-leb _ _ (g .most)), both (both none refl) enough)
 
 -- ---- from the parts to the rules
 
@@ -160,8 +161,7 @@ module _ (m : Machine) (p : Phase) (k : Kept m) where
         faultat = faultat;
       }
 
-each-in : (m : Machine) (p : Phase) → Kept m → Suits m p
-    → Each (fieldsOf (withPhase p m))
+each-in : (m : Machine) (p : Phase) → Kept m → Suits m p → Each (fieldsOf (withPhase p m))
 each-in m Rest k h = each-at m Rest k refl refl h refl (no-hand (m .mode) (m .window) 0 refl refl) refl
 each-in m Fetch k h = each-at m Fetch k refl refl h refl (no-hand (m .mode) (m .window) 1 refl refl) refl
 each-in m (Move w) k (b, h, g) =
@@ -177,15 +177,14 @@ each-in m (Faulted f) k (b, c, a) =
     each-at m (Faulted f) k refl (both c refl) b refl (no-hand (m .mode) (m .window) 6 refl refl) refl
 
 -- L is a number of 16 bits
-pub asked-lt : (mode n : ℕ) → n < 65536 → rule.asked mode n < 65536
+asked-lt : (mode n : ℕ) → n < 65536 → rule.asked mode n < 65536
 asked-lt mode n h = pick (eqb mode 2 && eqb n 0)
   where
     pick : (b : Bool) → cond b 65535 n < 65536
     pick true = omega arith
     pick false = h
 
-typed-in : (m : Machine) (p : Phase) → Kept m → Suits m p
-    → Typed (fieldsOf (withPhase p m))
+typed-in : (m : Machine) (p : Phase) → Kept m → Suits m p → Typed (fieldsOf (withPhase p m))
 typed-in m Rest k h = let a = k .pointer in omega arith
 typed-in m Fetch k h = let a = k .pointer in omega arith
 typed-in m (Move w) k (b, h, g) =
@@ -231,8 +230,7 @@ module _ (m : Machine) (p : Phase) (e : lowestBroken (fieldsOf (withPhase p m)) 
         control = t .dcontrol;
       }
 
-in-phase : (m : Machine) (p : Phase) → lowestBroken (fieldsOf (withPhase p m)) ≡ 0 → Typed (fieldsOf (withPhase p m))
-    → Suits m p
+in-phase : (m : Machine) (p : Phase) → lowestBroken (fieldsOf (withPhase p m)) ≡ 0 → Typed (fieldsOf (withPhase p m)) → Suits m p
 in-phase m Rest e t = busy-in m Rest e t
 in-phase m Fetch e t = busy-in m Fetch e t
 in-phase m (Move k) e t =
@@ -245,11 +243,7 @@ in-phase m (WriteBack k) e t =
     let f = fieldsOf (withPhase (WriteBack k) m) in (
       busy-in m (WriteBack k) e t,
       hand-in m (WriteBack k) e t refl,
-      record {
-        some = fact.back-ge f e refl;
-        most = fact.back-le f e refl;
-        whole = fact.back-whole f e refl;
-      },
+      record { some = fact.back-ge f e refl; most = fact.back-le f e refl; whole = fact.back-whole f e refl },
     )
 in-phase m Ended e t = (busy-in m Ended e t, fact.run-set (fieldsOf (withPhase Ended m)) e refl)
 in-phase m Halted e t = (
