@@ -41,3 +41,9 @@ answer-filled xs d l h i =
     ∙ ap (λ (ys : List ℕ). bytesOf MostFirst 4 (d .source) ++ bytesOf MostFirst 4 (d .destination) ++ bytesOf MostFirst 4 (d .next) ++ ys)
     (ap (λ (ys : List ℕ). ys ++ bytesOf MostFirst 2 (d .status * 256 + d .control .0)) counts
     ∙ ap (λ (ys : List ℕ). bytesOf MostFirst 2 (d .length) ++ bytesOf MostFirst 2 (d .actual) ++ ys) last)
+
+-- a run's report, from its reason and its three counts
+pub report-filled : (xs : List ℕ) (reason steps took made : ℕ) → length xs ≡ 14
+    → putAt (putAt xs 0 (bytesOf MostFirst 2 reason)) 2 (wordBytes MostFirst (steps ∷ took ∷ made ∷ []))
+    ≡ rowBytes MostFirst (2 ∷ 4 ∷ 4 ∷ 4 ∷ []) (reason ∷ steps ∷ took ∷ made ∷ [])
+report-filled xs reason steps took made l = filled xs _ _ 2 refl l

@@ -29,7 +29,10 @@ use Rattle.machine.specs.declared.registers.WroteRegister.{WroteRegister}
 use Rattle.machine.specs.declared.registers.WroteRegister.the-variants as wrote
 use Rattle.machine.specs.declared.registers.Line.{Line}
 use Rattle.machine.specs.declared.registers.Line.the-variants as line
+use Rattle.machine.specs.declared.RunAnswer.{RunAnswer}
+use Rattle.machine.specs.declared.RunAnswer.the-variants as ran
 use Rattle.machine.specs.State.{fresh}
+use Rattle.machine.specs.Run.{run, reasonNumber, lentOf, worldOf, runAnswer, windowAfter, outAfter, runNumber}
 use Rattle.machine.specs.Saved.{fieldsOf, modeOf, loadOf}
 use Rattle.machine.specs.Registers.{readOf, writeOf, lineOf, readNumber, wroteNumber, lineNumber}
 
@@ -120,6 +123,54 @@ pub record LineRead (xs value : List ℕ) (r : ℕ) (value' : List ℕ) : Type 0
 
 pub line-read-unique : {xs value ys zs : List ℕ} {r s : ℕ} → LineRead xs value r ys → LineRead xs value s zs → (r ≡ s) × (ys ≡ zs)
 line-read-unique p q = (p .number ∙ sym (q .number), p .value-after ∙ sym (q .value-after))
+
+-- ---- sgdma_run: 7, 8, 9, 4
+
+abbrev pub runIn : LoadedMachine → (window beats out : List ℕ) (budget : ℕ) → RunAnswer
+runIn (loaded.Good m) window beats out budget = runAnswer (lentOf m window beats out) (worldOf m window beats out) budget
+runIn (loaded.Refused why) window beats out budget = ran.Refused why
+
+-- both sizes are looked at before the image
+unfoldable pub runCall : (xs window beats out : List ℕ) (budget : ℕ) (report : List ℕ) → RunAnswer
+runCall xs window beats out budget report =
+    cond (sized xs && isSize 14 report) (runIn (loadOf xs) window beats out budget) (ran.Refused BadSize)
+
+abbrev pub ranOver : RunAnswer → List ℕ → List ℕ
+ranOver (ran.Done r) xs = imageOf (r .machine)
+ranOver (ran.Refused why) xs = xs
+
+-- reason 16, steps 32, taken 32, made 32
+abbrev pub reportOver : RunAnswer → List ℕ → List ℕ
+reportOver (ran.Done r) report =
+    rowBytes MostFirst (2 ∷ 4 ∷ 4 ∷ 4 ∷ []) (reasonNumber (r .reason) ∷ r .steps ∷ r .taken ∷ r .made ∷ [])
+reportOver (ran.Refused why) report = report
+
+-- the window and the output after a run of what was loaded
+abbrev pub windowIn : LoadedMachine → (window beats out : List ℕ) (budget : ℕ) → List ℕ
+windowIn (loaded.Good m) window beats out budget = windowAfter (lentOf m window beats out) (run budget (worldOf m window beats out) .world) window
+windowIn (loaded.Refused why) window beats out budget = window
+
+abbrev pub outIn : LoadedMachine → (window beats out : List ℕ) (budget : ℕ) → List ℕ
+outIn (loaded.Good m) window beats out budget = outAfter (lentOf m window beats out) (run budget (worldOf m window beats out) .world) out
+outIn (loaded.Refused why) window beats out budget = out
+
+pub record RunMade (xs window beats out : List ℕ) (budget : ℕ) (report : List ℕ) (r : ℕ) (xs' window' out' report' : List ℕ) : Type 0 where
+  pub number : r ≡ runNumber (runCall xs window beats out budget report)
+  pub image-after : xs' ≡ ranOver (runCall xs window beats out budget report) xs
+  pub window-after : window' ≡ cond (sized xs && isSize 14 report) (windowIn (loadOf xs) window beats out budget) window
+  pub out-after : out' ≡ cond (sized xs && isSize 14 report) (outIn (loadOf xs) window beats out budget) out
+  pub report-after : report' ≡ reportOver (runCall xs window beats out budget report) report
+
+pub run-made-unique : {xs window beats out report x1 w1 o1 p1 x2 w2 o2 p2 : List ℕ} {budget r s : ℕ}
+    → RunMade xs window beats out budget report r x1 w1 o1 p1 → RunMade xs window beats out budget report s x2 w2 o2 p2
+    → (r ≡ s) × (x1 ≡ x2) × (w1 ≡ w2) × (o1 ≡ o2) × (p1 ≡ p2)
+run-made-unique p q = (
+  p .number ∙ sym (q .number),
+  p .image-after ∙ sym (q .image-after),
+  p .window-after ∙ sym (q .window-after),
+  p .out-after ∙ sym (q .out-after),
+  p .report-after ∙ sym (q .report-after),
+)
 
 -- ---- sgdma_build_descriptor: 3, 5, 6
 

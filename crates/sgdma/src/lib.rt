@@ -1,13 +1,18 @@
 // The calls of the C host. A slice passes as pointer and length; each call returns 0, or the number of its refusal, and then has
 // changed nothing.
-ghost use mathlib.Core.List.{[]};
+ghost use mathlib.Core.List.{[], _∷_};
 ghost use mathlib.Core.Path.{_≡_};
+ghost use Prim.Native.Nat.{_<_};
 ghost use lib.ListN.{length};
 ghost use mathlib.Core.Bool.{true};
+ghost use Rattle.words.specs.Orders.{rowBytes};
 ghost use Rattle.words.specs.Promise.{Leaves};
+ghost use Rattle.words.specs.declared.Order.the-variants.{MostFirst};
+ghost use Rattle.machine.specs.declared.RunAnswer.the-variants.{Done};
+ghost use Rattle.machine.specs.Run.{reasonNumber};
 ghost use Rattle.descriptor.specs.declared.ReadDescriptor.the-variants.{Good};
 ghost use Rattle.machine.specs.Saved.{keeps};
-ghost use Rattle.sgdma.specs.Calls.{imageOf, Created, RegisterWritten, RegisterRead, LineRead, DescriptorBuilt, DescriptorRead, answerOver};
+ghost use Rattle.sgdma.specs.Calls.{imageOf, ranOver, reportOver, Created, RegisterWritten, RegisterRead, LineRead, RunMade, DescriptorBuilt, DescriptorRead, answerOver};
 use bus::BusAddress;
 use bus::CheckedWindow;
 use bus::Refusal;
@@ -21,6 +26,9 @@ use machine::CheckedMode;
 use machine::LoadedMachine;
 use machine::Machine;
 use machine::Mode;
+use machine::Ran;
+use machine::Reason;
+use machine::RunAnswer;
 use machine::registers::Line;
 use machine::registers::ReadRegister;
 use machine::registers::WroteRegister;
@@ -35,6 +43,8 @@ const IMAGE: usize = 44;
 const VALUE: usize = 4;
 
 const DESCRIPTOR: usize = 18;
+
+const REPORT: usize = 14;
 
 // Writes the image of a machine that keeps the rules.
 fn put_image(m: Machine, image: &mut [u8])
@@ -131,6 +141,79 @@ pub extern "C" fn sgdma_line(image: &[u8], value: &mut [u8]) -> u32
         }
         Line::Down => {
             put_u32(Order::MostFirst, value, 0, 0);
+            0
+        }
+    }
+}
+
+// The paper's number of a reason.
+fn reason_number(reason: Reason) -> u16
+    ensures { λ r. ⌜ r ≡ reasonNumber reason ⌝ }
+{
+    match reason {
+        Reason::Rest => 0,
+        Reason::Ended => 1,
+        Reason::Halted => 2,
+        Reason::Faulted => 3,
+        Reason::NeedsInput => 4,
+        Reason::OutputFull => 5,
+        Reason::Budget => 6,
+    }
+}
+
+// The 14 bytes of a run's report.
+fn put_report(report: &mut [u8], reason: u16, steps: u32, taken: u32, made: u32)
+    requires { ⌜ length (now report) ≡ 14 ⌝ }
+    ensures { λ _. ⌜ Leaves (rowBytes MostFirst (2 ∷ 4 ∷ 4 ∷ 4 ∷ []) (reason ∷ steps ∷ taken ∷ made ∷ [])) (now (report .exit)) ⌝ }
+{
+    let counts = [steps, taken, made];
+    put_u16(Order::MostFirst, report, 0, reason);
+    put_words(Order::MostFirst, report, 2, &counts);
+}
+
+// The image and the report after a run.
+fn put_run(r: Ran, image: &mut [u8], report: &mut [u8])
+    requires { ⌜ keeps (r .machine) ≡ true ⌝ }
+    requires { ⌜ (r .taken < 4294967296) × (r .made < 4294967296) ⌝ }
+    requires { ⌜ (length (now image) ≡ 44) × (length (now report) ≡ 14) ⌝ }
+    ensures { λ _. ⌜ Leaves (ranOver (Done r) []) (now (image .exit)) ⌝ }
+    ensures { λ _. ⌜ Leaves (reportOver (Done r) []) (now (report .exit)) ⌝ }
+{
+    let reason = r.reason;
+    let machine = r.machine;
+    let taken = r.taken as u32;
+    let made = r.made as u32;
+    let number = reason_number(reason);
+    put_report(report, number, r.steps, taken, made);
+    put_image(machine, image);
+}
+
+// Runs the core over the lent window, beats and output, and writes its image and the 14 bytes of `report`.
+#[no_mangle]
+pub extern "C" fn sgdma_run(
+    image: &mut [u8],
+    window: &mut [u8],
+    beats: &[u8],
+    out: &mut [u8],
+    budget: u32,
+    report: &mut [u8],
+) -> u32
+    ensures { λ r. ⌜ RunMade (now (image .entry)) (now (window .entry)) (now (beats .entry)) (now (out .entry)) budget (now (report .entry)) r (now (image .exit)) (now (window .exit)) (now (out .exit)) (now (report .exit)) ⌝ }
+{
+    if image.len() != IMAGE {
+        return Refusal::BadSize.number();
+    }
+    if report.len() != REPORT {
+        return Refusal::BadSize.number();
+    }
+    let LoadedMachine::Good(m) = Machine::load(image) else {
+        return Refusal::BadImage.number();
+    };
+    let answer = m.run(window, beats, out, budget);
+    match answer {
+        RunAnswer::Refused(why) => why.number(),
+        RunAnswer::Done(r) => {
+            put_run(r, image, report);
             0
         }
     }
