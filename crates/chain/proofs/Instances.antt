@@ -2,7 +2,7 @@
 -- the second and a fixed destination in the third.
 -- Assumes nothing.
 use Prim.Native.Nat.{ℕ, suc, _+_, _≤_, _<_}
-use mathlib.Core.Path.{_≡_, refl, sym}
+use mathlib.Core.Path.{_≡_, refl}
 use mathlib.Core.Logic.{_≢_}
 use mathlib.Core.Bool.{Bool, true, not, _&&_}
 use mathlib.Core.List.{List, [], _∷_, _++_}
@@ -176,10 +176,16 @@ three-meets =
       lands = (refl, (refl, (refl, (refl, (refl, (refl, (refl, (refl, tt))))))));
       outside = (
         three-off 4224 (omega arith),
-        (three-off 4225 (omega arith),
-        (three-off 4226 (omega arith),
-        (three-off 4226 (omega arith),
-        (three-off 4227 (omega arith), (three-off 4240 (omega arith), (three-off 4240 (omega arith), (three-off 4240 (omega arith), tt))))))),
+        (
+          three-off 4225 (omega arith),
+          (
+            three-off 4226 (omega arith),
+            (
+              three-off 4226 (omega arith),
+              (three-off 4227 (omega arith), (three-off 4240 (omega arith), (three-off 4240 (omega arith), (three-off 4240 (omega arith), tt)))),
+            ),
+          ),
+        ),
       );
     }
 
@@ -203,7 +209,9 @@ chain-of-three =
       fours-are = (o .done .0 .four, (o .done .1 .0 .four, (o .done .1 .1 .0 .four, tt)));
       landed-are = (
         landed-nth o 0 (omega arith) refl,
-        (landed-nth o 1 (omega arith) refl,
-        (landed-nth o 3 (omega arith) refl, (landed-nth o 4 (omega arith) refl, (landed-nth o 7 (omega arith) refl, tt)))),
+        (
+          landed-nth o 1 (omega arith) refl,
+          (landed-nth o 3 (omega arith) refl, (landed-nth o 4 (omega arith) refl, (landed-nth o 7 (omega arith) refl, tt))),
+        ),
       );
     }

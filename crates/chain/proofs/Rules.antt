@@ -2,11 +2,11 @@
 -- Assumes nothing.
 use Prim.Native.Nat.{ℕ, _+_, _%_}
 use mathlib.Core.Path.{_≡_, refl, sym, ap, subst, _∙_}
-use mathlib.Core.Bool.{Bool, true, false, not, cond, _&&_, _||_, and-comm}
-use mathlib.Core.List.{List, [], _∷_}
+use mathlib.Core.Bool.{Bool, true, false, cond, _&&_, _||_}
+use mathlib.Core.List.{List, _∷_}
 use lib.Dec.{eqb}
 use lib.ListN.{set}
-use borrow.Author.Tests.{eq-eqb, ne-eqb}
+use borrow.Author.Tests.{eq-eqb}
 use Rattle.words.specs.Slices.{putAt}
 use Rattle.bus.specs.Window.{inWindow, placeOf}
 use Rattle.descriptor.specs.Layout.{owned, lastFour, descriptorAt}
@@ -17,11 +17,10 @@ use Rattle.machine.specs.declared.Mode.the-variants.{StreamToMemory}
 use Rattle.machine.specs.declared.Control.{Control}
 use Rattle.machine.specs.declared.Work.{Work}
 use Rattle.machine.specs.declared.Phase.{Phase}
-use Rattle.machine.specs.declared.Phase.the-variants.{Rest, Fetch, Move, WriteBack, Ended}
-use Rattle.machine.specs.declared.Reason.the-variants as reason
+use Rattle.machine.specs.declared.Phase.the-variants.{Rest, Fetch, Move, WriteBack}
 use Rattle.machine.specs.State.{run, stopDmaEr, park, withPointer, withPhase, withBusy}
 use Rattle.machine.specs.Beats.{beatError, beatEop, beatData}
-use Rattle.machine.specs.Step.{World, Answer, taken, stopped, became, restStep, ended, wantsLength, begun, fetched, fetchStep, whole, destinationOf, withByte, onward, receiveFrom, moveStep, writtenControl, writtenBack, completed, writeBackStep, stepIn, step}
+use Rattle.machine.specs.Step.{World, taken, became, restStep, ended, wantsLength, begun, fetched, fetchStep, whole, destinationOf, withByte, onward, receiveFrom, moveStep, writtenControl, writtenBack, completed, writeBackStep, stepIn, step}
 use Rattle.chain.specs.Chain.{Link, linkAt}
 
 -- the machine runs, in this mode, and neither parks nor stops on errors
