@@ -2,7 +2,7 @@
 -- Assumes nothing.
 use Prim.Native.Nat.{ℕ, _+_, _%_, _^_, _≤_, _<_}
 use mathlib.Core.Path.{_≡_, refl, sym, ap, subst, subst⁻¹, _∙_}
-use mathlib.Core.Bool.{Bool, true, false, cond, Bool·beq}
+use mathlib.Core.Bool.{Bool, true, false, cond, Bool·beq, and-false}
 use mathlib.Core.List.{List, [], _∷_}
 use native.Mathlib.Omega.{arith}
 use lib.ListN.{length}
@@ -27,7 +27,7 @@ use Rattle.machine.specs.Run.{run, even, Lent, serves, lentOf, worldOf, ranAs, 
 use Rattle.machine.proofs.Writes.{write-runs}
 use Rattle.chain.specs.Chain.{Given, machineFor, worldFor, shares, cost, Premises, FirstFew, Outcome}
 use Rattle.chain.specs.Calls.{givenBy, Called, Finished}
-use Rattle.chain.proofs.Theorem.{and-false, chain-theorem, chain-at-every-step}
+use Rattle.chain.proofs.Theorem.{chain-theorem, chain-at-every-step}
 
 -- a write that is done was made of a machine that keeps the rules
 wrote-pointer : (m n : Machine) (v : ℕ) → wrote.Done n ≡ writeOf m 8 v → (keeps m ≡ true) × (n ≡ withPointer v m)

@@ -1,8 +1,8 @@
 -- The step rule where the chain meets it, phase by phase, in stream-to-memory mode.
 -- Assumes nothing.
 use Prim.Native.Nat.{ℕ, _+_, _%_}
-use mathlib.Core.Path.{_≡_, refl, sym, ap, subst, _∙_}
-use mathlib.Core.Bool.{Bool, true, false, cond, _&&_, _||_}
+use mathlib.Core.Path.{_≡_, sym, ap, subst, _∙_}
+use mathlib.Core.Bool.{true, false, cond, _&&_, _||_, and-false}
 use mathlib.Core.List.{List, _∷_}
 use lib.Dec.{eqb}
 use lib.ListN.{set}
@@ -123,7 +123,3 @@ markedWorld w k =
 pub write-step : (w : World) (k : Work) → w .machine .phase ≡ WriteBack k → Set (w .machine) → step w ≡ taken (markedWorld w k)
 unfolding step writeBackStep writtenBack writtenControl completed
 write-step w k p c = ap (λ (x : Phase). stepIn x w) p ∙ simp (c .runs, c .unparked, c .unstopped, and-false)
-  where
-    and-false : (a : Bool) → (a && false) ≡ false
-    and-false true = refl
-    and-false false = refl

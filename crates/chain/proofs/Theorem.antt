@@ -3,7 +3,7 @@
 use Prim.Native.Nat.{ℕ, suc, _+_, _-_, _/_, _%_, _≤_}
 use mathlib.Core.Path.{_≡_, refl, sym, ap, ap₂, subst, subst⁻¹, _∙_}
 use mathlib.Core.Logic.{_≢_}
-use mathlib.Core.Bool.{Bool, true, false, _&&_}
+use mathlib.Core.Bool.{true, and-false}
 use mathlib.Core.List.{List, [], _∷_, _++_}
 use native.Mathlib.Omega.{arith}
 use lib.ListN.{length, getD}
@@ -28,6 +28,7 @@ use Rattle.chain.proofs.Rules.{rest-step}
 use Rattle.chain.proofs.Blocks.{OffFour}
 use Rattle.chain.proofs.Walk.{Ready, Walked, walk}
 
+-- RUN, STOP_DMA_ER and PARK are stored as written
 stored-5 : (c : ℕ) → c % 262144 / 32 % 2 ≡ c / 32 % 2
 stored-5 c = omega arith
 
@@ -37,10 +38,7 @@ stored-6 c = omega arith
 stored-17 : (c : ℕ) → c % 262144 / 131072 % 2 ≡ c / 131072 % 2
 stored-17 c = omega arith
 
-pub and-false : (b : Bool) → (b && false) ≡ false
-and-false true = refl
-and-false false = refl
-
+-- the counts of descriptors that are done are the bytes given
 counts-given : (w : Window) (m : List ℕ) (ls : List Link) (bs : List ℕ) → All (Done w m) (sharesOf ls bs) → counts w m ls ≡ given (sharesOf ls bs)
 counts-given w m [] bs a = refl
 counts-given w m (l ∷ ls) bs a = ap₂ _+_ (a .0 .count) (counts-given w m ls _ (a .1))

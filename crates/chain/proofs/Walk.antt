@@ -29,7 +29,7 @@ use Rattle.chain.proofs.Rules.{Set, fetchedWorld, fetch-step, end-step,
 use Rattle.chain.proofs.Moves.{Takes, takes-taken, takes-fit, worked, worked-at, worked-control, worked-moved, worked-errors, deliveredWorld, moves}
 use Rattle.chain.proofs.Blocks.{Same, OffBytes, OffFour, off-four, apart-sym, Kept, kept-none, kept-byte, kept-block, Inv, inv-block, done-by-four, done-stays, waits}
 
--- ---- the premises at a Fetch, and what comes of them
+-- ---- what holds at a Fetch, with the links ls and the last one e ahead
 
 pub record Ready (w : World) (ls : List Link) (e : Link) : Type 0 where
   pub fetching : w .machine .phase ≡ Fetch
@@ -44,6 +44,7 @@ pub record Ready (w : World) (ls : List Link) (e : Link) : Type 0 where
   pub lands : All (λ s. inWindow (w .machine .window) (s .to) 1 ≡ true) (sentByAll (sharesOf ls (w .input)))
   pub outside : All (λ s. All (λ l. Off l (s .to)) (ls ++ e ∷ [])) (sentByAll (sharesOf ls (w .input)))
 
+-- and what comes of it: the world at the end, the steps there, and what holds of each world on the way
 pub record Walked (w : World) (ls : List Link) (e : Link) : Type 0 where
   pub last : World
   pub along : Along (λ x. Inv (w .machine .window) (w .memory) (sharesOf ls (w .input)) (x .memory)) (cost (sharesOf ls (w .input)) + 1) w last
@@ -159,8 +160,10 @@ module _ (w : World) (l : Link) (ls : List Link) (e : Link) (r : Ready w (l ∷ 
   mark-step : step w1 ≡ taken w2
   mark-step = write-step w1 k refl (r .set)
 
-  mark-is : w2 .memory
-      ≡ putAt (w1 .memory) (placeOf (windowOf w) (l .at) + 28) (lastFour (length t) (gathered 0 t) (l .says .control .0 % 128))
+  abbrev four : List ℕ
+  four = lastFour (length t) (gathered 0 t) (l .says .control .0 % 128)
+
+  mark-is : w2 .memory ≡ putAt (w1 .memory) (placeOf (windowOf w) (l .at) + 28) four
   mark-is =
       let n : k .moved ≡ length t = worked-moved begins t ∙ omega arith in
       rw (worked-at begins t, n, worked-errors begins t, worked-control begins t)
@@ -176,9 +179,6 @@ module _ (w : World) (l : Link) (ls : List Link) (e : Link) (r : Ready w (l ∷ 
 
   fits : placeOf (windowOf w) (l .at) + 32 ≤ length (w .memory)
   fits = omega (arith, stands .fits, r .lent)
-
-  abbrev four : List ℕ
-  four = lastFour (length t) (gathered 0 t) (l .says .control .0 % 128)
 
   done-l : Done (windowOf w) (w2 .memory) share
   done-l =
