@@ -1,22 +1,22 @@
 -- What stays of the descriptors in memory while bytes are sent and descriptors are marked.
 -- Assumes nothing.
-use Prim.Native.Nat.{ℕ, zero, suc, _+_, _%_, _≤_, _<_}
-use mathlib.Core.Path.{_≡_, refl, sym, ap, subst, subst⁻¹, _∙_}
+use Prim.Native.Nat.{ℕ, _+_, _%_, _≤_, _<_}
+use mathlib.Core.Path.{_≡_, refl, sym, ap, _∙_}
 use mathlib.Core.Logic.{_≢_}
-use mathlib.Core.Bool.{Bool, true, false}
-use mathlib.Core.List.{List, [], _∷_, _++_}
+use mathlib.Core.Bool.{true}
+use mathlib.Core.List.{List}
 use native.Mathlib.Omega.{arith}
-use lib.ListN.{length, getD, set, take, drop, length-set}
+use lib.ListN.{length, getD, set, length-set}
 use lib.Seq.{getD-set-other}
 use Rattle.words.specs.Slices.{part}
 use Rattle.words.proofs.Slices.{part-part}
 use Rattle.bus.specs.declared.Window.{Window}
-use Rattle.bus.specs.Window.{inWindow, placeOf}
+use Rattle.bus.specs.Window.{placeOf}
 use Rattle.descriptor.specs.declared.Descriptor.{Descriptor}
 use Rattle.descriptor.specs.Layout.{owned, descriptorAt, lastFour}
 use Rattle.chain.specs.Chain.{All, Link, linkAt, Off, Apart, Share, Sent, sentByAll, gathered, Done, Waiting, FirstFew}
-use Rattle.chain.proofs.Lists.{all-map, all-map2}
-use Rattle.chain.proofs.Memory.{Placed, placed, part-ext, says-same, actual-says, control-says, cleared}
+use Rattle.chain.proofs.Lists.{all-map}
+use Rattle.chain.proofs.Memory.{Placed, part-ext, says-same, actual-says, control-says, cleared}
 
 -- the 32 bytes of a descriptor are in m as in o
 abbrev pub Same : Window → List ℕ → List ℕ → Link → Type 0

@@ -1,8 +1,10 @@
 pub mod Lists
 pub mod Memory
+pub mod Links
 pub mod Rules
 pub mod Moves
 pub mod Blocks
 pub mod Walk
 pub mod Theorem
+pub mod OfRun
 pub mod Instances

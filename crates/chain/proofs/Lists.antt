@@ -3,7 +3,7 @@
 use Prim.Native.Nat.{ℕ, zero, suc}
 use mathlib.Core.List.{List, [], _∷_, _++_}
 use lib.ListN.{drop}
-use Rattle.chain.specs.Chain.{All, Pairwise, Link, Share, sharesOf, takes, wants}
+use Rattle.chain.specs.Chain.{All, Link, Share, sharesOf}
 
 module _ {A : Type 0} where
   pub all-map : {P Q : A → Type 0} → ((x : A) → P x → Q x) → (xs : List A) → All P xs → All Q xs
@@ -37,11 +37,7 @@ pub all-swap : {A B : Type 0} (R : A → B → Type 0) (xs : List A) (ys : List 
 all-swap R xs [] a = tt
 all-swap R xs (y ∷ ys) a = (all-map (λ x b. b .0) xs a, all-swap R xs ys (all-map (λ x b. b .1) xs a))
 
--- of the links, and of their shares
+-- of the links, so of their shares
 pub all-shares : (P : Link → Type 0) (ls : List Link) (bs : List ℕ) → All P ls → All (λ (s : Share). P (s .link)) (sharesOf ls bs)
 all-shares P [] bs a = tt
 all-shares P (l ∷ ls) bs a = (a .0, all-shares P ls _ (a .1))
-
-pub all-links : (P : Link → Type 0) (ls : List Link) (bs : List ℕ) → All (λ (s : Share). P (s .link)) (sharesOf ls bs) → All P ls
-all-links P [] bs a = tt
-all-links P (l ∷ ls) bs a = (a .0, all-links P ls _ (a .1))

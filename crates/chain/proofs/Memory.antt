@@ -1,6 +1,6 @@
 -- Parts of memory, what a descriptor there says, and bytes sent one after the other.
 -- Assumes nothing.
-use Prim.Native.Nat.{ℕ, zero, suc, _+_, _-_, _/_, _%_, _≤_, _<_, min}
+use Prim.Native.Nat.{ℕ, _+_, _-_, _/_, _%_, _≤_, _<_, min}
 use mathlib.Core.Path.{_≡_, refl, sym, ap, subst, _∙_}
 use mathlib.Core.Logic.{_≢_}
 use mathlib.Core.Bool.{Bool, true, false, cond}
@@ -8,8 +8,8 @@ use mathlib.Core.List.{List, [], _∷_, _++_}
 use native.Mathlib.Nat.{mod-eq-of-lt}
 use native.Mathlib.Omega.{arith}
 use lib.Dec.{leb, eqb}
-use lib.ListN.{length, getD, set, take, drop, length-take, length-drop, length-set}
-use lib.Seq.{ext-getD, getD-take, getD-drop, getD-set-same, getD-set-other, length-take-le}
+use lib.ListN.{length, getD, set, drop, length-take, length-drop, length-set}
+use lib.Seq.{ext-getD, getD-take, getD-drop, getD-set-same, getD-set-other}
 use borrow.Author.Tests.{leb-true, eq-eqb, ne-eqb, eqb-true, eqb-false}
 use Rattle.words.specs.declared.Order.the-variants.{LeastFirst}
 use Rattle.words.specs.Orders.{numberOf}
@@ -19,7 +19,7 @@ use Rattle.words.proofs.Slices.{part-part}
 use Rattle.bus.specs.declared.Window.{Window}
 use Rattle.bus.specs.Window.{inWindow, placeOf}
 use Rattle.descriptor.specs.declared.Descriptor.{Descriptor}
-use Rattle.descriptor.specs.Layout.{owned, descriptorOf, descriptorAt, lastFour}
+use Rattle.descriptor.specs.Layout.{owned, descriptorAt, lastFour}
 use Rattle.descriptor.proofs.Reading.{by-offset, there}
 use Rattle.image.proofs.Tests.{and-left, and-right}
 use Rattle.chain.specs.Chain.{All, Sent}
@@ -92,10 +92,6 @@ lastAt q [] x = x
 lastAt q (s ∷ ss) x = lastAt q ss (cond (eqb q (s .to)) (s .byte) x)
 
 module _ (w : Window) where
-  pub length-writes : (ss : List Sent) (m : List ℕ) → length (writes w ss m) ≡ length m
-  length-writes [] m = refl
-  length-writes (s ∷ ss) m = length-writes ss _ ∙ length-set m (placeOf w (s .to)) (s .byte)
-
   one-byte : (p : ℕ) (s : Sent) (m : List ℕ) → Placed w (s .to) 1 → length m ≡ w .length
       → getD (set m (placeOf w (s .to)) (s .byte)) p 0 ≡ cond (eqb (w .base + p) (s .to)) (s .byte) (getD m p 0)
   one-byte p s m h l = by (eqb (w .base + p) (s .to)) refl

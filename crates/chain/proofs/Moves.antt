@@ -1,23 +1,21 @@
 -- The bytes of one descriptor: from its first Move to its WriteBack.
 -- Assumes nothing.
 use Prim.Native.Nat.{ℕ, zero, suc, _+_, _≤_, _<_}
-use mathlib.Core.Path.{_≡_, refl, sym, ap, subst, _∙_}
+use mathlib.Core.Path.{_≡_, refl, _∙_}
 use mathlib.Core.Logic.{_≢_}
 use mathlib.Core.Bool.{Bool, true, false, cond, _||_, false≢true}
 use mathlib.Core.List.{List, [], _∷_}
 use native.Mathlib.Omega.{arith}
-use lib.Dec.{eqb}
 use lib.ListN.{length, set, drop}
 use borrow.Author.Tests.{eq-eqb, ne-eqb}
 use Rattle.bus.specs.Window.{inWindow, placeOf}
 use Rattle.descriptor.specs.Layout.{writeFixed}
 use Rattle.machine.specs.declared.Machine.{Machine}
 use Rattle.machine.specs.declared.Work.{Work}
-use Rattle.machine.specs.declared.Phase.{Phase}
 use Rattle.machine.specs.declared.Phase.the-variants.{Move, WriteBack}
 use Rattle.machine.specs.State.{withPhase}
 use Rattle.machine.specs.Beats.{beatEop}
-use Rattle.machine.specs.Step.{World, step, taken, whole, destinationOf}
+use Rattle.machine.specs.Step.{World, taken, whole, destinationOf}
 use Rattle.machine.proofs.RunLaws.{Along, here, more}
 use Rattle.chain.specs.Chain.{All, takes, enough, Sent, sentFrom, gathered}
 use Rattle.chain.proofs.Memory.{writes}

@@ -1,12 +1,12 @@
 -- The step rule where the chain meets it, phase by phase, in stream-to-memory mode.
 -- Assumes nothing.
 use Prim.Native.Nat.{ℕ, _+_, _%_}
-use mathlib.Core.Path.{_≡_, refl, sym, ap, subst, _∙_}
-use mathlib.Core.Bool.{Bool, true, false, not, cond, _&&_, _||_, and-comm}
-use mathlib.Core.List.{List, [], _∷_}
+use mathlib.Core.Path.{_≡_, sym, ap, subst, _∙_}
+use mathlib.Core.Bool.{true, false, cond, _&&_, _||_, and-false}
+use mathlib.Core.List.{List, _∷_}
 use lib.Dec.{eqb}
 use lib.ListN.{set}
-use borrow.Author.Tests.{eq-eqb, ne-eqb}
+use borrow.Author.Tests.{eq-eqb}
 use Rattle.words.specs.Slices.{putAt}
 use Rattle.bus.specs.Window.{inWindow, placeOf}
 use Rattle.descriptor.specs.Layout.{owned, lastFour, descriptorAt}
@@ -17,11 +17,10 @@ use Rattle.machine.specs.declared.Mode.the-variants.{StreamToMemory}
 use Rattle.machine.specs.declared.Control.{Control}
 use Rattle.machine.specs.declared.Work.{Work}
 use Rattle.machine.specs.declared.Phase.{Phase}
-use Rattle.machine.specs.declared.Phase.the-variants.{Rest, Fetch, Move, WriteBack, Ended}
-use Rattle.machine.specs.declared.Reason.the-variants as reason
+use Rattle.machine.specs.declared.Phase.the-variants.{Rest, Fetch, Move, WriteBack}
 use Rattle.machine.specs.State.{run, stopDmaEr, park, withPointer, withPhase, withBusy}
 use Rattle.machine.specs.Beats.{beatError, beatEop, beatData}
-use Rattle.machine.specs.Step.{World, Answer, taken, stopped, became, restStep, ended, wantsLength, begun, fetched, fetchStep, whole, destinationOf, withByte, onward, receiveFrom, moveStep, writtenControl, writtenBack, completed, writeBackStep, stepIn, step}
+use Rattle.machine.specs.Step.{World, taken, became, restStep, ended, wantsLength, begun, fetched, fetchStep, whole, destinationOf, withByte, onward, receiveFrom, moveStep, writtenControl, writtenBack, completed, writeBackStep, stepIn, step}
 use Rattle.chain.specs.Chain.{Link, linkAt}
 
 -- the machine runs, in this mode, and neither parks nor stops on errors
@@ -124,7 +123,3 @@ markedWorld w k =
 pub write-step : (w : World) (k : Work) → w .machine .phase ≡ WriteBack k → Set (w .machine) → step w ≡ taken (markedWorld w k)
 unfolding step writeBackStep writtenBack writtenControl completed
 write-step w k p c = ap (λ (x : Phase). stepIn x w) p ∙ simp (c .runs, c .unparked, c .unstopped, and-false)
-  where
-    and-false : (a : Bool) → (a && false) ≡ false
-    and-false true = refl
-    and-false false = refl

@@ -1,71 +1,34 @@
 -- Demand 3: the chain theorem.
 -- Assumes nothing.
-use Prim.Native.Nat.{ℕ, zero, suc, _+_, _-_, _/_, _%_, _^_, _≤_, _<_}
+use Prim.Native.Nat.{ℕ, suc, _+_, _-_, _/_, _%_, _≤_}
 use mathlib.Core.Path.{_≡_, refl, sym, ap, ap₂, subst, subst⁻¹, _∙_}
 use mathlib.Core.Logic.{_≢_}
-use mathlib.Core.Bool.{Bool, true, false, _&&_}
+use mathlib.Core.Bool.{true, and-false}
 use mathlib.Core.List.{List, [], _∷_, _++_}
 use native.Mathlib.Omega.{arith}
-use lib.ListN.{length, getD, take, drop, length-take}
-use Rattle.words.specs.declared.Order.the-variants.{LeastFirst}
+use lib.ListN.{length, getD}
 use Rattle.words.specs.Bits.{bit}
-use Rattle.words.specs.Orders.{numberOf}
-use Rattle.words.specs.Slices.{part}
-use Rattle.words.proofs.Bytes.{AllBytes, take-bytes, drop-bytes}
 use Rattle.bus.specs.declared.Window.{Window}
 use Rattle.bus.specs.Window.{inWindow, placeOf}
-use Rattle.descriptor.specs.declared.Descriptor.{Descriptor}
-use Rattle.descriptor.specs.Layout.{owned, descriptorAt}
-use Rattle.descriptor.proofs.Reading.{by-offset, there}
 use Rattle.machine.specs.declared.Machine.{Machine}
 use Rattle.machine.specs.declared.Mode.the-variants.{StreamToMemory}
 use Rattle.machine.specs.declared.Phase.the-variants.{Fetch}
 use Rattle.machine.specs.declared.Reason.the-variants.{Ended, Budget}
 use Rattle.machine.specs.State.{withPointer, withPhase, withBusy, fresh}
-use Rattle.machine.specs.Registers.{stored, controlWritten}
+use Rattle.machine.specs.Registers.{stored}
 use Rattle.machine.specs.Step.{World, became}
 use Rattle.machine.specs.Run.{Report, run, takenSince, ranAs}
 use Rattle.machine.proofs.Writes.{write-runs}
 use Rattle.machine.proofs.RunLaws.{Along, more, along-first, along-map, run-to-end, run-short, run-on-way}
-use Rattle.chain.specs.Chain.{All, Given, machineFor, worldFor, Link, linkAt, linksFrom, linkAfter, links, last, everyLink, Share, sharesOf, shares, given, cost, takes, wants, Sent, sentByAll, sent, Off, Premises, Done, FirstFew, AtEveryStep, counts, Outcome}
+use Rattle.chain.specs.Chain.{All, Given, worldFor, Link, links, last, everyLink, sharesOf, shares, given, cost, Sent, sent, Off, Premises, Done, FirstFew, AtEveryStep, counts, Outcome}
 use Rattle.chain.proofs.Lists.{all-map, all-left, all-right, all-shares}
 use Rattle.chain.proofs.Memory.{Placed, placed, lastAt, lastAt-none, lastAt-last}
+use Rattle.chain.proofs.Links.{chain-is, all-bytes, links-short}
 use Rattle.chain.proofs.Rules.{rest-step}
 use Rattle.chain.proofs.Blocks.{OffFour}
-use Rattle.chain.proofs.Walk.{Chain, Ready, Walked, walk}
+use Rattle.chain.proofs.Walk.{Ready, Walked, walk}
 
--- ---- the chain as it is walked
-
-chain-is : (w : Window) (m : List ℕ) (a k : ℕ) → All (λ l. owned (l .says .control .0) ≡ true) (linksFrom w m a k)
-    → owned (linkAfter w m a k .says .control .0) ≡ false → Chain w m a (linksFrom w m a k) (linkAfter w m a k)
-chain-is w m a zero o u = (refl, u)
-chain-is w m a (suc k) o u = (refl, o .0, chain-is w m _ k (o .1) u)
-
-all-bytes : (xs : List ℕ) → All (λ x. x < 256) xs → AllBytes xs
-all-bytes [] a = tt
-all-bytes (x ∷ xs) a = (a .0, all-bytes xs (a .1))
-
--- a length is a number of 16 bits
-two-bytes : (xs : List ℕ) → length xs ≤ 2 → AllBytes xs → numberOf LeastFirst xs < 65536
-two-bytes [] l a = omega arith
-two-bytes (x ∷ []) l a = let b : x < 256 = a .0 in omega arith
-two-bytes (x ∷ y ∷ []) l a = let b : x < 256 = a .0 in let c : y < 256 = a .1 .0 in omega arith
-two-bytes (x ∷ y ∷ z ∷ xs) l a = absurd (omega arith)
-
-length-short : (m : List ℕ) (p : ℕ) → AllBytes m → p + 32 ≤ length m → descriptorAt m p .length < 65536
-length-short m p a f =
-    subst⁻¹ (λ (d : Descriptor). d .length < 65536) (there m p f ∙ by-offset (part m p 32))
-    (two-bytes (part (part m p 32) 24 2) (omega (arith, length-take 2 (drop 24 (part m p 32))))
-    (take-bytes 2 (drop 24 (part m p 32)) (drop-bytes 24 (part m p 32) (take-bytes 32 (drop p m) (drop-bytes p m a)))))
-
-links-short : (w : Window) (m : List ℕ) (a k : ℕ) → AllBytes m → length m ≡ w .length
-    → All (λ l. inWindow w (l .at) 32 ≡ true) (linksFrom w m a k) → All (λ l. l .says .length < 65536) (linksFrom w m a k)
-links-short w m a zero b e i = tt
-links-short w m a (suc k) b e i = (
-  length-short m (placeOf w a) b (let p : Placed w a 32 = placed w a 32 (i .0) in omega (arith, p .fits)),
-  links-short w m _ k b e (i .1),
-)
-
+-- RUN, STOP_DMA_ER and PARK are stored as written
 stored-5 : (c : ℕ) → c % 262144 / 32 % 2 ≡ c / 32 % 2
 stored-5 c = omega arith
 
@@ -75,10 +38,7 @@ stored-6 c = omega arith
 stored-17 : (c : ℕ) → c % 262144 / 131072 % 2 ≡ c / 131072 % 2
 stored-17 c = omega arith
 
-and-false : (b : Bool) → (b && false) ≡ false
-and-false true = refl
-and-false false = refl
-
+-- the counts of descriptors that are done are the bytes given
 counts-given : (w : Window) (m : List ℕ) (ls : List Link) (bs : List ℕ) → All (Done w m) (sharesOf ls bs) → counts w m ls ≡ given (sharesOf ls bs)
 counts-given w m [] bs a = refl
 counts-given w m (l ∷ ls) bs a = ap₂ _+_ (a .0 .count) (counts-given w m ls _ (a .1))

@@ -1,68 +1,35 @@
 -- A chain, from its first Fetch to Ended.
 -- Assumes nothing.
-use Prim.Native.Nat.{ℕ, zero, suc, _+_, _-_, _%_, _≤_, _<_}
-use mathlib.Core.Path.{_≡_, refl, sym, ap, subst, subst⁻¹, _∙_}
+use Prim.Native.Nat.{ℕ, suc, _+_, _-_, _%_, _≤_, _<_}
+use mathlib.Core.Path.{_≡_, refl, sym, ap, subst, _∙_}
 use mathlib.Core.Logic.{_≢_}
-use mathlib.Core.Bool.{Bool, true, false, cond}
+use mathlib.Core.Bool.{true}
 use mathlib.Core.List.{List, [], _∷_, _++_}
 use native.Mathlib.Omega.{arith}
-use lib.Dec.{eqb}
-use lib.ListN.{length, getD, take, drop, length-drop}
-use borrow.Author.Tests.{eqb-false}
-use Rattle.words.specs.Slices.{part, put, putAt}
+use lib.ListN.{length, getD, drop, length-drop}
+use Rattle.words.specs.Slices.{part, putAt}
 use Rattle.words.proofs.Slices.{put-in, part-put}
 use Rattle.bus.specs.declared.Window.{Window}
 use Rattle.bus.specs.Window.{inWindow, placeOf}
-use Rattle.descriptor.specs.declared.Descriptor.{Descriptor}
-use Rattle.descriptor.specs.Layout.{owned, descriptorAt, lastFour}
+use Rattle.descriptor.specs.Layout.{owned, lastFour}
 use Rattle.image.specs.Rules.{asked}
 use Rattle.machine.specs.declared.Mode.{Mode}
 use Rattle.machine.specs.declared.Work.{Work}
-use Rattle.machine.specs.declared.Phase.the-variants.{Fetch, Move}
+use Rattle.machine.specs.declared.Phase.the-variants.{Fetch}
 use Rattle.machine.specs.declared.Reason.the-variants.{Ended}
 use Rattle.machine.specs.State.{modeNumber}
-use Rattle.machine.specs.Step.{World, taken, stopped, became, ended, begun, whole, stepIn, step}
+use Rattle.machine.specs.Step.{World, taken, stopped, became, ended, begun, whole, step}
 use Rattle.machine.proofs.Puts.{length-put-at, put-off}
 use Rattle.machine.proofs.RunLaws.{Along, here, more, join, along-map, along-last}
-use Rattle.chain.specs.Chain.{All, Pairwise, Link, linkAt, Off, Apart, wants, takes, Enough, Share, sharesOf, given, cost, gathered, Sent, sentBy, sentByAll, Done, Waiting, FirstFew}
+use Rattle.chain.specs.Chain.{All, Pairwise, Link, linkAt, Off, Apart, wants, takes, Enough, Share, sharesOf, given, cost, gathered, Sent, sentBy, sentByAll, Done}
 use Rattle.chain.proofs.Lists.{all-map, all-map2, all-left, all-right, all-drop, all-each, all-swap, all-shares}
-use Rattle.chain.proofs.Memory.{Placed, placed, part-ext, says-same, writes, length-writes, lastAt, last-writer, lastAt-append}
+use Rattle.chain.proofs.Memory.{Placed, placed, part-ext, says-same, lastAt, last-writer, lastAt-append}
+use Rattle.chain.proofs.Links.{Chain, chain-same, chain-owned, wants-is, wants-some, wants-short}
 use Rattle.chain.proofs.Rules.{Set, fetchedWorld, fetch-step, end-step, markedWorld, write-step}
 use Rattle.chain.proofs.Moves.{Takes, takes-taken, takes-fit, worked, worked-at, worked-control, worked-moved, worked-errors, deliveredWorld, moves}
 use Rattle.chain.proofs.Blocks.{Same, OffBytes, OffFour, off-four, apart-sym, Kept, kept-none, kept-byte, kept-block, Inv, inv-block, done-by-four, done-stays, waits}
 
--- in the memory m the chain from the address a on is the owned ls, and then the unowned e
-abbrev pub Chain : Window → List ℕ → ℕ → List Link → Link → Type 0
-Chain w m a [] e = (e ≡ linkAt w m a) × (owned (e .says .control .0) ≡ false)
-Chain w m a (l ∷ ls) e = (l ≡ linkAt w m a) × (owned (l .says .control .0) ≡ true) × Chain w m (l .says .next) ls e
-
--- the chain is the same where all descriptors say the same
-chain-same : (w : Window) (m o : List ℕ) (a : ℕ) (ls : List Link) (e : Link)
-    → All (λ (l : Link). descriptorAt o (placeOf w (l .at)) ≡ descriptorAt m (placeOf w (l .at))) (ls ++ e ∷ [])
-    → Chain w m a ls e → Chain w o a ls e
-chain-same w m o a [] e h c = (
-  c .0 ∙ ap (λ (d : Descriptor). record { at = a; says = d })
-      (sym (subst (λ (l : Link). descriptorAt o (placeOf w (l .at)) ≡ descriptorAt m (placeOf w (l .at))) (c .0) (h .0))),
-  c .1,
-)
-chain-same w m o a (l ∷ ls) e h c = (
-  c .0 ∙ ap (λ (d : Descriptor). record { at = a; says = d })
-      (sym (subst (λ (l : Link). descriptorAt o (placeOf w (l .at)) ≡ descriptorAt m (placeOf w (l .at))) (c .0) (h .0))),
-  c .1,
-  chain-same w m o _ ls e (h .1) (c .2),
-)
-
--- each is owned in memory
-chain-owned : (w : Window) (m : List ℕ) (a : ℕ) (ls : List Link) (e : Link) → Chain w m a ls e
-    → All (λ (l : Link). owned (linkAt w m (l .at) .says .control .0) ≡ true) ls
-chain-owned w m a [] e c = tt
-chain-owned w m a (l ∷ ls) e c = (
-  subst⁻¹ (λ (x : Link). owned (linkAt w m (x .at) .says .control .0) ≡ true) (c .0)
-      (subst (λ (x : Link). owned (x .says .control .0) ≡ true) (c .0) (c .1)),
-  chain-owned w m _ ls e (c .2),
-)
-
--- ---- the premises at a Fetch, and what comes of them
+-- ---- what holds at a Fetch, with the links ls and the last one e ahead
 
 pub record Ready (w : World) (ls : List Link) (e : Link) : Type 0 where
   pub fetching : w .machine .phase ≡ Fetch
@@ -77,6 +44,7 @@ pub record Ready (w : World) (ls : List Link) (e : Link) : Type 0 where
   pub lands : All (λ s. inWindow (w .machine .window) (s .to) 1 ≡ true) (sentByAll (sharesOf ls (w .input)))
   pub outside : All (λ s. All (λ l. Off l (s .to)) (ls ++ e ∷ [])) (sentByAll (sharesOf ls (w .input)))
 
+-- and what comes of it: the world at the end, the steps there, and what holds of each world on the way
 pub record Walked (w : World) (ls : List Link) (e : Link) : Type 0 where
   pub last : World
   pub along : Along (λ x. Inv (w .machine .window) (w .memory) (sharesOf ls (w .input)) (x .memory)) (cost (sharesOf ls (w .input)) + 1) w last
@@ -105,20 +73,6 @@ walk-none w e r =
       size = refl;
       bytes = λ p o. refl;
     }
-
-wants-some : (d : Descriptor) → 0 < wants d
-wants-some d = by (eqb (d .length) 0) refl
-  where
-    by : (x : Bool) → eqb (d .length) 0 ≡ x → 0 < cond x 65535 (d .length)
-    by true h = omega arith
-    by false h = let n : d .length ≢ 0 = eqb-false (d .length) 0 h in omega arith
-
-wants-short : (d : Descriptor) → d .length < 65536 → wants d < 65536
-wants-short d k = by (eqb (d .length) 0)
-  where
-    by : (x : Bool) → cond x 65535 (d .length) < 65536
-    by true = omega arith
-    by false = k
 
 -- ---- one descriptor
 
@@ -168,7 +122,8 @@ module _ (w : World) (l : Link) (ls : List Link) (e : Link) (r : Ready w (l ∷ 
 
   sending : Along (λ x. Kept (windowOf w) (w .memory) (sentBy share) (x .memory)) (suc (length t)) w w1
   sending =
-      let want : whole (fetchedWorld w l .machine) begins ≡ wants (l .says) = ap (λ (x : Mode). asked (modeNumber x) (l .says .length)) (r .set .mode-is) in
+      let want : whole (fetchedWorld w l .machine) begins ≡ wants (l .says) =
+      ap (λ (x : Mode). asked (modeNumber x) (l .says .length)) (r .set .mode-is) ∙ sym (wants-is (l .says)) in
       more (kept-none _ _ _) (fetch-step w l (r .fetching) (r .set) (r .chain .0) (r .aligned .0) (r .inside .0) (r .chain .1))
       (moves (Kept (windowOf w) (w .memory) (sentBy share))
       (λ s. (inWindow (windowOf w) (s .to) 1 ≡ true) × ((p : ℕ) → OffBytes (windowOf w) (sentBy share) p → s .to ≢ windowOf w .base + p))
@@ -205,8 +160,10 @@ module _ (w : World) (l : Link) (ls : List Link) (e : Link) (r : Ready w (l ∷ 
   mark-step : step w1 ≡ taken w2
   mark-step = write-step w1 k refl (r .set)
 
-  mark-is : w2 .memory
-      ≡ putAt (w1 .memory) (placeOf (windowOf w) (l .at) + 28) (lastFour (length t) (gathered 0 t) (l .says .control .0 % 128))
+  abbrev four : List ℕ
+  four = lastFour (length t) (gathered 0 t) (l .says .control .0 % 128)
+
+  mark-is : w2 .memory ≡ putAt (w1 .memory) (placeOf (windowOf w) (l .at) + 28) four
   mark-is =
       let n : k .moved ≡ length t = worked-moved begins t ∙ omega arith in
       rw (worked-at begins t, n, worked-errors begins t, worked-control begins t)
@@ -222,9 +179,6 @@ module _ (w : World) (l : Link) (ls : List Link) (e : Link) (r : Ready w (l ∷ 
 
   fits : placeOf (windowOf w) (l .at) + 32 ≤ length (w .memory)
   fits = omega (arith, stands .fits, r .lent)
-
-  abbrev four : List ℕ
-  four = lastFour (length t) (gathered 0 t) (l .says .control .0 % 128)
 
   done-l : Done (windowOf w) (w2 .memory) share
   done-l =
@@ -298,12 +252,15 @@ module _ (w : World) (l : Link) (ls : List Link) (e : Link) (r : Ready w (l ∷ 
   bytes-l p o =
       mark-off p o ∙ last-writer (windowOf w) p (sentBy share) (w .memory) (r .lent) (all-map (λ s h. placed _ _ _ h) (sentBy share) bytes-land)
 
+  cost-more : suc (length t) + suc (cost others + 1) ≡ cost (share ∷ others) + 1
+  cost-more = omega arith
+
   walk-more : Walked w2 ls e → Walked w (l ∷ ls) e
   walk-more z =
       record {
         last = z .last;
         along = subst (λ (n : ℕ). Along (λ x. Inv (windowOf w) (w .memory) (share ∷ others) (x .memory)) n w (z .last))
-            (let x : suc (length t) + suc (cost others + 1) ≡ length t + 2 + cost others + 1 = omega arith in x)
+            cost-more
             (join (along-map (λ x h. none-done (x .memory) h) sending)
             (more (none-done (w1 .memory) kept) mark-step (along-map (λ x h. whole-inv (x .memory) h) (z .along))));
         stops = z .stops;

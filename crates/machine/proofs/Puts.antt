@@ -1,15 +1,14 @@
 -- Bytes put at a place of memory, byte by byte.
 -- Assumes nothing.
-use Prim.Native.Nat.{ℕ, zero, suc, _+_, _≤_, _<_}
+use Prim.Native.Nat.{ℕ, suc, _+_, _<_}
 use mathlib.Core.Path.{_≡_, refl, sym, ap, _∙_}
 use mathlib.Core.Logic.{_≢_}
 use mathlib.Core.Bool.{Bool, true, false}
 use mathlib.Core.List.{List, [], _∷_}
-use native.Mathlib.Nat.{add-zero, add-suc, suc-add}
 use native.Mathlib.Omega.{arith}
 use lib.Dec.{leb}
-use lib.ListN.{length, getD, set, length-set}
-use lib.Seq.{sets, length-sets, getD-set-same, getD-set-other}
+use lib.ListN.{length, getD, set}
+use lib.Seq.{sets, length-sets, getD-set-other}
 use borrow.Author.Tests.{leb-true, leb-false}
 use Rattle.words.specs.Slices.{putAt}
 use Rattle.words.proofs.Slices.{put-out, sets-put-at}
@@ -28,15 +27,6 @@ sets-off xs at (y ∷ ys) q o =
     sets-off (set xs at y) (suc at) ys q (λ j h e. o (suc j) (omega arith) (omega arith))
     ∙ getD-set-other xs at q y 0 (λ e. o 0 (omega arith) (omega arith))
 
-sets-in : (xs : List ℕ) (at : ℕ) (ys : List ℕ) (j : ℕ) → j < length ys → at + length ys ≤ length xs → getD (sets xs at ys) (at + j) 0 ≡ getD ys j 0
-sets-in xs at [] j h l = absurd (omega arith)
-sets-in xs at (y ∷ ys) zero h l =
-    sets-off (set xs at y) (suc at) ys (at + 0) (λ j k. omega arith)
-    ∙ ap (λ (x : ℕ). getD (set xs at y) x 0) (add-zero at) ∙ getD-set-same xs at y 0 (omega arith)
-sets-in xs at (y ∷ ys) (suc j) h l =
-    ap (λ (x : ℕ). getD (sets (set xs at y) (suc at) ys) x 0) (add-suc at j ∙ sym (suc-add at j))
-    ∙ sets-in (set xs at y) (suc at) ys j (omega arith) (omega (arith, length-set xs at y))
-
 -- and every byte but those put
 pub put-off : (xs : List ℕ) (at : ℕ) (ys : List ℕ) (q : ℕ) → ((j : ℕ) → j < length ys → q ≢ at + j) → getD (putAt xs at ys) q 0 ≡ getD xs q 0
 put-off xs at ys q o = by (leb (at + length ys) (length xs)) refl
@@ -44,7 +34,3 @@ put-off xs at ys q o = by (leb (at + length ys) (length xs)) refl
     by : (b : Bool) → leb (at + length ys) (length xs) ≡ b → getD (putAt xs at ys) q 0 ≡ getD xs q 0
     by true e = ap (λ (l : List ℕ). getD l q 0) (sym (sets-put-at xs at ys (leb-true _ _ e))) ∙ sets-off xs at ys q o
     by false e = ap (λ (l : List ℕ). getD l q 0) (put-out xs at ys (leb-false _ _ e))
-
--- which stand there
-pub put-there : (xs : List ℕ) (at : ℕ) (ys : List ℕ) (j : ℕ) → j < length ys → at + length ys ≤ length xs → getD (putAt xs at ys) (at + j) 0 ≡ getD ys j 0
-put-there xs at ys j h l = ap (λ (l : List ℕ). getD l (at + j) 0) (sym (sets-put-at xs at ys l)) ∙ sets-in xs at ys j h l

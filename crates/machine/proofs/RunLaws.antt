@@ -5,11 +5,12 @@ use mathlib.Core.Path.{_≡_, refl, sym, ap, subst, subst⁻¹, _∙_}
 use mathlib.Core.Logic.{_≢_}
 use native.Mathlib.Nat.{suc-add, zero-add, le-of-suc-le-suc, not-suc-le-zero}
 use native.Mathlib.Omega.{arith}
+use lib.ListN.{drop}
 use Rattle.machine.specs.declared.Reason.{Reason}
 use Rattle.machine.specs.declared.Reason.the-variants.{Budget}
 use Rattle.machine.specs.Step.{World, Answer, taken, stopped, step}
-use Rattle.machine.specs.Run.{Report, oneMore, runOn, run}
-use Rattle.machine.proofs.StepLaws.{Passed, passed-none, passed-on, step-passed, never-budget}
+use Rattle.machine.specs.Run.{Report, oneMore, run, takenSince}
+use Rattle.machine.proofs.StepLaws.{Passed, passed-none, passed-on, took-since, step-passed, never-budget}
 
 -- ---- a run by its first step
 
@@ -110,6 +111,12 @@ run-tells (suc b) w = by (step w) refl (λ v. run-tells b v)
           found = later (t .found);
           passed = subst (λ (n : ℕ). Passed n w (run b v .world)) (let i : 1 + run b v .steps ≡ suc (run b v .steps) = omega arith in i) (passed-on (step-passed w v e) (t .passed));
         })
+
+-- the beats that it tells are taken from the front of the input
+pub run-input : (b : ℕ) (w : World) → run b w .world .input ≡ drop (takenSince w (run b w .world)) (w .input)
+run-input b w =
+    let p = run-tells b w .passed in
+    p .input ∙ ap (λ (n : ℕ). drop n (w .input)) (sym (took-since p))
 
 -- a run that stopped for another reason stops there again, at once
 pub run-again : (b : ℕ) (w : World) → run b w .reason ≢ Budget → (n : ℕ)

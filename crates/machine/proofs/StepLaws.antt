@@ -8,8 +8,8 @@ use mathlib.Core.List.{List, [], _∷_, _++_, append-assoc, append-nil}
 use native.Mathlib.Numerals.{add-one}
 use native.Mathlib.Omega.{arith}
 use lib.Dec.{eqb}
-use lib.ListN.{length, getD, take, drop, set, length-append, length-set, length-drop}
-use lib.Seq.{drop-drop, getD-set-other, length-sets, sets}
+use lib.ListN.{length, getD, drop, length-append, length-set, length-drop}
+use lib.Seq.{drop-drop, getD-set-other}
 use Rattle.bus.specs.Window.{inWindow, placeOf}
 use Rattle.descriptor.specs.Layout.{owned, descriptorAt}
 use Rattle.machine.specs.declared.Machine.{Machine}

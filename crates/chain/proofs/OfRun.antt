@@ -1,0 +1,161 @@
+-- The chain theorem of the calls that a user makes.
+-- Assumes nothing.
+use Prim.Native.Nat.{ℕ, _+_, _%_, _^_, _≤_, _<_}
+use mathlib.Core.Path.{_≡_, refl, sym, ap, subst, subst⁻¹, _∙_}
+use mathlib.Core.Bool.{Bool, true, false, cond, Bool·beq, and-false}
+use mathlib.Core.List.{List, [], _∷_}
+use native.Mathlib.Omega.{arith}
+use lib.ListN.{length}
+use borrow.Author.Tests.{eq-eqb, eqb-true, le-leb, lt-ltb}
+use Rattle.words.specs.Bits.{bit}
+use Rattle.bus.specs.declared.Window.{Window}
+use Rattle.bus.specs.declared.Refusal.the-variants.{BadImage}
+use Rattle.bus.specs.Window.{keepsLimits}
+use Rattle.image.specs.declared.Fields.{Fields}
+use Rattle.image.specs.Rules.{keepsRules, lowestBroken}
+use Rattle.image.proofs.Facts.{each-rule, each-keeps}
+use Rattle.machine.specs.declared.Machine.{Machine}
+use Rattle.machine.specs.declared.Mode.the-variants.{StreamToMemory}
+use Rattle.machine.specs.declared.registers.WroteRegister.{WroteRegister}
+use Rattle.machine.specs.declared.registers.WroteRegister.the-variants as wrote
+use Rattle.machine.specs.declared.RunAnswer.{RunAnswer}
+use Rattle.machine.specs.State.{withPointer, withControl, fresh}
+use Rattle.machine.specs.Saved.{fieldsOf, keeps}
+use Rattle.machine.specs.Registers.{stored, controlWritten, writeOf, WasWritten}
+use Rattle.machine.specs.Step.{World}
+use Rattle.machine.specs.Run.{run, even, Lent, serves, lentOf, worldOf, ranAs, runAnswer, windowAfter, outAfter, outputOver}
+use Rattle.machine.proofs.Writes.{write-runs}
+use Rattle.chain.specs.Chain.{Given, machineFor, worldFor, shares, cost, Premises, FirstFew, Outcome}
+use Rattle.chain.specs.Calls.{givenBy, Called, Finished}
+use Rattle.chain.proofs.Theorem.{chain-theorem, chain-at-every-step}
+
+-- a write that is done was made of a machine that keeps the rules
+wrote-pointer : (m n : Machine) (v : ℕ) → wrote.Done n ≡ writeOf m 8 v → (keeps m ≡ true) × (n ≡ withPointer v m)
+unfolding writeOf
+wrote-pointer m n v e = by (keeps m) refl
+  where
+    by : (b : Bool) → keeps m ≡ b → (keeps m ≡ true) × (n ≡ withPointer v m)
+    by true k = (k, let f : wrote.Done n ≡ wrote.Done (withPointer v m) = e ∙ rw k in cc)
+    by false k = absurd (let f : wrote.Done n ≡ wrote.Refused BadImage = e ∙ rw k in let z : _≡_ {A = ℕ} 0 1 = cc in omega arith)
+
+wrote-control : (m n : Machine) (v : ℕ) → wrote.Done n ≡ writeOf m 4 v → n ≡ controlWritten v m
+unfolding writeOf
+wrote-control m n v e = by (keeps m) refl
+  where
+    by : (b : Bool) → keeps m ≡ b → n ≡ controlWritten v m
+    by true k = let f : wrote.Done n ≡ wrote.Done (controlWritten v m) = e ∙ rw k in cc
+    by false k = absurd (let f : wrote.Done n ≡ wrote.Refused BadImage = e ∙ rw k in let z : _≡_ {A = ℕ} 0 1 = cc in omega arith)
+
+limits-kept : (f : Fields) → keepsRules f ≡ true → keepsLimits (f .base) (f .window) ≡ true
+unfolding keepsRules
+limits-kept f e = each-rule f (eqb-true (lowestBroken f) 0 e) .window
+
+cond-same : (b : Bool) → cond {A = ℕ} b 0 0 ≡ 0
+cond-same true = refl
+cond-same false = refl
+
+same-same : (b : Bool) → Bool·beq b b ≡ true
+same-same true = refl
+same-same false = refl
+
+-- a machine at rest, with nothing in its status, keeps the rules
+module _ (window : Window) (h : keepsLimits (window .base) (window .length) ≡ true) where
+  rest-keeps : (pointer control : ℕ) (pending : Bool) (count : ℕ) → control < 2 ^ 18 → count ≤ 254
+      → keeps (withControl control pending count (withPointer pointer (fresh StreamToMemory window))) ≡ true
+  unfolding keepsRules
+  rest-keeps pointer control pending count l n =
+      eq-eqb _ 0
+      (each-keeps (fieldsOf (withControl control pending count (withPointer pointer (fresh StreamToMemory window))))
+      (record {
+        edition = refl;
+        mode = refl;
+        phase = refl;
+        fault = refl;
+        status = refl;
+        count = le-leb count 254 n;
+        control = rw (lt-ltb control (2 ^ 18) l, same-same (bit 16 control));
+        window = h;
+        address = refl;
+        source = refl;
+        destination = refl;
+        size = refl;
+        dcontrol = refl;
+        errors = refl;
+        moved = refl;
+        eop = refl;
+        rest = refl;
+        faultat = refl;
+      }))
+
+  -- of a fresh machine of a window within its limits neither write is refused
+  pub pointer-done : {r : WroteRegister} (pointer : ℕ) → WasWritten (fresh StreamToMemory window) 8 pointer r
+      → r ≡ wrote.Done (withPointer pointer (fresh StreamToMemory window))
+  unfolding writeOf
+  pointer-done pointer p = p .answer ∙ rw (rest-keeps 0 0 false 0 (omega arith) (omega arith))
+
+  pub control-done : {r : WroteRegister} (pointer control : ℕ) → WasWritten (withPointer pointer (fresh StreamToMemory window)) 4 control r
+      → r ≡ wrote.Done (controlWritten control (withPointer pointer (fresh StreamToMemory window)))
+  unfolding writeOf
+  control-done pointer control p = p .answer ∙ rw (rest-keeps pointer 0 false 0 (omega arith) (omega arith))
+
+-- what is lent serves it
+serve : (m : Machine) (window beats out : List ℕ) → keeps m ≡ true → even beats ≡ true → even out ≡ true → length window ≡ m .window .length
+    → lentOf m window beats out ≡ serves
+unfolding lentOf
+serve m window beats out k e f l = rw (k, e, f, eq-eqb (length window) (m .window .length) l)
+
+-- no byte is put where nothing is made
+nothing-made : (v : World) (out : List ℕ) → length (v .output) ≡ 0 → outputOver v out ≡ out
+nothing-made v out e = by (v .output) refl e
+  where
+    by : (l : List ℕ) → v .output ≡ l → length l ≡ 0 → outputOver v out ≡ out
+    by [] f z = rw f
+    by (x ∷ xs) f z = absurd (omega arith)
+
+module _ {window : Window} {pointer control : ℕ} {memory beats out : List ℕ} {budget : ℕ} {r : RunAnswer} {memory' out' : List ℕ} (k : ℕ)
+    (c : Called window pointer control memory beats out budget r memory' out') (h : Premises (givenBy window pointer control k memory beats out)) where
+  abbrev g : Given
+  g = givenBy window pointer control k memory beats out
+
+  m1-is : c .m1 ≡ withPointer pointer (fresh StreamToMemory window)
+  m1-is = wrote-pointer (c .m0) (c .m1) pointer (c .pointed .answer) .1 ∙ ap (withPointer pointer) (c .made .value)
+
+  m2-is : c .m2 ≡ machineFor g
+  m2-is = wrote-control (c .m1) (c .m2) control (c .started .answer) ∙ ap (controlWritten control) m1-is
+
+  limits : keepsLimits (window .base) (window .length) ≡ true
+  limits =
+      limits-kept (fieldsOf (fresh StreamToMemory window))
+      (subst (λ (m : Machine). keeps m ≡ true) (c .made .value) (wrote-pointer (c .m0) (c .m1) pointer (c .pointed .answer) .0))
+
+  m2-stored : c .m2 ≡ stored control (withPointer pointer (fresh StreamToMemory window))
+  m2-stored = m2-is ∙ write-runs control (withPointer pointer (fresh StreamToMemory window)) (and-false (bit 16 control)) (h .run-set)
+
+  served : lentOf (c .m2) memory beats out ≡ serves
+  served =
+      serve (c .m2) memory beats out (subst⁻¹ (λ (m : Machine). keeps m ≡ true) m2-stored
+      (rest-keeps window limits pointer (control % 2 ^ 18) _ _ (omega arith) (let z = cond-same (bit 5 control) in omega arith)))
+      (c .even-beats) (c .even-out) (h .lent ∙ sym (ap (λ (m : Machine). m .window .length) m2-stored))
+
+  ends-as : memory' ≡ run budget (worldFor g) .world .memory
+  ends-as =
+      c .ran .window-after ∙ ap (λ (l : Lent). windowAfter l (run budget (worldOf (c .m2) memory beats out) .world) memory) served
+      ∙ ap (λ (m : Machine). run budget (worldOf m memory beats out) .world .memory) m2-is
+
+  -- With budget enough the run is done, and this is its outcome.
+  pub chain-of-run : 2 + cost (shares g) ≤ budget → Finished g r memory' out out'
+  chain-of-run b =
+      let o : Outcome g (ranAs (worldFor g) (run budget (worldFor g))) (run budget (worldFor g) .world .memory) = chain-theorem g h budget b in
+      record {
+        told = ranAs (worldFor g) (run budget (worldFor g));
+        answer = c .ran .answer ∙ ap (λ (l : Lent). runAnswer l (worldOf (c .m2) memory beats out) budget) served
+            ∙ ap (λ (m : Machine). runAnswer serves (worldOf m memory beats out) budget) m2-is;
+        outcome = subst⁻¹ (Outcome g (ranAs (worldFor g) (run budget (worldFor g)))) ends-as o;
+        output = c .ran .out-after ∙ ap (λ (l : Lent). outAfter l (run budget (worldOf (c .m2) memory beats out) .world) out) served
+            ∙ ap (λ (m : Machine). outputOver (run budget (worldOf m memory beats out) .world) out) m2-is
+            ∙ nothing-made (run budget (worldFor g) .world) out (o .made);
+      }
+
+  -- With any budget those marked done are the first few.
+  pub chain-of-run-at-every-step : FirstFew window memory (shares g) memory'
+  chain-of-run-at-every-step = subst⁻¹ (FirstFew window memory (shares g)) ends-as (chain-at-every-step g h .first-few budget)
