@@ -1,10 +1,53 @@
 # make bench   the main job: what the bench firmware does, against the model
+# make speed   how fast the library is, against a plain model and a plain copy
 # make test    the gate: every proof, every edit that must fail, every test
+#
+# SGDMA_LIB_DIR is the directory of libsgdma.a, where it is not the one to which 'rt staticlib sgdma' writes it.
 
-.PHONY: bench test
+.PHONY: bench speed test
 
-bench:
-	@sh bench/run
+SGDMA_LIB_DIR ?= target/staticlib
+LIBRARY = $(SGDMA_LIB_DIR)/libsgdma.a
+INCLUDE = include
+BUILD = target/c
+
+CFLAGS = -O2 -g
+WARNINGS = -Wall -Wextra -Wpedantic -Wconversion
+include bench/processor.mk
+
+bench: run-bench
+
+# Builds and runs one of the C programs below.
+run-%: $(BUILD)/%
+	@$(RUN) $<
+
+speed: $(LIBRARY)
+	@cd harness && SGDMA_LIB_DIR='$(abspath $(SGDMA_LIB_DIR))' cargo run --release --offline --quiet --bin speed
 
 test:
 	@bash .ci/run
+
+target/staticlib/libsgdma.a:
+	rt staticlib sgdma
+
+# The C programs.
+LENT = $(INCLUDE)/sgdma.h $(LIBRARY)
+
+$(BUILD)/bench: bench/bench.c bench/show.c bench/firmware.c bench/core.c
+$(BUILD)/tests: $(filter-out tests/header.c,$(wildcard tests/*.c)) bench/core.c
+$(BUILD)/example: $(BUILD)/example.c
+
+$(BUILD)/bench $(BUILD)/tests $(BUILD)/example: $(LENT) $(wildcard bench/*.h tests/*.h)
+	@mkdir -p $(@D)
+	@$(CC) -std=c99 $(CFLAGS) $(WARNINGS) -I$(INCLUDE) -Ibench -o $@ $(filter %.c,$^) $(LIBRARY) $(LDLIBS)
+
+# The header alone, under the standard that the name ends with.
+$(BUILD)/header-%: tests/header.c $(LENT)
+	@mkdir -p $(@D)
+	@$(if $(findstring ++,$*),$(CXX) -x c++,$(CC) -x c) -std=$* $(CFLAGS) $(WARNINGS) -I$(INCLUDE) -o $@ $< \
+		-x none $(LIBRARY) $(LDLIBS)
+
+# The program that the README shows.
+$(BUILD)/example.c: README.md
+	@mkdir -p $(@D)
+	@awk '/^## From C$$/ { here = 1 } /^```$$/ { code = 0 } here && code; /^```c$$/ { code = 1 }' $< >$@

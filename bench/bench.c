@@ -1,0 +1,249 @@
+/*
+ * The bench: what the firmware sees of the core when a stream is good, and when
+ * it is not. Each scene is played, shown and compared with what must come of
+ * it; the program fails where one is not as it must be.
+ */
+#include "show.h"
+
+#include <inttypes.h>
+#include <stdio.h>
+#include <string.h>
+
+/* What must be found of a descriptor. */
+struct must {
+    bool done;
+    uint16_t count;
+    uint8_t status;
+    size_t fresh;
+};
+
+struct scene {
+    const char *title;
+    const char *see;
+    /* What is given, beside the chain and a stream of all samples. */
+    uint32_t control;    /* beside RUN and the enables */
+    size_t silent_after; /* the samples that come, where not all do */
+    size_t marked;       /* the sample whose beat is marked, */
+    uint32_t mark;       /* and with what */
+    uint32_t landing;    /* where the last packet is to land, where elsewhere */
+    size_t saved_after;  /* the slice after which the core is saved */
+    /* What must come of it. */
+    uint32_t reason;
+    uint32_t status; /* all that was read at interrupts */
+    struct fault fault;
+    struct must found[DESCRIPTORS];
+};
+
+#define FULL      {true, PACKET, 0, PACKET}
+#define UNTOUCHED {false, 0, 0, 0}
+#define PART(n)   {false, 0, 0, n}
+
+#define ENABLES                                                \
+    (SGDMA_CONTROL_IE_GLOBAL | SGDMA_CONTROL_IE_ERROR |        \
+     SGDMA_CONTROL_IE_DESCRIPTOR | SGDMA_CONTROL_IE_CHAIN)
+#define SOME_DONE (SGDMA_STATUS_DESCRIPTOR_COMPLETED | SGDMA_STATUS_BUSY)
+#define ALL_DONE  (SOME_DONE | SGDMA_STATUS_CHAIN_COMPLETED)
+
+static const struct scene SCENES[] = {
+    {
+        .title = "A good run",
+        .see = "Four descriptors of 16 samples: all are done, no byte is stale.",
+        .reason = SGDMA_REASON_ENDED,
+        .status = ALL_DONE,
+        .found = {FULL, FULL, FULL, FULL},
+    },
+    {
+        .title = "A stream that stops short",
+        .see = "Nothing comes after 40 samples: the third descriptor stays owned.",
+        .silent_after = 40,
+        .reason = SGDMA_REASON_NEEDS_INPUT,
+        .status = SOME_DONE,
+        .found = {FULL, FULL, PART(8), UNTOUCHED},
+    },
+    {
+        .title = "An error beat under STOP_DMA_ER",
+        .see = "Sample 20 has errors 0x03: its descriptor is filled, and is the last.",
+        .control = SGDMA_CONTROL_STOP_DMA_ER,
+        .marked = 20,
+        .mark = UINT32_C(0x03) << SGDMA_INPUT_ERROR_SHIFT,
+        .reason = SGDMA_REASON_HALTED,
+        .status = SOME_DONE | SGDMA_STATUS_ERROR,
+        .found = {FULL, {true, PACKET, 0x03, PACKET}, UNTOUCHED, UNTOUCHED},
+    },
+    {
+        .title = "EOP early",
+        .see = "Sample 25 has EOP: its descriptor counts 10, the rest there is stale.",
+        .marked = 25,
+        .mark = SGDMA_INPUT_EOP,
+        .reason = SGDMA_REASON_ENDED,
+        .status = ALL_DONE | SGDMA_STATUS_EOP_ENCOUNTERED,
+        .found = {FULL, {true, 10, 0, 10}, FULL, FULL},
+    },
+    {
+        .title = "A fault",
+        .see = "The last packet runs out of memory: owned, though 8 bytes came.",
+        .landing = BASE + MEMORY - 8,
+        .reason = SGDMA_REASON_FAULTED,
+        .status = SOME_DONE,
+        .fault = {SGDMA_FAULT_DESTINATION_OUTSIDE, BASE + MEMORY},
+        .found = {FULL, FULL, FULL, PART(8)},
+    },
+    {
+        .title = "Saved in the middle and restored",
+        .see = "The good run again, half of it on a second core: the same end.",
+        .saved_after = 2,
+        .reason = SGDMA_REASON_ENDED,
+        .status = ALL_DONE,
+        .found = {FULL, FULL, FULL, FULL},
+    },
+};
+
+enum { SCENE_COUNT = sizeof SCENES / sizeof *SCENES };
+
+/* What came of a scene. */
+struct outcome {
+    uint32_t reason;
+    uint32_t status;
+    struct fault fault;
+    struct found found[DESCRIPTORS];
+};
+
+static void prepare(struct firmware *firmware, const struct scene *scene)
+{
+    firmware_begin(firmware, ENABLES | scene->control);
+    put_beat(firmware->in, scene->marked,
+             beat_at(firmware->in, scene->marked) | scene->mark);
+    if (scene->silent_after)
+        firmware->in.beats = scene->silent_after;
+    if (scene->landing)
+        firmware_build(firmware, DESCRIPTORS - 1, scene->landing);
+    firmware_start(firmware);
+}
+
+/*
+ * Saves image and memory, wipes both, and restores them as a second core, for
+ * which the stream goes on.
+ */
+static void move_over(struct firmware *to, struct firmware *from)
+{
+    struct stream rest = from->in;
+
+    firmware_begin(to, from->control);
+    memcpy(to->core.image, from->core.image, sizeof to->core.image);
+    memcpy(to->memory, from->memory, sizeof to->memory);
+    memset(from->core.image, 0xFF, sizeof from->core.image);
+    memset(from->memory, 0xFF, sizeof from->memory);
+    to->in = rest;
+    printf("    saved: %zu bytes of image, %zu of memory; restored as a second core\n",
+           sizeof to->core.image, sizeof to->memory);
+}
+
+/* Runs slices until one is stopped by something else than its budget. */
+static struct firmware *run(const struct scene *scene, struct firmware both[2],
+                            struct outcome *outcome)
+{
+    struct firmware *firmware = &both[0];
+    struct slice slice;
+    size_t number = 0;
+
+    show_slice_heading();
+    outcome->status = 0;
+    do {
+        slice = firmware_slice(firmware);
+        number++;
+        show_slice(number, &slice);
+        outcome->status |= slice.status;
+        if (number == scene->saved_after) {
+            move_over(&both[1], firmware);
+            firmware = &both[1];
+        }
+    } while (slice.ran.reason == SGDMA_REASON_BUDGET);
+    outcome->reason = slice.ran.reason;
+    outcome->fault = core_fault(&firmware->core);
+    return firmware;
+}
+
+/* Walks the chain. What is done begins where what was done before it ends. */
+static void walk(const struct core *core, struct outcome *outcome)
+{
+    uint32_t address = CHAIN;
+    size_t first = 0;
+
+    show_found_heading();
+    for (size_t i = 0; i < DESCRIPTORS; i++) {
+        struct found *found = &outcome->found[i];
+
+        *found = find(core, address, first);
+        show_found(found);
+        address = found->d.next;
+        first += found->done ? found->d.actual : 0;
+    }
+}
+
+/* Whether the scene without the saving comes to the same image and memory. */
+static bool same_end(const struct scene *scene, const struct firmware *end)
+{
+    struct firmware whole;
+    bool image, memory;
+
+    prepare(&whole, scene);
+    while (firmware_slice(&whole).ran.reason == SGDMA_REASON_BUDGET)
+        ;
+    image = !memcmp(whole.core.image, end->core.image, sizeof whole.core.image);
+    memory = !memcmp(whole.memory, end->memory, sizeof whole.memory);
+    printf("    against the run on one core: image %s, memory %s\n",
+           image ? "the same" : "DIFFERS", memory ? "the same" : "DIFFERS");
+    return image && memory;
+}
+
+static bool found_as(const struct found *found, const struct must *must)
+{
+    return found->done == must->done && found->d.actual == must->count &&
+           found->d.status == must->status && found->fresh == must->fresh;
+}
+
+static bool as_it_must_be(const struct scene *scene, const struct outcome *outcome)
+{
+    bool as = outcome->reason == scene->reason &&
+              outcome->status == scene->status &&
+              outcome->fault.code == scene->fault.code &&
+              outcome->fault.address == scene->fault.address;
+
+    for (size_t i = 0; i < DESCRIPTORS; i++)
+        as = as && found_as(&outcome->found[i], &scene->found[i]);
+    return as;
+}
+
+static bool play(size_t number, const struct scene *scene)
+{
+    struct firmware both[2];
+    struct firmware *end;
+    struct outcome outcome;
+    bool as;
+
+    printf("\n%zu.  %s\n    %s\n\n", number, scene->title, scene->see);
+    prepare(&both[0], scene);
+    end = run(scene, both, &outcome);
+    if (outcome.fault.code)
+        printf("    fault %" PRIu32 " at 0x%04" PRIX32 "\n", outcome.fault.code,
+               outcome.fault.address);
+    printf("\n");
+    walk(&end->core, &outcome);
+    as = as_it_must_be(scene, &outcome);
+    if (scene->saved_after)
+        as = same_end(scene, end) && as;
+    if (!as)
+        printf("    NOT AS IT MUST BE\n");
+    return as;
+}
+
+int main(void)
+{
+    size_t good = 0;
+
+    show_legend();
+    for (size_t i = 0; i < SCENE_COUNT; i++)
+        good += play(i + 1, &SCENES[i]);
+    printf("\n%zu of %d scenes are as they must be\n", good, SCENE_COUNT);
+    return good == SCENE_COUNT ? 0 : 1;
+}

@@ -1,0 +1,80 @@
+/*
+ * A core as firmware holds it: its image, the memory it lends, and the seven
+ * calls on them, with numbers in place of bytes.
+ *
+ * Every call made here must be done. A refusal is an error of the program that
+ * makes the call: it is told, and the program ends.
+ */
+#ifndef CORE_H
+#define CORE_H
+
+#include <stdbool.h>
+#include <stddef.h>
+#include <stdint.h>
+
+#include "sgdma.h"
+
+struct core {
+    uint8_t image[SGDMA_IMAGE_SIZE];
+    uint8_t *memory; /* the window; it belongs to whoever made the core */
+    size_t length;
+    uint32_t base;
+};
+
+/* Every named field of a descriptor. */
+struct descriptor {
+    uint32_t source;
+    uint32_t destination;
+    uint32_t next;
+    uint16_t length;
+    uint16_t actual;
+    uint8_t status;
+    uint8_t control;
+};
+
+/* A stream of beats, in or out: two bytes each. */
+struct stream {
+    uint8_t *bytes;
+    size_t beats;
+};
+
+/* What a run reports. */
+struct ran {
+    uint32_t reason;
+    uint32_t steps;
+    uint32_t taken;
+    uint32_t made;
+};
+
+struct fault {
+    uint32_t code; /* 0 where there is none */
+    uint32_t address;
+};
+
+/* A number of `size` bytes, the most significant first. */
+uint32_t number_at(const uint8_t *bytes, size_t size);
+
+/* Beat `place` of a stream. */
+uint32_t beat_at(struct stream stream, size_t place);
+void put_beat(struct stream stream, size_t place, uint32_t beat);
+
+/* What is left of a stream after its first beats. */
+struct stream stream_from(struct stream stream, size_t beats);
+
+void core_create(struct core *core, uint32_t mode, uint32_t base,
+                 uint8_t *memory, size_t length);
+uint32_t core_read(const struct core *core, uint32_t offset);
+void core_write(struct core *core, uint32_t offset, uint32_t value);
+bool core_line(const struct core *core);
+struct ran core_run(struct core *core, struct stream in, struct stream out,
+                    uint32_t budget);
+struct fault core_fault(const struct core *core);
+
+/* The builder takes what firmware sets; actual and status become 0. */
+void core_build(struct core *core, uint32_t address, const struct descriptor *d);
+struct descriptor core_descriptor(const struct core *core, uint32_t address);
+
+/* The byte of memory at a bus address of the window. */
+uint8_t *core_byte(const struct core *core, uint32_t address);
+
+#endif

@@ -1,0 +1,113 @@
+#include "show.h"
+
+#include <inttypes.h>
+#include <stdio.h>
+
+static const char FRESH = '#';
+static const char OLD = '.';
+static const char STRANGE = '?';
+static const char OUTSIDE = ' ';
+
+static const char *const REASONS[] = {
+    [SGDMA_REASON_REST] = "Rest",
+    [SGDMA_REASON_ENDED] = "Ended",
+    [SGDMA_REASON_HALTED] = "Halted",
+    [SGDMA_REASON_FAULTED] = "Faulted",
+    [SGDMA_REASON_NEEDS_INPUT] = "NeedsInput",
+    [SGDMA_REASON_OUTPUT_FULL] = "OutputFull",
+    [SGDMA_REASON_BUDGET] = "Budget",
+};
+
+static const struct {
+    uint32_t bit;
+    const char *name;
+} STATUS_BITS[] = {
+    {SGDMA_STATUS_ERROR, "ERROR"},
+    {SGDMA_STATUS_EOP_ENCOUNTERED, "EOP"},
+    {SGDMA_STATUS_DESCRIPTOR_COMPLETED, "DESCRIPTOR"},
+    {SGDMA_STATUS_CHAIN_COMPLETED, "CHAIN"},
+    {SGDMA_STATUS_BUSY, "BUSY"},
+};
+
+/* The sign of the byte at an address where this sample must land. */
+static char sign(const struct core *core, uint32_t address, size_t number)
+{
+    uint8_t byte;
+
+    if (address - core->base >= core->length)
+        return OUTSIDE;
+    byte = *core_byte(core, address);
+    if (byte == sample(THIS_STREAM, number))
+        return FRESH;
+    return byte >> 6 == OLD_STREAM ? OLD : STRANGE;
+}
+
+struct found find(const struct core *core, uint32_t address, size_t first)
+{
+    struct found found = {0};
+
+    found.address = address;
+    found.d = core_descriptor(core, address);
+    found.done = !(found.d.control & SGDMA_DESC_OWNED_BY_HW);
+    for (size_t i = 0; i < PACKET; i++)
+        found.map[i] = sign(core, found.d.destination + (uint32_t)i, first + i);
+    while (found.map[found.fresh] == FRESH)
+        found.fresh++;
+    return found;
+}
+
+void show_legend(void)
+{
+    printf("A core in mode 2 carries a stream of samples into %d bytes of memory, by a\n"
+           "chain of %d descriptors of %d bytes each, in slices of %d steps. Each sample\n"
+           "carries its number. A byte where samples land is shown as\n"
+           "    %c  the sample of this stream that belongs there\n"
+           "    %c  a sample of an old stream: stale\n"
+           "    %c  anything else\n",
+           MEMORY, DESCRIPTORS, PACKET, SLICE, FRESH, OLD, STRANGE);
+}
+
+static const char *reason_name(uint32_t reason)
+{
+    return reason < sizeof REASONS / sizeof *REASONS ? REASONS[reason] : "?";
+}
+
+void show_slice_heading(void)
+{
+    printf("    slice  steps  beats  stopped by  line  status read and cleared\n");
+}
+
+void show_slice(size_t number, const struct slice *slice)
+{
+    printf("    %5zu  %5" PRIu32 "  %5" PRIu32 "  %-10s  %-4s", number,
+           slice->ran.steps, slice->ran.taken, reason_name(slice->ran.reason),
+           slice->line ? "up" : "down");
+    if (slice->line) {
+        printf("  0x%02" PRIX32, slice->status);
+        for (size_t i = 0; i < sizeof STATUS_BITS / sizeof *STATUS_BITS; i++)
+            if (slice->status & STATUS_BITS[i].bit)
+                printf(" %s", STATUS_BITS[i].name);
+    }
+    printf("\n");
+}
+
+void show_found_heading(void)
+{
+    printf("    descriptor     count  status  lands at  bytes there       "
+           "from this stream\n");
+}
+
+void show_found(const struct found *found)
+{
+    unsigned count = found->d.actual;
+
+    printf("    0x%04" PRIX32 "  %-5s  %5u    0x%02X    0x%04" PRIX32 "  %s  ",
+           found->address, found->done ? "done" : "owned", count,
+           found->d.status, found->d.destination, found->map);
+    if (!found->done)
+        printf("not done\n");
+    else if (found->fresh >= count)
+        printf("all %u\n", count);
+    else
+        printf("%zu of %u: STALE\n", found->fresh, count);
+}

@@ -1,0 +1,407 @@
+/*
+ * A proved software model of the Altera SG-DMA controller core: the C calls.
+ *
+ * The core is that of Altera's Embedded Peripherals handbook, chapter 23,
+ * Scatter-Gather DMA Controller Core, with a data width of 8 bits and a sink
+ * error width of 7, without bursts, FIFOs and bus timing. Link libsgdma.a.
+ *
+ *   sgdma_create              a fresh core, for one mode and one window of memory
+ *   sgdma_build_descriptor    a chain of descriptors in that memory
+ *   sgdma_write_register      the pointer to the chain, then control with RUN
+ *   sgdma_run                 so many steps over the memory and the streams
+ *   sgdma_line                whether the interrupt line is up
+ *   sgdma_read_register       what has happened
+ *   sgdma_read_descriptor     what was done with each descriptor
+ *
+ * The library keeps nothing between calls. All there is of a core is its image,
+ * 44 bytes that belong to the caller. A copy of the image, with a copy of the
+ * window, is the saved core; lent to the next call, it goes on from there.
+ *
+ * For every call
+ *
+ *   Bytes are lent for the time of the call, as a pointer and a length. Three
+ *   things no call can see, and the caller answers for them:
+ *     - the length is the true one: so many bytes can be read there and, where
+ *       the pointer is not const, written;
+ *     - NULL is lent with length 0 only;
+ *     - the slices lent to one call do not overlap.
+ *   All else is looked at. Whatever the numbers and the lent bytes are, the
+ *   call returns, and this file says what it answers.
+ *
+ *   A call returns SGDMA_DONE, or the number of its refusal: the first that
+ *   applies in the order in which the call lists them. A refused call has
+ *   changed no lent byte.
+ *
+ *   Numbers in lent bytes have the most significant byte first, in the image,
+ *   the report, the value, the descriptor answer and the beats. Descriptors in
+ *   the window are little-endian, as the core has them.
+ */
+#ifndef SGDMA_H
+#define SGDMA_H
+
+#include <stddef.h>
+#include <stdint.h>
+
+#ifdef __cplusplus
+extern "C" {
+#endif
+
+/*
+ * Sizes of lent slices, in bytes. A slice must have exactly its size: a larger
+ * one is refused too.
+ */
+#define SGDMA_IMAGE_SIZE              44
+#define SGDMA_VALUE_SIZE              4
+#define SGDMA_REPORT_SIZE             14
+#define SGDMA_DESCRIPTOR_ANSWER_SIZE  18
+
+/*
+ * The window
+ *
+ * The one piece of memory that a core sees: a lent slice, whose first byte
+ * stands at the bus address `base`. Its length is 0 to 65,536, base is at most
+ * 4,294,967,295, and base + length at most 4,294,967,296. Sums of addresses
+ * are whole numbers and never wrap, so what runs past the end is outside.
+ */
+#define SGDMA_WINDOW_LENGTH_MAX       65536
+
+/* Bit n of a register, of desc_control or of a beat. */
+#define SGDMA_BIT(n)                  (UINT32_C(1) << (n))
+
+/* Modes: from where to where the core moves bytes. */
+#define SGDMA_MODE_MEMORY_TO_MEMORY   UINT32_C(0)
+#define SGDMA_MODE_MEMORY_TO_STREAM   UINT32_C(1)
+#define SGDMA_MODE_STREAM_TO_MEMORY   UINT32_C(2)
+
+/*
+ * Beats, two bytes each. Every 16-bit number is a valid input beat.
+ *
+ *   input beat     error, bits 15 to 9               EOP 8    data 7 to 0
+ *   output beat    zero, bits 15 to 10     SOP 9     EOP 8    data 7 to 0
+ */
+#define SGDMA_BEAT_SIZE               2
+#define SGDMA_INPUT_ERROR_SHIFT       9
+#define SGDMA_INPUT_ERROR_MASK        UINT32_C(0xFE00)
+#define SGDMA_INPUT_EOP               SGDMA_BIT(8)
+#define SGDMA_INPUT_DATA_MASK         UINT32_C(0x00FF)
+#define SGDMA_OUTPUT_SOP              SGDMA_BIT(9)
+#define SGDMA_OUTPUT_EOP              SGDMA_BIT(8)
+#define SGDMA_OUTPUT_DATA_MASK        UINT32_C(0x00FF)
+
+/* Registers: the offsets. All three are 0 in a fresh core. */
+#define SGDMA_REGISTER_STATUS                   UINT32_C(0)
+#define SGDMA_REGISTER_CONTROL                  UINT32_C(4)
+#define SGDMA_REGISTER_NEXT_DESCRIPTOR_POINTER  UINT32_C(8)
+
+/*
+ * status (table 23-8). Reading changes nothing. Writing 1 clears bits 0 to 3;
+ * no other written bit does anything. Bits 5 to 31 read 0.
+ */
+#define SGDMA_STATUS_ERROR                 SGDMA_BIT(0) /* a descriptor had errors */
+#define SGDMA_STATUS_EOP_ENCOUNTERED       SGDMA_BIT(1) /* a descriptor ended with EOP */
+#define SGDMA_STATUS_DESCRIPTOR_COMPLETED  SGDMA_BIT(2) /* a descriptor was written back */
+#define SGDMA_STATUS_CHAIN_COMPLETED       SGDMA_BIT(3) /* a descriptor not owned was met */
+#define SGDMA_STATUS_BUSY                  SGDMA_BIT(4) /* read only */
+
+/*
+ * control (table 23-7). A write stores bits 0 to 17 as they are given, so one
+ * that changes one bit repeats the others. Bits 18 to 30 read 0.
+ */
+#define SGDMA_CONTROL_IE_ERROR         SGDMA_BIT(0)  /* interrupt on ERROR */
+#define SGDMA_CONTROL_IE_EOP           SGDMA_BIT(1)  /* interrupt on EOP_ENCOUNTERED */
+#define SGDMA_CONTROL_IE_DESCRIPTOR    SGDMA_BIT(2)  /* interrupt on DESCRIPTOR_COMPLETED */
+#define SGDMA_CONTROL_IE_CHAIN         SGDMA_BIT(3)  /* interrupt on CHAIN_COMPLETED */
+#define SGDMA_CONTROL_IE_GLOBAL        SGDMA_BIT(4)  /* let interrupts raise the line */
+#define SGDMA_CONTROL_RUN              SGDMA_BIT(5)  /* process descriptors */
+#define SGDMA_CONTROL_STOP_DMA_ER      SGDMA_BIT(6)  /* halt after a descriptor with errors */
+#define SGDMA_CONTROL_IE_MAX           SGDMA_BIT(7)  /* interrupt after MAX_DESC_PROCESSED */
+#define SGDMA_CONTROL_MAX_DESC_PROCESSED_SHIFT  8
+#define SGDMA_CONTROL_MAX_DESC_PROCESSED_MASK   UINT32_C(0xFF00) /* 0: do not count */
+#define SGDMA_CONTROL_SW_RESET         SGDMA_BIT(16) /* written as 1 while it reads 1: reset */
+#define SGDMA_CONTROL_PARK             SGDMA_BIT(17) /* leave OWNED_BY_HW set */
+#define SGDMA_CONTROL_CLEAR_INTERRUPT  SGDMA_BIT(31) /* clear what is pending; reads 0 */
+
+/*
+ * A descriptor: 32 bytes in the window, little-endian, at an address that is a
+ * multiple of 4 (tables 23-9 and 23-10). The bytes not named are reserved.
+ */
+#define SGDMA_DESCRIPTOR_SIZE                         32
+#define SGDMA_DESCRIPTOR_SOURCE_AT                    0  /* 32 bits */
+#define SGDMA_DESCRIPTOR_DESTINATION_AT               8  /* 32 bits */
+#define SGDMA_DESCRIPTOR_NEXT_DESC_PTR_AT             16 /* 32 bits */
+#define SGDMA_DESCRIPTOR_BYTES_TO_TRANSFER_AT         24 /* 16 bits; mode 2: 0 means 65,535 */
+#define SGDMA_DESCRIPTOR_ACTUAL_BYTES_TRANSFERRED_AT  28 /* 16 bits */
+#define SGDMA_DESCRIPTOR_DESC_STATUS_AT               30 /* 8 bits: errors of its beats */
+#define SGDMA_DESCRIPTOR_DESC_CONTROL_AT              31 /* 8 bits */
+
+/*
+ * desc_control (table 23-11). Bits 3 to 6 have no effect and are kept as given.
+ */
+#define SGDMA_DESC_GENERATE_EOP         SGDMA_BIT(0) /* mode 1: EOP on the last beat */
+#define SGDMA_DESC_READ_FIXED_ADDRESS   SGDMA_BIT(1) /* every byte is read at source */
+#define SGDMA_DESC_WRITE_FIXED_ADDRESS  SGDMA_BIT(2) /* every byte is written at destination */
+                                                     /* mode 1: SOP on the first beat */
+#define SGDMA_DESC_OWNED_BY_HW          SGDMA_BIT(7) /* the core's until it is written back */
+
+/*
+ * Steps
+ *
+ * A core is in one of seven phases. A step does what its phase says, asking in
+ * the order given; the numbers are the faults below.
+ *
+ *   Rest       RUN 0: no step. RUN 1: BUSY becomes 1, go to Fetch.
+ *   Fetch      RUN 0: BUSY becomes 0, go to Rest. Else the descriptor at the
+ *              pointer is read: 10, 11. Not owned: CHAIN_COMPLETED is set, go
+ *              to Ended; BUSY and the pointer stay. Owned: 12; its fields are
+ *              kept, the pointer becomes next_desc_ptr, go to Move.
+ *   Move       One byte goes
+ *                mode 0  from memory (13) to memory (14),
+ *                mode 1  from memory (13) to a beat; no room, no step,
+ *                mode 2  from a beat to memory (14); no beat, no step.
+ *              Errors of the beats are gathered; a byte with an error is moved
+ *              and counted. When bytes_to_transfer bytes are moved, or a beat
+ *              taken had EOP: go to WriteBack. RUN is not looked at.
+ *   WriteBack  The last four bytes of the descriptor are written: the number of
+ *              bytes moved, the errors, and desc_control as it was read, with
+ *              OWNED_BY_HW cleared unless PARK is 1. DESCRIPTOR_COMPLETED is
+ *              set; EOP_ENCOUNTERED if the last beat had EOP; ERROR if there
+ *              were errors. The descriptor is counted; a count that reaches
+ *              MAX_DESC_PROCESSED begins again at 0, and where that is 0 it
+ *              stays 0. Then RUN 0: BUSY becomes 0, go to Rest; errors under
+ *              STOP_DMA_ER: BUSY becomes 0, go to Halted; else go to Fetch.
+ *   Ended      No step, until control is written with RUN 0.
+ *   Halted     No step, until control is written with RUN 0.
+ *   Faulted    No step, until a reset.
+ *
+ * A fault takes the place of the step, and counts as one: BUSY becomes 0, the
+ * descriptor in hand is dropped and not written back, nothing is written, no
+ * beat is taken or made, and the core goes to Faulted. The image tells code
+ * and address.
+ */
+#define SGDMA_FAULT_MISALIGNED           10 /* Fetch: the pointer is not a multiple of 4 */
+#define SGDMA_FAULT_DESCRIPTOR_OUTSIDE   11 /* Fetch: its 32 bytes are not in the window */
+#define SGDMA_FAULT_NO_LENGTH            12 /* Fetch, modes 0 and 1: bytes_to_transfer is 0 */
+#define SGDMA_FAULT_SOURCE_OUTSIDE       13 /* Move: the byte to read is not in the window */
+#define SGDMA_FAULT_DESTINATION_OUTSIDE  14 /* Move: the byte to write is not in the window */
+
+/*
+ * Interrupts
+ *
+ * An event pends where its enable bit is 1: each setting of a status bit, also
+ * of one that was 1 already, and the count that reaches MAX_DESC_PROCESSED. The
+ * line is up exactly while an interrupt is pending and IE_GLOBAL is 1. Clearing
+ * status bits clears nothing that is pending; CLEAR_INTERRUPT and a reset do.
+ * So firmware acknowledges with two writes:
+ *
+ *   status     the bits it has read
+ *   control    the bits that shall stand, and CLEAR_INTERRUPT
+ */
+
+/*
+ * The report of a run, 14 bytes: where each number stands.
+ */
+#define SGDMA_REPORT_REASON_AT  0  /* 16 bits */
+#define SGDMA_REPORT_STEPS_AT   2  /* 32 bits: the steps taken, at most the budget */
+#define SGDMA_REPORT_TAKEN_AT   6  /* 32 bits: the input beats taken */
+#define SGDMA_REPORT_MADE_AT    10 /* 32 bits: the output beats made */
+
+/* Why a run stopped. */
+#define SGDMA_REASON_REST         0 /* RUN is 0 */
+#define SGDMA_REASON_ENDED        1 /* a descriptor not owned was met */
+#define SGDMA_REASON_HALTED       2 /* errors under STOP_DMA_ER */
+#define SGDMA_REASON_FAULTED      3
+#define SGDMA_REASON_NEEDS_INPUT  4 /* mode 2, in Move: all beats lent are taken */
+#define SGDMA_REASON_OUTPUT_FULL  5 /* mode 1, in Move: no room for a beat */
+#define SGDMA_REASON_BUDGET       6 /* the budget is spent, and another step was possible */
+
+/*
+ * The answer of sgdma_read_descriptor, 18 bytes: where each field stands.
+ */
+#define SGDMA_ANSWER_SOURCE_AT                    0  /* 32 bits */
+#define SGDMA_ANSWER_DESTINATION_AT               4  /* 32 bits */
+#define SGDMA_ANSWER_NEXT_DESC_PTR_AT             8  /* 32 bits */
+#define SGDMA_ANSWER_BYTES_TO_TRANSFER_AT         12 /* 16 bits */
+#define SGDMA_ANSWER_ACTUAL_BYTES_TRANSFERRED_AT  14 /* 16 bits */
+#define SGDMA_ANSWER_DESC_STATUS_AT               16 /* 8 bits */
+#define SGDMA_ANSWER_DESC_CONTROL_AT              17 /* 8 bits */
+
+/*
+ * The image, 44 bytes. Firmware keeps it, copies it and lends it; the fault is
+ * what it may want to read there. For the reader of a dump, by byte and bits:
+ *
+ *   0   edition 4, mode 2, phase 3, armed 1, interrupt pending 1, fault code 5
+ *   2   status 8, count of descriptors 8
+ *   4   control 32
+ *   8   next_descriptor_pointer 32
+ *   12  window: base 32, length 32
+ *   20  descriptor in hand: its address 32, source 32, destination 32,
+ *       bytes_to_transfer 16, desc_control 8, errors 8, bytes moved 16,
+ *       EOP seen 1, zero 15
+ *   40  fault address 32
+ *
+ * The phases are numbered from Rest, 0, to Faulted, 6, in the order above. An
+ * image that breaks one of these rules is refused (SGDMA_BAD_IMAGE):
+ *
+ *   always      edition is 1, mode at most 2, phase at most 6; base and length
+ *               are a window; bits 5 to 7 of status, 18 to 31 of control and
+ *               the 15 are zero; armed is SW_RESET of control; count is at
+ *               most 254; BUSY is 1 exactly in Fetch, Move, WriteBack and
+ *               Ended; outside mode 2, ERROR and EOP_ENCOUNTERED are 0
+ *   in hand     outside Move and WriteBack all of it is zero. There, its
+ *               address is a multiple of 4 with its 32 bytes in the window,
+ *               OWNED_BY_HW is 1, bit 7 of errors is 0; in modes 0 and 1,
+ *               bytes_to_transfer is not 0, errors and EOP seen are 0
+ *   Move        fewer bytes moved than are to be; EOP seen is 0; errors are 0
+ *               where no byte is moved
+ *   WriteBack   at least one byte moved and no more than are to be, and either
+ *               all of them or EOP seen
+ *   Ended       RUN is 1
+ *   Halted      RUN is 1, mode is 2
+ *   Faulted     code is 10 to 14, in mode 1 not 14, in mode 2 not 12 or 13.
+ *               In every other phase, code and fault address are 0
+ */
+#define SGDMA_IMAGE_FAULT_AT          1    /* 8 bits, of which the code is those of the mask */
+#define SGDMA_IMAGE_FAULT_MASK        0x1F
+#define SGDMA_IMAGE_FAULT_ADDRESS_AT  40   /* 32 bits: for 10, 11 and 12 the pointer; */
+                                           /* for 13 and 14 the byte's, modulo 2^32 */
+
+/* What a call returns. */
+#define SGDMA_DONE          UINT32_C(0)
+#define SGDMA_NO_REGISTER   UINT32_C(1) /* offset is not 0, 4 or 8 */
+#define SGDMA_BAD_MODE      UINT32_C(2) /* mode is above 2 */
+#define SGDMA_BAD_WINDOW    UINT32_C(3) /* base or length break the limits of a window */
+#define SGDMA_OTHER_WINDOW  UINT32_C(4) /* the lent window has not the length of the core's */
+#define SGDMA_MISALIGNED    UINT32_C(5) /* the descriptor's address is not a multiple of 4 */
+#define SGDMA_OUTSIDE       UINT32_C(6) /* its 32 bytes are not in the window */
+#define SGDMA_BAD_SIZE      UINT32_C(7) /* an image, value, report or answer of wrong size */
+#define SGDMA_BAD_IMAGE     UINT32_C(8) /* the image breaks a rule of images */
+#define SGDMA_ODD_STREAM    UINT32_C(9) /* an odd number of beat bytes, in or out */
+
+/*
+ * Makes a fresh core: every register 0, nothing pending, phase Rest.
+ *
+ * Reads    nothing: what the image held before does not matter
+ * Writes   image
+ * Returns  SGDMA_BAD_SIZE    image_len is not 44
+ *          SGDMA_BAD_MODE    mode is above 2
+ *          SGDMA_BAD_WINDOW  base and length break the limits of a window
+ *          SGDMA_DONE
+ *
+ * Base and length are 64 bits wide, so that a number too large is refused and
+ * not cut.
+ */
+uint32_t sgdma_create(uint8_t *image, size_t image_len,
+                      uint32_t mode, uint64_t base, uint64_t length);
+
+/*
+ * Reads a register.
+ *
+ * Reads    image
+ * Writes   value: the register, 4 bytes
+ * Returns  SGDMA_BAD_SIZE     image_len is not 44 or value_len not 4
+ *          SGDMA_BAD_IMAGE
+ *          SGDMA_NO_REGISTER  offset is not 0, 4 or 8
+ *          SGDMA_DONE
+ */
+uint32_t sgdma_read_register(const uint8_t *image, size_t image_len,
+                             uint32_t offset,
+                             uint8_t *value, size_t value_len);
+
+/*
+ * Writes a register, in any phase.
+ *
+ * Reads    image
+ * Writes   image: the core after the write
+ * Returns  SGDMA_BAD_SIZE     image_len is not 44
+ *          SGDMA_BAD_IMAGE
+ *          SGDMA_NO_REGISTER  offset is not 0, 4 or 8
+ *          SGDMA_DONE
+ *
+ * A write of control with SW_RESET 1, where SW_RESET reads 1 already, makes the
+ * core fresh; mode and window stay, and the rest of the value is ignored. Any
+ * other stores bits 0 to 17; CLEAR_INTERRUPT clears what is pending; RUN going
+ * from 0 to 1 starts the count of descriptors anew; RUN 0 takes a core from
+ * Ended or Halted to Rest, with BUSY 0. RUN 0 in Move does not cut a descriptor
+ * short: the core stops after its WriteBack.
+ */
+uint32_t sgdma_write_register(uint8_t *image, size_t image_len,
+                              uint32_t offset, uint32_t value);
+
+/*
+ * Reads the interrupt line.
+ *
+ * Reads    image
+ * Writes   value: 1 where the line is up, else 0, 4 bytes
+ * Returns  SGDMA_BAD_SIZE   image_len is not 44 or value_len not 4
+ *          SGDMA_BAD_IMAGE
+ *          SGDMA_DONE
+ */
+uint32_t sgdma_line(const uint8_t *image, size_t image_len,
+                    uint8_t *value, size_t value_len);
+
+/*
+ * Takes steps until one cannot be taken or budget steps are taken.
+ *
+ * Reads    image; window; beats, the input stream (used in mode 2)
+ * Writes   image: the core after the run
+ *          window: the bytes moved, and the last four bytes of each descriptor
+ *          written back
+ *          out: the beats made (in mode 1); what lies past them is unchanged
+ *          report: reason, steps, beats taken, beats made
+ * Returns  SGDMA_BAD_SIZE      image_len is not 44 or report_len not 14
+ *          SGDMA_BAD_IMAGE
+ *          SGDMA_ODD_STREAM    beats_len or out_len is odd, in any mode
+ *          SGDMA_OTHER_WINDOW  window_len is not the length given to create
+ *          SGDMA_DONE
+ *
+ * The next run is lent what this one left: the beats from the taken ones on,
+ * the room behind those made. So two runs, with budgets a and b, do what one of
+ * a + b does. With budget 0 no step is taken, and the reason tells how the core
+ * stands.
+ */
+uint32_t sgdma_run(uint8_t *image, size_t image_len,
+                   uint8_t *window, size_t window_len,
+                   const uint8_t *beats, size_t beats_len,
+                   uint8_t *out, size_t out_len,
+                   uint32_t budget,
+                   uint8_t *report, size_t report_len);
+
+/*
+ * Builds the descriptor at a bus address of the window that stands at base.
+ * next, length and control are next_desc_ptr, bytes_to_transfer and
+ * desc_control.
+ *
+ * Reads    nothing
+ * Writes   window: all 32 bytes of the descriptor, with the reserved ones,
+ *          actual_bytes_transferred and desc_status zero
+ * Returns  SGDMA_BAD_WINDOW  base and window_len break the limits of a window
+ *          SGDMA_MISALIGNED  address is not a multiple of 4
+ *          SGDMA_OUTSIDE     the 32 bytes are not in the window
+ *          SGDMA_DONE
+ */
+uint32_t sgdma_build_descriptor(uint8_t *window, size_t window_len,
+                                uint64_t base, uint32_t address,
+                                uint32_t source, uint32_t destination,
+                                uint32_t next, uint16_t length,
+                                uint8_t control);
+
+/*
+ * Reads the descriptor at a bus address of the window that stands at base.
+ *
+ * Reads    window: the descriptor; its reserved bytes do not matter
+ * Writes   answer: every named field, 18 bytes
+ * Returns  SGDMA_BAD_SIZE    answer_len is not 18
+ *          SGDMA_BAD_WINDOW  base and window_len break the limits of a window
+ *          SGDMA_MISALIGNED  address is not a multiple of 4
+ *          SGDMA_OUTSIDE     the 32 bytes are not in the window
+ *          SGDMA_DONE
+ */
+uint32_t sgdma_read_descriptor(const uint8_t *window, size_t window_len,
+                               uint64_t base, uint32_t address,
+                               uint8_t *answer, size_t answer_len);
+
+#ifdef __cplusplus
+}
+#endif
+
+#endif

@@ -1,0 +1,31 @@
+/*
+ * Comparisons that are counted. One that fails is told; the tests go on.
+ */
+#ifndef CHECK_H
+#define CHECK_H
+
+#include <stddef.h>
+#include <stdint.h>
+
+/* The rows of a table. */
+#define COUNT(table) (sizeof(table) / sizeof *(table))
+
+/* Names the case that the next comparisons speak of. */
+void check_case(const char *name);
+
+void check(const char *what, uint64_t found, uint64_t wanted);
+void check_bytes(const char *what, const uint8_t *found, const uint8_t *wanted,
+                 size_t length);
+
+/* Prints 'N passed, M failed'; 0 where none has failed. */
+int check_figures(void);
+
+/* The tests, one function for each file. */
+void test_known_runs(void);
+void test_named_runs(void);
+void test_registers(void);
+void test_interrupts(void);
+void test_layouts(void);
+void test_refusals(void);
+
+#endif

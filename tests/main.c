@@ -1,0 +1,15 @@
+/*
+ * The C calls, and the constants of their header against what the calls do.
+ */
+#include "check.h"
+
+int main(void)
+{
+    test_known_runs();
+    test_named_runs();
+    test_registers();
+    test_interrupts();
+    test_layouts();
+    test_refusals();
+    return check_figures();
+}
