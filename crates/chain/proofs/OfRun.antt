@@ -13,7 +13,7 @@ use Rattle.bus.specs.declared.Refusal.the-variants.{BadImage}
 use Rattle.bus.specs.Window.{keepsLimits}
 use Rattle.image.specs.declared.Fields.{Fields}
 use Rattle.image.specs.Rules.{keepsRules, lowestBroken}
-use Rattle.image.proofs.Facts.{each-rule, each-keeps}
+use Rattle.image.proofs.EachRule.{each-rule, each-keeps}
 use Rattle.machine.specs.declared.Machine.{Machine}
 use Rattle.machine.specs.declared.Mode.the-variants.{StreamToMemory}
 use Rattle.machine.specs.declared.registers.WroteRegister.{WroteRegister}
