@@ -10,7 +10,7 @@ use std::ops::{Deref, DerefMut};
 
 /// Bytes on either side of a lent slice, which no call may touch. Their number
 /// is odd, so that lent slices are not aligned by chance.
-const CANARY: [u8; 13] = [
+pub(crate) const CANARY: [u8; 13] = [
     0xA5, 0x5A, 0xC3, 0x3C, 0x96, 0x69, 0xF0, 0x0F, 0xE1, 0x1E, 0xD2, 0x2D, 0xB4,
 ];
 
@@ -27,6 +27,12 @@ impl Lent {
 
     pub fn canaries_live(&self) -> bool {
         self.guarded.starts_with(&CANARY) && self.guarded.ends_with(&CANARY)
+    }
+
+    /// The slice together with its canaries.
+    #[cfg(have_bridge)]
+    pub(crate) fn guarded_mut(&mut self) -> &mut [u8] {
+        &mut self.guarded
     }
 }
 
@@ -300,11 +306,13 @@ impl<Model: Calls> Party for Model {
     }
 }
 
-/// The library, where it was found when this package was built.
+/// The library, where it could be reached when this package was built.
 pub fn libraries() -> Vec<Box<dyn Party>> {
     #[cfg(have_library)]
     return [true, false]
-        .map(|null_for_empty| Box::new(crate::ffi::Library { null_for_empty }) as Box<dyn Party>)
+        .map(|null_for_empty| {
+            Box::new(crate::library::Library { null_for_empty }) as Box<dyn Party>
+        })
         .into();
     #[cfg(not(have_library))]
     Vec::new()

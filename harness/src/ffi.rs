@@ -1,8 +1,7 @@
-//! The seven calls of the library, as its header declares them.
-//!
-//! Compiled only where the archive was found when this package was built.
+//! The seven calls of the library, linked, as its header declares them.
 
-use crate::call::{Call, Party};
+use crate::call::Call;
+use crate::library::Library;
 
 /// The prototypes: a slice is a pointer and a length.
 pub mod c {
@@ -68,16 +67,9 @@ pub mod c {
     }
 }
 
-/// The library under test.
-#[derive(Clone, Copy, Debug)]
-pub struct Library {
-    /// Whether an empty slice is lent as NULL, as a C caller may do.
-    pub null_for_empty: bool,
-}
-
 impl Library {
     fn lend(self, bytes: &[u8]) -> *const u8 {
-        if self.null_for_empty && bytes.is_empty() {
+        if self.lends_null_for(bytes) {
             std::ptr::null()
         } else {
             bytes.as_ptr()
@@ -85,7 +77,7 @@ impl Library {
     }
 
     fn lend_mut(self, bytes: &mut [u8]) -> *mut u8 {
-        if self.null_for_empty && bytes.is_empty() {
+        if self.lends_null_for(bytes) {
             std::ptr::null_mut()
         } else {
             bytes.as_mut_ptr()
@@ -93,40 +85,34 @@ impl Library {
     }
 }
 
-impl Party for Library {
-    fn name(&self) -> &'static str {
-        "library"
-    }
-
-    #[rustfmt::skip]
-    fn answer(&self, call: &mut Call) -> u32 {
-        // SAFETY: each pointer is lent with the length of its own slice, for the
-        // time of the call only, and no two slices of a call overlap.
-        unsafe {
-            match call {
-                Call::Create { image, mode, base, length } =>
-                    c::sgdma_create(self.lend_mut(image), image.len(), *mode, *base, *length),
-                Call::ReadRegister { image, offset, value } =>
-                    c::sgdma_read_register(self.lend(image), image.len(), *offset,
-                                           self.lend_mut(value), value.len()),
-                Call::WriteRegister { image, offset, value } =>
-                    c::sgdma_write_register(self.lend_mut(image), image.len(), *offset, *value),
-                Call::Line { image, value } =>
-                    c::sgdma_line(self.lend(image), image.len(), self.lend_mut(value), value.len()),
-                Call::Run { image, window, beats, out, budget, report } =>
-                    c::sgdma_run(self.lend_mut(image), image.len(),
-                                 self.lend_mut(window), window.len(),
-                                 self.lend(beats), beats.len(), self.lend_mut(out), out.len(),
-                                 *budget, self.lend_mut(report), report.len()),
-                Call::BuildDescriptor {
-                    window, base, address, source, destination, next, length, control,
-                } =>
-                    c::sgdma_build_descriptor(self.lend_mut(window), window.len(), *base, *address,
-                                              *source, *destination, *next, *length, *control),
-                Call::ReadDescriptor { window, base, address, answer } =>
-                    c::sgdma_read_descriptor(self.lend(window), window.len(), *base, *address,
-                                             self.lend_mut(answer), answer.len()),
-            }
+#[rustfmt::skip]
+pub(crate) fn answer(library: Library, call: &mut Call) -> u32 {
+    // SAFETY: each pointer is lent with the length of its own slice, for the
+    // time of the call only, and no two slices of a call overlap.
+    unsafe {
+        match call {
+            Call::Create { image, mode, base, length } =>
+                c::sgdma_create(library.lend_mut(image), image.len(), *mode, *base, *length),
+            Call::ReadRegister { image, offset, value } =>
+                c::sgdma_read_register(library.lend(image), image.len(), *offset,
+                                       library.lend_mut(value), value.len()),
+            Call::WriteRegister { image, offset, value } =>
+                c::sgdma_write_register(library.lend_mut(image), image.len(), *offset, *value),
+            Call::Line { image, value } =>
+                c::sgdma_line(library.lend(image), image.len(), library.lend_mut(value), value.len()),
+            Call::Run { image, window, beats, out, budget, report } =>
+                c::sgdma_run(library.lend_mut(image), image.len(),
+                             library.lend_mut(window), window.len(),
+                             library.lend(beats), beats.len(), library.lend_mut(out), out.len(),
+                             *budget, library.lend_mut(report), report.len()),
+            Call::BuildDescriptor {
+                window, base, address, source, destination, next, length, control,
+            } =>
+                c::sgdma_build_descriptor(library.lend_mut(window), window.len(), *base, *address,
+                                          *source, *destination, *next, *length, *control),
+            Call::ReadDescriptor { window, base, address, answer } =>
+                c::sgdma_read_descriptor(library.lend(window), window.len(), *base, *address,
+                                         library.lend_mut(answer), answer.len()),
         }
     }
 }

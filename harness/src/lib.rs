@@ -1,7 +1,8 @@
 //! Compares the SG-DMA library, through its C calls, with an independent model.
 //!
 //! - [`model`]: the core as the scope paper describes it, in plain Rust.
-//! - `ffi`: the seven calls of the library, where it was found.
+//! - `library`: the library under test, where it was found; reached by `ffi`
+//!   where it can be linked, or by `bridge` through a program that links it.
 //! - [`call`]: a call as a value, with canaries around every lent slice, and the
 //!   parties that can answer it.
 //! - [`gen`]: random calls that lead to one another.
@@ -11,13 +12,17 @@
 //! - [`firmware`] and [`samples`]: a host that makes only good calls, and good
 //!   images, for tests whose figures are worked out by hand.
 
+#[cfg(have_bridge)]
+mod bridge;
 pub mod call;
 pub mod compare;
 pub mod coverage;
-#[cfg(have_library)]
-pub mod ffi;
+#[cfg(all(have_library, not(have_bridge)))]
+mod ffi;
 pub mod firmware;
 pub mod gen;
+#[cfg(have_library)]
+pub mod library;
 pub mod model;
 pub mod samples;
 pub mod shrink;

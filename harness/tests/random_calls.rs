@@ -1,7 +1,7 @@
 //! Random sequences of calls, each put to the model and to the library, with a
 //! count of what they reached.
 //!
-//! `SGDMA_CALLS` gives a larger number of calls, and `SGDMA_SEED` another seed.
+//! `SGDMA_CALLS` gives another number of calls, and `SGDMA_SEED` another seed.
 
 use harness::call::{libraries, Party};
 use harness::compare::compare;
@@ -10,6 +10,8 @@ use harness::model::Paper;
 use std::env;
 
 const CALLS: u64 = 1_000_000;
+/// No run may make fewer.
+const FEWEST_CALLS: u64 = 200_000;
 const SEED: u64 = 23;
 
 fn from_environment(name: &str, otherwise: u64) -> u64 {
@@ -22,7 +24,7 @@ fn from_environment(name: &str, otherwise: u64) -> u64 {
 /// Compares the model with the party and sees that everything was reached. Each
 /// answer must also be the refusal that the paper's table and order give.
 fn compare_and_cover(party: &dyn Party, seed: u64) {
-    let calls = from_environment("SGDMA_CALLS", CALLS).max(CALLS);
+    let calls = from_environment("SGDMA_CALLS", CALLS).max(FEWEST_CALLS);
     let mut coverage = Coverage::default();
     let outcome = compare(&Paper, party, seed, calls, &mut |call, answer| {
         assert_eq!(answer.returned, first_applying(call), "refusal of\n{call}");

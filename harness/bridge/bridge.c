@@ -1,0 +1,156 @@
+/*
+ * Makes the library's calls for a caller that cannot link it, because the
+ * archive is x86-64 code and the caller is not.
+ *
+ * A frame comes in by stdin: `struct frame`, then each lent slice between its
+ * two canaries. The answer goes out by stdout: the number returned, then each
+ * slice, also one lent as const, between its canaries as the call left them. The
+ * caller chose the canaries and looks at them, so they are not described here.
+ * Every number is of this machine's order: least significant byte first.
+ */
+
+#include <stddef.h>
+#include <stdint.h>
+#include <stdio.h>
+#include <stdlib.h>
+
+uint32_t sgdma_create(uint8_t *image, size_t image_len, uint32_t mode, uint64_t base,
+                      uint64_t length);
+uint32_t sgdma_read_register(const uint8_t *image, size_t image_len, uint32_t offset,
+                             uint8_t *value, size_t value_len);
+uint32_t sgdma_write_register(uint8_t *image, size_t image_len, uint32_t offset,
+                              uint32_t value);
+uint32_t sgdma_line(const uint8_t *image, size_t image_len, uint8_t *value,
+                    size_t value_len);
+uint32_t sgdma_run(uint8_t *image, size_t image_len, uint8_t *window, size_t window_len,
+                   const uint8_t *beats, size_t beats_len, uint8_t *out, size_t out_len,
+                   uint32_t budget, uint8_t *report, size_t report_len);
+uint32_t sgdma_build_descriptor(uint8_t *window, size_t window_len, uint64_t base,
+                                uint32_t address, uint32_t source, uint32_t destination,
+                                uint32_t next, uint16_t length, uint8_t control);
+uint32_t sgdma_read_descriptor(const uint8_t *window, size_t window_len, uint64_t base,
+                               uint32_t address, uint8_t *answer, size_t answer_len);
+
+/* The most that any one call takes. */
+enum { SLICES = 5, NUMBERS = 7 };
+
+enum function {
+    CREATE,
+    READ_REGISTER,
+    WRITE_REGISTER,
+    LINE,
+    RUN,
+    BUILD_DESCRIPTOR,
+    READ_DESCRIPTOR,
+};
+
+/* The numbers and the slices each stand in the order of the prototype. */
+struct frame {
+    uint64_t function;
+    uint64_t canary; /* the bytes on either side of each slice */
+    uint64_t slices;
+    uint64_t numbers[NUMBERS];
+    struct {
+        uint64_t length;
+        uint64_t null;
+    } slice[SLICES];
+};
+
+/* A slice with its canaries, in a heap block of exactly their size. */
+struct lent {
+    uint8_t *block;
+    size_t size;
+    uint8_t *bytes;
+    size_t length;
+};
+
+static void fail(const char *why)
+{
+    fprintf(stderr, "bridge: %s\n", why);
+    exit(EXIT_FAILURE);
+}
+
+static void take(void *to, size_t size)
+{
+    if (fread(to, 1, size, stdin) != size)
+        fail("a frame is cut short");
+}
+
+static void give(const void *from, size_t size)
+{
+    if (fwrite(from, 1, size, stdout) != size)
+        fail("an answer cannot be written");
+}
+
+static struct lent take_slice(size_t length, size_t canary, int null)
+{
+    struct lent lent = {.size = canary + length + canary, .length = length};
+
+    lent.block = malloc(lent.size);
+    if (lent.block == NULL)
+        fail("no memory for a slice");
+    take(lent.block, lent.size);
+    lent.bytes = null ? NULL : lent.block + canary;
+    return lent;
+}
+
+static uint32_t make_call(uint64_t function, const uint64_t *number, const struct lent *lent)
+{
+#define SLICE(place) lent[place].bytes, lent[place].length
+    switch (function) {
+    case CREATE:
+        return sgdma_create(SLICE(0), number[0], number[1], number[2]);
+    case READ_REGISTER:
+        return sgdma_read_register(SLICE(0), number[0], SLICE(1));
+    case WRITE_REGISTER:
+        return sgdma_write_register(SLICE(0), number[0], number[1]);
+    case LINE:
+        return sgdma_line(SLICE(0), SLICE(1));
+    case RUN:
+        return sgdma_run(SLICE(0), SLICE(1), SLICE(2), SLICE(3), number[0], SLICE(4));
+    case BUILD_DESCRIPTOR:
+        return sgdma_build_descriptor(SLICE(0), number[0], number[1], number[2], number[3],
+                                      number[4], number[5], number[6]);
+    case READ_DESCRIPTOR:
+        return sgdma_read_descriptor(SLICE(0), number[0], number[1], SLICE(1));
+    }
+#undef SLICE
+    fail("no such function");
+    return 0;
+}
+
+static void answer(const struct frame *frame)
+{
+    struct lent lent[SLICES] = {0};
+    uint32_t returned;
+
+    if (frame->slices > SLICES)
+        fail("too many slices");
+    for (size_t place = 0; place < frame->slices; place++)
+        lent[place] = take_slice(frame->slice[place].length, frame->canary,
+                                 frame->slice[place].null != 0);
+    returned = make_call(frame->function, frame->numbers, lent);
+    give(&returned, sizeof returned);
+    for (size_t place = 0; place < frame->slices; place++) {
+        give(lent[place].block, lent[place].size);
+        free(lent[place].block);
+    }
+    if (fflush(stdout) != 0)
+        fail("an answer cannot be written");
+}
+
+int main(void)
+{
+    /* So large that nearly every frame is one read and every answer one write. */
+    static char in[1 << 18], out[1 << 18];
+    struct frame frame;
+    size_t got;
+
+    setvbuf(stdin, in, _IOFBF, sizeof in);
+    setvbuf(stdout, out, _IOFBF, sizeof out);
+    while ((got = fread(&frame, 1, sizeof frame, stdin)) == sizeof frame)
+        answer(&frame);
+    if (got != 0)
+        fail("a frame is cut short");
+    return EXIT_SUCCESS;
+}
