@@ -4,7 +4,7 @@
 #
 # SGDMA_LIB_DIR is the directory of libsgdma.a, where it is not the one to which 'rt staticlib sgdma' writes it.
 
-.PHONY: bench speed test
+.PHONY: bench speed test bridge-command
 
 SGDMA_LIB_DIR ?= target/staticlib
 LIBRARY = $(SGDMA_LIB_DIR)/libsgdma.a
@@ -36,10 +36,15 @@ LENT = $(INCLUDE)/sgdma.h $(LIBRARY)
 $(BUILD)/bench: bench/bench.c bench/show.c bench/firmware.c bench/core.c
 $(BUILD)/tests: $(filter-out tests/header.c,$(wildcard tests/*.c)) bench/core.c
 $(BUILD)/example: $(BUILD)/example.c
+$(BUILD)/bridge: harness/bridge/bridge.c
 
-$(BUILD)/bench $(BUILD)/tests $(BUILD)/example: $(LENT) $(wildcard bench/*.h tests/*.h)
+$(BUILD)/bench $(BUILD)/tests $(BUILD)/example $(BUILD)/bridge: $(LENT) $(wildcard bench/*.h tests/*.h)
 	@mkdir -p $(@D)
 	@$(CC) -std=c99 $(CFLAGS) $(WARNINGS) -I$(INCLUDE) -Ibench -o $@ $(filter %.c,$^) $(LIBRARY) $(LDLIBS)
+
+# The command by which the harness reaches the library where it cannot link it.
+bridge-command: $(BUILD)/bridge
+	@echo $(RUN) $(abspath $<)
 
 # The header alone, under the standard that the name ends with.
 $(BUILD)/header-%: tests/header.c $(LENT)

@@ -9,27 +9,10 @@
  * Every number is of this machine's order: least significant byte first.
  */
 
-#include <stddef.h>
-#include <stdint.h>
 #include <stdio.h>
 #include <stdlib.h>
 
-uint32_t sgdma_create(uint8_t *image, size_t image_len, uint32_t mode, uint64_t base,
-                      uint64_t length);
-uint32_t sgdma_read_register(const uint8_t *image, size_t image_len, uint32_t offset,
-                             uint8_t *value, size_t value_len);
-uint32_t sgdma_write_register(uint8_t *image, size_t image_len, uint32_t offset,
-                              uint32_t value);
-uint32_t sgdma_line(const uint8_t *image, size_t image_len, uint8_t *value,
-                    size_t value_len);
-uint32_t sgdma_run(uint8_t *image, size_t image_len, uint8_t *window, size_t window_len,
-                   const uint8_t *beats, size_t beats_len, uint8_t *out, size_t out_len,
-                   uint32_t budget, uint8_t *report, size_t report_len);
-uint32_t sgdma_build_descriptor(uint8_t *window, size_t window_len, uint64_t base,
-                                uint32_t address, uint32_t source, uint32_t destination,
-                                uint32_t next, uint16_t length, uint8_t control);
-uint32_t sgdma_read_descriptor(const uint8_t *window, size_t window_len, uint64_t base,
-                               uint32_t address, uint8_t *answer, size_t answer_len);
+#include "sgdma.h"
 
 /* The most that any one call takes. */
 enum { SLICES = 5, NUMBERS = 7 };
