@@ -229,7 +229,7 @@ impl Machine {
         }
     }
 
-    // OWNED 0: set CHAIN_COMPLETED, pend if IE_CHAIN, go to Ended.
+    // OWNED 0: set CHAIN_COMPLETED, pend if IE_CHAIN, go to Ended; BUSY stays.
     fn ended(self) -> Machine
         ensures { λ r. ⌜ r ≡ endedOf self ⌝ }
     {
@@ -374,20 +374,27 @@ impl Machine {
     }
 
     // Mode 1: 13; then the beat is made, for which there is room.
-    fn send_step(self, k: Work, window: &[u8], out: &mut [u8], made: usize) -> Progress
+    fn send_step(
+        self,
+        k: Work,
+        window: &[u8],
+        taken: usize,
+        out: &mut [u8],
+        made: usize,
+    ) -> Progress
         requires { ⌜ self .window .length ≡ length (now window) ⌝ }
         requires { ⌜ k .moved < 65535 ⌝ }
         requires { ⌜ made ≤ length (now out) / 2 ⌝ }
         requires { ⌜ (inWindow (self .window) (sourceOf k) 1 ≡ true → made < length (now out) / 2) ⌝ }
-        ensures { λ r. ⌜ r .made ≤ length (now (out .entry)) / 2 ⌝ }
-        ensures { λ r. ⌜ ((beats : List ℕ) (taken : ℕ) → Went (λ (w : World). sendStep w k) self (now (window .entry)) beats taken (now (out .entry)) made (progress (r .machine) taken (r .made)) (now (window .entry)) (now (out .exit))) ⌝ }
+        ensures { λ r. ⌜ (r .taken ≡ taken) × (r .made ≤ length (now (out .entry)) / 2) ⌝ }
+        ensures { λ r. ⌜ ((beats : List ℕ) → Went (λ (w : World). sendStep w k) self (now (window .entry)) beats taken (now (out .entry)) made r (now (window .entry)) (now (out .exit))) ⌝ }
     {
         let a = k.read_address();
         let found = self.window.locate(a, 1);
         match found {
             Located::Outside => Progress {
                 machine: self.faulted(13, cut(a)),
-                taken: 0,
+                taken,
                 made,
             },
             Located::At(place) => {
@@ -396,39 +403,47 @@ impl Machine {
                 put_u16(Order::MostFirst, out, 2 * made, beat);
                 Progress {
                     machine: self.onward(k.with_byte(0, false)),
-                    taken: 0,
+                    taken,
                     made: made + 1,
                 }
             }
         }
     }
 
-    // Mode 2: 14, and then the beat is not taken.
-    fn receive_step(self, k: Work, window: &mut [u8], beats: &[u8], taken: usize) -> Progress
+    // Mode 2: 14, and then the next beat is not taken.
+    fn receive_step(
+        self,
+        k: Work,
+        window: &mut [u8],
+        beats: &[u8],
+        next: usize,
+        made: usize,
+    ) -> Progress
         requires { ⌜ self .window .length ≡ length (now window) ⌝ }
         requires { ⌜ k .moved < 65535 ⌝ }
-        requires { ⌜ taken < length (now beats) / 2 ⌝ }
-        ensures { λ r. ⌜ r .taken ≤ length (now (beats .entry)) / 2 ⌝ }
-        ensures { λ r. ⌜ ((out : List ℕ) (made : ℕ) → Went (λ (w : World). receiveFrom w k (w .input)) self (now (window .entry)) (now (beats .entry)) taken out made (progress (r .machine) (r .taken) made) (now (window .exit)) out) ⌝ }
+        requires { ⌜ next < length (now beats) / 2 ⌝ }
+        ensures { λ r. ⌜ (r .taken ≤ length (now (beats .entry)) / 2) × (r .made ≡ made) ⌝ }
+        ensures { λ r. ⌜ ((out : List ℕ) → Went (λ (w : World). receiveFrom w k (w .input)) self (now (window .entry)) (now (beats .entry)) next out made r (now (window .exit)) out) ⌝ }
     {
         let a = k.write_address();
+        let past = next + 1;
         let found = self.window.locate(a, 1);
         match found {
             Located::Outside => Progress {
                 machine: self.faulted(14, cut(a)),
-                taken,
-                made: 0,
+                taken: next,
+                made,
             },
             Located::At(place) => {
                 let at = place.index();
-                let beat = get_u16(Order::MostFirst, beats, 2 * taken);
+                let beat = get_u16(Order::MostFirst, beats, 2 * next);
                 let eop = has(beat as u32, EOP as u32);
                 window[at] = (beat % 256) as u8;
-                let next = k.with_byte((beat / ERROR) as u8, eop);
+                let work = k.with_byte((beat / ERROR) as u8, eop);
                 Progress {
-                    machine: self.onward(next),
-                    taken: taken + 1,
-                    made: 0,
+                    machine: self.onward(work),
+                    taken: past,
+                    made,
                 }
             }
         }
@@ -533,24 +548,8 @@ impl Machine {
                     made,
                 }
             }
-            Mode::MemoryToStream => {
-                let sent = self.send_step(k, window, out, made);
-                let machine = sent.machine;
-                Progress {
-                    machine,
-                    taken,
-                    made: sent.made,
-                }
-            }
-            Mode::StreamToMemory => {
-                let got = self.receive_step(k, window, beats, taken);
-                let machine = got.machine;
-                Progress {
-                    machine,
-                    taken: got.taken,
-                    made,
-                }
-            }
+            Mode::MemoryToStream => self.send_step(k, window, taken, out, made),
+            Mode::StreamToMemory => self.receive_step(k, window, beats, taken, made),
         }
     }
 

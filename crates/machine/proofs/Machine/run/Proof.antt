@@ -36,7 +36,9 @@ enum-told : tie.Need-enum-told Inv-loop μ-loop
 enum-told c = search needs
 
 loop-holds : tie.Need-loop-holds Inv-loop μ-loop
-loop-holds c = let a = c .before .before .before .before .before .before .before .before .args in stands-first (a .self) (a .window .now) (a .beats .now) (a .out .now) (a .budget) (sym (c .before .before .checked .ensures) ∙ ap lentAs (c .enum-told .given .1))
+loop-holds c =
+    let a = c .before .before .before .before .before .before .before .before .args in
+    stands-first (a .self) (a .window .now) (a .beats .now) (a .out .now) (a .budget) (sym (c .before .before .checked .ensures) ∙ ap lentAs (c .enum-told .given .1))
 
 wait-requires : tie.Need-wait-requires Inv-loop μ-loop
 wait-requires c κs = search needs
@@ -51,16 +53,23 @@ sub-advance : tie.Need-sub-advance Inv-loop μ-loop
 sub-advance c = search needs
 
 advance-requires : tie.Need-advance-requires Inv-loop μ-loop
-advance-requires c κs = let a = c .before .before .before .before .before .before .before .before .before .before .before .before .before .before .before .args in let l = c .before .before .before .before .before .before .loop in (l .inv .ready, (l .inv .within, (waits-at (l .machine) (l .window) (a .beats .now) (l .taken) (l .out) (l .made) (c .before .before .before .before .before .wait .ensures) [] ∙ c .before .before .before .enum-told2 .given .1, search needs)))
+advance-requires c κs =
+    let a = c .before .before .before .before .before .before .before .before .before .before .before .before .before .before .before .args in
+    let l = c .before .before .before .before .before .before .loop in
+    (l .inv .ready, (l .inv .within, (waits-at (l .machine) (l .window) (a .beats .now) (l .taken) (l .out) (l .made) (c .before .before .before .before .before .wait .ensures) [] ∙ c .before .before .before .enum-told2 .given .1, search needs)))
 
 add-steps : tie.Need-add-steps Inv-loop μ-loop
-add-steps c = omega (arith, c .before .before .before .before .before .before .advance .ensures .0, c .before .before .before .before .before .before .before .before .before .before .before .before .before .before .before .before .before .before .before .before .before .before .fits .budget, c .before .before .before .before .before .before .before .before .before .before .before .before .before .loop .inv .spent)
+add-steps c =
+    omega (arith, c .before .before .before .before .before .before .advance .ensures .0, c .before .before .before .before .before .before .before .before .before .before .before .before .before .before .before .before .before .before .before .before .before .before .fits .budget, c .before .before .before .before .before .before .before .before .before .before .before .before .before .loop .inv .spent)
 
 loop-less : tie.Need-loop-less Inv-loop μ-loop
 loop-less c = omega (arith, c .before .before .before .before .before .before .advance .ensures .0)
 
 loop-again : tie.Need-loop-again Inv-loop μ-loop
-loop-again c = let a = c .before .before .before .before .before .before .before .before .before .before .before .before .before .before .before .before .before .before .before .before .before .before .args in let l = c .before .before .before .before .before .before .before .before .before .before .before .before .before .loop in stands-on (a .self) (a .window .now) (a .beats .now) (a .out .now) (a .budget) (l .window) (l .out) (l .machine) (l .taken) (l .made) (l .steps) (l .inv) (c .before .before .before .before .before .before .advance .result .steps) _ _ _ _ _ (c .before .before .before .before .before .before .advance .ensures .0 .1) (search needs) (search needs) (c .before .before .before .before .before .before .advance .ensures .1 .0) (c .before .before .before .before .before .before .advance .ensures .1 .1)
+loop-again c =
+    let a = c .before .before .before .before .before .before .before .before .before .before .before .before .before .before .before .before .before .before .before .before .before .before .args in
+    let l = c .before .before .before .before .before .before .before .before .before .before .before .before .before .loop in
+    stands-on (a .self) (a .window .now) (a .beats .now) (a .out .now) (a .budget) (l .window) (l .out) (l .machine) (l .taken) (l .made) (l .steps) (l .inv) (c .before .before .before .before .before .before .advance .result .steps) _ _ _ _ _ (c .before .before .before .before .before .before .advance .ensures .0 .1) (search needs) (search needs) (c .before .before .before .before .before .before .advance .ensures .1 .0) (c .before .before .before .before .before .before .advance .ensures .1 .1)
 
 same-length-3 : tie.Need-same-length-3 Inv-loop μ-loop
 same-length-3 c = search needs
@@ -69,7 +78,10 @@ same-length-4 : tie.Need-same-length-4 Inv-loop μ-loop
 same-length-4 c = search needs
 
 returns-2 : tie.Need-returns-2 Inv-loop μ-loop
-returns-2 c = let a = c .before .before .before .before .before .before .before .before .before .before .before .before .before .args in let l = c .before .before .before .before .loop in stands-stopped (a .self) (a .window .now) (a .beats .now) (a .out .now) (a .budget) (l .window) (l .out) (l .machine) (l .taken) (l .made) (l .steps) (l .inv) _ (waits-at (l .machine) (l .window) (a .beats .now) (l .taken) (l .out) (l .made) (c .before .before .before .wait .ensures) (l .inv .output) ∙ c .before .wait2 .given .1) (sym (c .before .before .before .before .before .before .before .checked .ensures) ∙ ap lentAs (c .before .before .before .before .before .enum-told .given .1))
+returns-2 c =
+    let a = c .before .before .before .before .before .before .before .before .before .before .before .before .before .args in
+    let l = c .before .before .before .before .loop in
+    stands-stopped (a .self) (a .window .now) (a .beats .now) (a .out .now) (a .budget) (l .window) (l .out) (l .machine) (l .taken) (l .made) (l .steps) (l .inv) _ (waits-at (l .machine) (l .window) (a .beats .now) (l .taken) (l .out) (l .made) (c .before .before .before .wait .ensures) (l .inv .output) ∙ c .before .wait2 .given .1) (sym (c .before .before .before .before .before .before .before .checked .ensures) ∙ ap lentAs (c .before .before .before .before .before .enum-told .given .1))
 
 same-length-5 : tie.Need-same-length-5 Inv-loop μ-loop
 same-length-5 c = search needs
@@ -78,7 +90,10 @@ same-length-6 : tie.Need-same-length-6 Inv-loop μ-loop
 same-length-6 c = search needs
 
 returns-3 : tie.Need-returns-3 Inv-loop μ-loop
-returns-3 c = let a = c .before .before .before .before .before .before .before .before .before .before .before .before .before .args in let l = c .before .before .before .before .loop in stands-out (a .self) (a .window .now) (a .beats .now) (a .out .now) (a .budget) (l .window) (l .out) (l .machine) (l .taken) (l .made) (l .steps) (l .inv) (waits-at (l .machine) (l .window) (a .beats .now) (l .taken) (l .out) (l .made) (c .before .before .before .wait .ensures) (l .inv .output) ∙ c .before .enum-told2 .given .1) (sym (c .if1 .taken)) (sym (c .before .before .before .before .before .before .before .checked .ensures) ∙ ap lentAs (c .before .before .before .before .before .enum-told .given .1))
+returns-3 c =
+    let a = c .before .before .before .before .before .before .before .before .before .before .before .before .before .args in
+    let l = c .before .before .before .before .loop in
+    stands-out (a .self) (a .window .now) (a .beats .now) (a .out .now) (a .budget) (l .window) (l .out) (l .machine) (l .taken) (l .made) (l .steps) (l .inv) (waits-at (l .machine) (l .window) (a .beats .now) (l .taken) (l .out) (l .made) (c .before .before .before .wait .ensures) (l .inv .output) ∙ c .before .enum-told2 .given .1) (sym (c .if1 .taken)) (sym (c .before .before .before .before .before .before .before .checked .ensures) ∙ ap lentAs (c .before .before .before .before .before .enum-told .given .1))
 
 pub run-spec : {M : Type 1} → statement M
 run-spec =

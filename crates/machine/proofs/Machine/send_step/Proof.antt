@@ -1,4 +1,4 @@
-use mathlib.Core.Path.{ap, _∙_}
+use mathlib.Core.Path.{refl, ap, _∙_}
 use native.Mathlib.Omega.{arith}
 use Prim.Native.Nat.{ℕ}
 use lib.ListN.{getD}
@@ -31,7 +31,8 @@ index-requires : tie.Need-index-requires
 index-requires c κs = search needs
 
 shared-slice-read-beat : tie.Need-shared-slice-read-beat
-shared-slice-read-beat c = omega (arith, fits (c .before .before .before .before .before .locate .ensures) (c .before .before .before .found .given .1), c .before .index .ensures .value, c .before .before .before .before .before .before .before .before .before .pre .0)
+shared-slice-read-beat c =
+    omega (arith, fits (c .before .before .before .before .before .locate .ensures) (c .before .before .before .found .given .1), c .before .index .ensures .value, c .before .before .before .before .before .before .before .before .before .pre .0)
 
 beat-requires : tie.Need-beat-requires
 beat-requires c κs = search needs
@@ -48,17 +49,26 @@ with-byte-requires c κs = search needs
 onward-requires : tie.Need-onward-requires
 onward-requires c κs = search needs
 
-add-t20 : tie.Need-add-t20
-add-t20 c = omega (arith, c .before .before .before .before .before .before .before .before .before .before .before .before .before .before .before .before .good, c .before .before .before .before .before .before .before .before .before .before .before .before .before .before .before .before .pre .1 .1 .0)
+add-t21 : tie.Need-add-t21
+add-t21 c =
+    omega (arith, c .before .before .before .before .before .before .before .before .before .before .before .before .before .before .before .before .good, c .before .before .before .before .before .before .before .before .before .before .before .before .before .before .before .before .pre .1 .1 .0)
 
 returns : tie.Need-returns
-returns c = (search needs, λ beats taken. simp (c .faulted .ensures, c .before .cut .ensures, c .before .before .before .before .before .read-address .ensures) (send-out _ _ _ _ _ _ _ (outside (c .before .before .before .before .locate .ensures) (c .before .before .before .before .before .read-address .ensures) (c .before .before .enum-told .given .1))))
+returns c =
+    ((refl, c .before .before .before .before .before .before .before .before .pre .1 .1 .0), λ beats. simp (c .faulted .ensures, c .before .cut .ensures, c .before .before .before .before .before .read-address .ensures) (send-out _ _ _ _ _ _ _ (outside (c .before .before .before .before .locate .ensures) (c .before .before .before .before .before .read-address .ensures) (c .before .before .enum-told .given .1))))
 
 same-length : tie.Need-same-length
 same-length c = search needs
 
 returns-2 : tie.Need-returns-2
-returns-2 c = let a = c .before .before .before .before .before .before .before .before .before .before .before .before .before .before .before .before .args in let isin = inside (c .before .before .before .before .before .before .before .before .before .before .before .before .locate .ensures) (c .before .before .before .before .before .before .before .before .before .before .before .before .before .read-address .ensures) (c .before .before .before .before .before .before .before .before .before .before .found .given .1) in let room = c .before .before .before .before .before .before .before .before .before .before .before .before .before .before .before .before .pre .1 .1 .1 isin in (omega (arith, room), λ beats taken. simp (c .onward .ensures, c .before .with-byte .ensures, c .before .before .before .before .put-u16 .ensures .lent) (send-in (a .self) (a .k) (a .window .now) beats taken (a .out .now) (a .made) isin room (c .before .before .before .before .before .before .beat .result) (c .before .before .before .before .before .before .beat .ensures ∙ ap (λ (x : ℕ). beatFor (a .k) (getD (a .window .now) x 0)) (c .before .before .before .before .before .before .before .before .index .ensures .value ∙ place (c .before .before .before .before .before .before .before .before .before .before .before .before .locate .ensures) (c .before .before .before .before .before .before .before .before .before .before .before .before .before .read-address .ensures) (c .before .before .before .before .before .before .before .before .before .before .found .given .1)))))
+returns-2 c =
+    let l = c .before .before .before .before .before .before .before .before .before .before .before .before in
+    let a = l .before .before .before .before .args in
+    let e = c .before .before .before .before .before .before .before .before .before .before .found .given .1 in
+    let inside-it = inside (l .locate .ensures) (l .before .read-address .ensures) e in
+    let room = l .before .before .before .before .pre .1 .1 .1 inside-it in
+    let from = c .before .before .before .before .before .before .before .before .index .ensures .value ∙ place (l .locate .ensures) (l .before .read-address .ensures) e in
+    ((refl, omega (arith, room)), λ beats. simp (c .onward .ensures, c .before .with-byte .ensures, c .before .before .before .before .put-u16 .ensures .lent) (send-in (a .self) (a .k) (a .window .now) beats (a .taken) (a .out .now) (a .made) inside-it room (c .before .before .before .before .before .before .beat .result) (c .before .before .before .before .before .before .beat .ensures ∙ ap (λ (x : ℕ). beatFor (a .k) (getD (a .window .now) x 0)) from)))
 
 pub send-step-spec : {M : Type 1} → statement M
 send-step-spec =
@@ -77,7 +87,7 @@ send-step-spec =
     put-u16-requires
     with-byte-requires
     onward-requires
-    add-t20
+    add-t21
     returns
     same-length
     returns-2)

@@ -43,13 +43,17 @@ same-length-4 : tie.Need-same-length-4
 same-length-4 c = search needs
 
 returns-2 : tie.Need-returns-2
-returns-2 c = let a = c .before .before .before .before .before .before .before .before .before .before .before .before .args in step-stopped (sym (c .before .before .before .before .before .before .checked .ensures) ∙ ap lentAs (c .before .before .before .before .enum-told .given .1)) (wait-stopped _ (sym (c .before .before .before .wait .ensures (a .window .now) (beatsIn (a .beats .now)) [] (length (a .out .now) / 2) (some-beat (a .beats .now) 0) refl) ∙ c .before .wait2 .given .1))
+returns-2 c =
+    let a = c .before .before .before .before .before .before .before .before .before .before .before .before .args in
+    step-stopped (sym (c .before .before .before .before .before .before .checked .ensures) ∙ ap lentAs (c .before .before .before .before .enum-told .given .1)) (wait-stopped _ (sym (c .before .before .before .wait .ensures (a .window .now) (beatsIn (a .beats .now)) [] (length (a .out .now) / 2) (some-beat (a .beats .now) 0) refl) ∙ c .before .wait2 .given .1))
 
 enum-told-2 : tie.Need-enum-told-2
 enum-told-2 c = search needs
 
 step-at-requires : tie.Need-step-at-requires
-step-at-requires c κs = let a = c .before .before .before .before .before .before .before .before .before .before .before .before .before .args in (serves-ready (a .self) (a .window .now) (a .beats .now) (a .out .now) (sym (c .before .before .before .before .before .before .before .checked .ensures) ∙ ap lentAs (c .before .before .before .before .before .enum-told .given .1)), (record { taken-in = search needs; made-in = search needs }, waits-at (a .self) (a .window .now) (a .beats .now) 0 (a .out .now) 0 (c .before .before .before .before .wait .ensures) [] ∙ c .before .before .enum-told2 .given .1))
+step-at-requires c κs =
+    let a = c .before .before .before .before .before .before .before .before .before .before .before .before .before .args in
+    (serves-ready (a .self) (a .window .now) (a .beats .now) (a .out .now) (sym (c .before .before .before .before .before .before .before .checked .ensures) ∙ ap lentAs (c .before .before .before .before .before .enum-told .given .1)), (record { taken-in = search needs; made-in = search needs }, waits-at (a .self) (a .window .now) (a .beats .now) 0 (a .out .now) 0 (c .before .before .before .before .wait .ensures) [] ∙ c .before .before .enum-told2 .given .1))
 
 same-length-5 : tie.Need-same-length-5
 same-length-5 c = search needs
@@ -58,7 +62,8 @@ same-length-6 : tie.Need-same-length-6
 same-length-6 c = search needs
 
 returns-3 : tie.Need-returns-3
-returns-3 c = step-taken (sym (c .before .before .before .before .before .before .before .before .before .before .before .before .checked .ensures) ∙ ap lentAs (c .before .before .before .before .before .before .before .before .before .before .enum-told .given .1)) (c .before .before .before .before .step-at .ensures .0) (c .before .before .before .before .step-at .ensures .1)
+returns-3 c =
+    step-taken (sym (c .before .before .before .before .before .before .before .before .before .before .before .before .checked .ensures) ∙ ap lentAs (c .before .before .before .before .before .before .before .before .before .before .enum-told .given .1)) (c .before .before .before .before .step-at .ensures .0) (c .before .before .before .before .step-at .ensures .1)
 
 pub step-spec : {M : Type 1} → statement M
 step-spec =
