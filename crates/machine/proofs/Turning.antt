@@ -1,9 +1,9 @@
 -- Rules applied in the middle of lent slices.
 -- Assumes nothing.
-use Prim.Native.Nat.{ℕ, zero, suc, _+_, _-_, _*_, _/_, _%_, _^_, _≤_, _<_}
+use Prim.Native.Nat.{ℕ, suc, _+_, _-_, _*_, _/_, _%_, _^_, _<_}
 use mathlib.Core.Path.{_≡_, refl, sym, ap, _∙_}
-use mathlib.Core.Bool.{Bool, true, false}
-use mathlib.Core.List.{List, [], _∷_, _++_, append-nil}
+use mathlib.Core.Bool.{true, false}
+use mathlib.Core.List.{List, [], _∷_, append-nil}
 use native.Mathlib.Nat.{add-zero}
 use native.Mathlib.Omega.{arith}
 use lib.ListN.{length, drop, getD, set}
@@ -16,7 +16,7 @@ use Rattle.machine.specs.declared.Progress.{Progress}
 use Rattle.machine.specs.declared.Work.{Work}
 use Rattle.machine.specs.declared.Phase.the-variants.{Fetch}
 use Rattle.machine.specs.State.{run, withPhase, withBusy}
-use Rattle.machine.specs.Beats.{beatsIn, beatBytes, beatError, beatEop, beatData}
+use Rattle.machine.specs.Beats.{beatsIn, beatError, beatEop, beatData}
 use Rattle.machine.specs.Step.{World, Answer, taken, sourceOf, destinationOf, onward, withByte, beatFor, restStep, sendStep, receiveFrom}
 use Rattle.machine.specs.Turns.{world, worldAt, progress, inFault, Still, Went}
 use Rattle.machine.proofs.Streams.{beatAt, next-beat, none-made, beat-made}

@@ -2,7 +2,6 @@ use Rattle.machine.proofs.Turning.{went-as}
 use Rattle.machine.specs.Turns.{steps}
 use Rattle.machine.specs.Step.{World, step}
 use mathlib.Core.Path.{refl}
-use native.Mathlib.Omega.{arith}
 use borrow.Author.Needs.{needs}
 use Rattle.machine.proofs.Machine.advance.Statement.{statement}
 use Rattle.machine.proofs.Machine.advance.Tie as tie

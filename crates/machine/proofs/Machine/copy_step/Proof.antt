@@ -1,4 +1,3 @@
-use mathlib.Core.Path.{_∙_, sym}
 use native.Mathlib.Omega.{arith}
 use Rattle.machine.proofs.Places.{inside, outside, place, fits}
 use Rattle.machine.specs.Step.{copyStep}

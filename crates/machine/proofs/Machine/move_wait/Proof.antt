@@ -1,5 +1,4 @@
 use Rattle.machine.proofs.Waiting.{move-waits, either-go}
-use mathlib.Core.Bool.{Bool, true, false, cond}
 use mathlib.Core.Path.{_∙_, sym}
 use Rattle.machine.proofs.Places.{inside, outside}
 use Rattle.machine.specs.Turns.{world}

@@ -1,4 +1,4 @@
-use mathlib.Core.Path.{_≡_, ap, sym, _∙_}
+use mathlib.Core.Path.{sym}
 use Rattle.machine.specs.Step.{onward}
 use borrow.Author.Needs.{needs}
 use Rattle.machine.proofs.Machine.onward.Statement.{statement}
