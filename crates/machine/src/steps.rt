@@ -12,7 +12,7 @@ ghost use Rattle.machine.specs.Step.{World, wantsLength, begun as begunO
 ghost use Rattle.machine.specs.Step.{fetched as fetchedOf, fetchStep, copyStep, sendStep, receiveFrom, moveStep, writeBackStep, step as stepOf};
 ghost use Rattle.machine.specs.Run.{lentOf, Stepped};
 ghost use Rattle.machine.specs.declared.Phase.the-variants.{Fetch, Move};
-ghost use Rattle.machine.specs.Turns.{world, inFault, Waits, Goes, lentAs, Within, Still, Went, Ready};
+ghost use Rattle.machine.specs.Turns.{world, progress, inFault, Waits, Goes, lentAs, Within, Still, Went, Ready};
 use crate::Control;
 use crate::Count;
 use crate::Fault;
@@ -195,6 +195,17 @@ impl Machine {
         Machine {
             phase: Phase::Faulted(Fault { code, address }),
             ..m
+        }
+    }
+
+    // The machine, where so many beats are taken and made.
+    fn at(self, taken: usize, made: usize) -> Progress
+        ensures { λ r. ⌜ r ≡ progress self taken made ⌝ }
+    {
+        Progress {
+            machine: self,
+            taken,
+            made,
         }
     }
 
@@ -392,20 +403,12 @@ impl Machine {
         let a = k.read_address();
         let found = self.window.locate(a, 1);
         match found {
-            Located::Outside => Progress {
-                machine: self.faulted(13, cut(a)),
-                taken,
-                made,
-            },
+            Located::Outside => self.faulted(13, cut(a)).at(taken, made),
             Located::At(place) => {
                 let at = place.index();
                 let beat = k.beat(window[at]);
                 put_u16(Order::MostFirst, out, 2 * made, beat);
-                Progress {
-                    machine: self.onward(k.with_byte(0, false)),
-                    taken,
-                    made: made + 1,
-                }
+                self.onward(k.with_byte(0, false)).at(taken, made + 1)
             }
         }
     }
@@ -429,22 +432,14 @@ impl Machine {
         let past = next + 1;
         let found = self.window.locate(a, 1);
         match found {
-            Located::Outside => Progress {
-                machine: self.faulted(14, cut(a)),
-                taken: next,
-                made,
-            },
+            Located::Outside => self.faulted(14, cut(a)).at(next, made),
             Located::At(place) => {
                 let at = place.index();
                 let beat = get_u16(Order::MostFirst, beats, 2 * next);
                 let eop = has(beat as u32, EOP as u32);
                 window[at] = (beat % 256) as u8;
                 let work = k.with_byte((beat / ERROR) as u8, eop);
-                Progress {
-                    machine: self.onward(work),
-                    taken: past,
-                    made,
-                }
+                self.onward(work).at(past, made)
             }
         }
     }
@@ -540,14 +535,7 @@ impl Machine {
     {
         let mode = self.mode;
         match mode {
-            Mode::MemoryToMemory => {
-                let machine = self.copy_step(k, window);
-                Progress {
-                    machine,
-                    taken,
-                    made,
-                }
-            }
+            Mode::MemoryToMemory => self.copy_step(k, window).at(taken, made),
             Mode::MemoryToStream => self.send_step(k, window, taken, out, made),
             Mode::StreamToMemory => self.receive_step(k, window, beats, taken, made),
         }
@@ -570,37 +558,13 @@ impl Machine {
     {
         let phase = self.phase;
         match phase {
-            Phase::Rest => Progress {
-                machine: self.started(),
-                taken,
-                made,
-            },
-            Phase::Fetch => Progress {
-                machine: self.fetch_step(window),
-                taken,
-                made,
-            },
+            Phase::Rest => self.started().at(taken, made),
+            Phase::Fetch => self.fetch_step(window).at(taken, made),
             Phase::Move(k) => self.move_step(k, window, beats, taken, out, made),
-            Phase::WriteBack(k) => Progress {
-                machine: self.write_back_step(k, window),
-                taken,
-                made,
-            },
-            Phase::Ended => Progress {
-                machine: self,
-                taken,
-                made,
-            },
-            Phase::Halted => Progress {
-                machine: self,
-                taken,
-                made,
-            },
-            Phase::Faulted(_) => Progress {
-                machine: self,
-                taken,
-                made,
-            },
+            Phase::WriteBack(k) => self.write_back_step(k, window).at(taken, made),
+            Phase::Ended => self.at(taken, made),
+            Phase::Halted => self.at(taken, made),
+            Phase::Faulted(_) => self.at(taken, made),
         }
     }
 

@@ -27,6 +27,9 @@ enum-told c = search needs
 copy-step-requires : tie.Need-copy-step-requires
 copy-step-requires c κs = search needs
 
+at-requires : tie.Need-at-requires
+at-requires c κs = search needs
+
 enum-told-2 : tie.Need-enum-told-2
 enum-told-2 c = search needs
 
@@ -52,8 +55,9 @@ same-length c = search needs
 
 returns : tie.Need-returns
 returns c =
-    let s = c .before .before .before .before .before .before .before .before .before in
-    (s .pre .1 .1 .0, is-move s (c .before .before .before .before .enum-told .given .1) (went-still _ _ _ _ _ _ _ _ _ (c .before .before .copy-step .ensures)))
+    let s = c .before .before .before .before .before .before .before .before .before .before in
+    let copied = went-still _ _ _ _ _ _ _ _ _ (c .before .before .before .copy-step .ensures) in
+    simp (c .at .ensures) (s .pre .1 .1 .0, is-move s (c .before .before .before .before .before .enum-told .given .1) copied)
 
 same-length-2 : tie.Need-same-length-2
 same-length-2 c = search needs
@@ -86,6 +90,7 @@ move-step-spec =
     (tie.spec
     enum-told
     copy-step-requires
+    at-requires
     enum-told-2
     send-step-requires
     enum-told-3

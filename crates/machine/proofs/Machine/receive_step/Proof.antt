@@ -24,6 +24,9 @@ cut-requires c κs = search needs
 faulted-requires : tie.Need-faulted-requires
 faulted-requires c κs = search needs
 
+at-requires : tie.Need-at-requires
+at-requires c κs = search needs
+
 enum-known-found : tie.Need-enum-known-found
 enum-known-found c = search needs
 
@@ -49,8 +52,7 @@ cast-window : tie.Need-cast-window
 cast-window c = search needs
 
 slice-write-window : tie.Need-slice-write-window
-slice-write-window c =
-    omega (arith, fits (c .before .before .before .before .before .before .locate .ensures) (c .before .before .before .before .found .given .1), c .before .before .index .ensures .value, c .before .before .before .before .before .before .before .before .before .before .pre .0)
+slice-write-window c = omega (arith, fits (c .before .before .before .before .before .before .locate .ensures) (c .before .before .before .before .found .given .1), c .before .before .index .ensures .value, c .before .before .before .before .before .before .before .before .before .before .pre .0)
 
 cast-with-byte : tie.Need-cast-with-byte
 cast-with-byte c = search needs
@@ -61,19 +63,35 @@ with-byte-requires c κs = search needs
 onward-requires : tie.Need-onward-requires
 onward-requires c κs = search needs
 
+at-requires-2 : tie.Need-at-requires-2
+at-requires-2 c κs = search needs
+
 returns : tie.Need-returns
 returns c =
-    ((search needs, refl), λ out. simp (c .faulted .ensures, c .before .cut .ensures, c .before .before .before .before .before .write-address .ensures) (receive-out _ _ _ _ _ _ _ (c .before .before .before .before .before .before .before .before .pre .1 .1) (outside (c .before .before .before .before .locate .ensures) (c .before .before .before .before .before .write-address .ensures) (c .before .before .enum-told .given .1))))
+    let l = c .before .before .before .before .before in
+    let some = l .before .before .before .before .pre .1 .1 in
+    let missed = outside (l .locate .ensures) (l .before .write-address .ensures) (c .before .before .before .enum-told .given .1) in
+    simp (c .at .ensures) (
+      (omega (arith, some), refl),
+      λ out. simp (c .before .faulted .ensures, c .before .before .cut .ensures, l .before .write-address .ensures) (receive-out _ _ _ _ _ _ _ some missed),
+    )
 
 same-length : tie.Need-same-length
 same-length c = search needs
 
 returns-2 : tie.Need-returns-2
 returns-2 c =
-    let l = c .before .before .before .before .before .before .before .before in
-    let e = c .before .before .before .before .before .before .found .given .1 in
+    let l = c .before .before .before .before .before .before .before .before .before in
     let some = l .before .before .before .before .pre .1 .1 in
-    ((omega (arith, some), refl), λ out. simp (c .onward .ensures, c .before .with-byte .ensures, c .before .before .has .ensures, c .before .before .before .get-u16 .ensures .value, c .before .before .before .before .index .ensures .value, place (l .locate .ensures) (l .before .write-address .ensures) e) (receive-in _ _ _ _ _ _ _ some (inside (l .locate .ensures) (l .before .write-address .ensures) e)))
+    let e = c .before .before .before .before .before .before .before .found .given .1 in
+    let to = place (l .locate .ensures) (l .before .write-address .ensures) e in
+    let beat = c .before .before .before .before .get-u16 .ensures .value in
+    simp (c .at2 .ensures) (
+      (omega (arith, some), refl),
+      λ out.
+          simp (c .before .onward .ensures, c .before .before .with-byte .ensures, c .before .before .before .has .ensures, beat, c .before .before .before .before .before .index .ensures .value, to)
+          (receive-in _ _ _ _ _ _ _ some (inside (l .locate .ensures) (l .before .write-address .ensures) e)),
+    )
 
 pub receive-step-spec : {M : Type 1} → statement M
 receive-step-spec =
@@ -85,6 +103,7 @@ receive-step-spec =
     enum-told
     cut-requires
     faulted-requires
+    at-requires
     enum-known-found
     index-requires
     mul-get-u16
@@ -97,6 +116,7 @@ receive-step-spec =
     cast-with-byte
     with-byte-requires
     onward-requires
+    at-requires-2
     returns
     same-length
     returns-2)

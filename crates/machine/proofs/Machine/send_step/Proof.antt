@@ -24,6 +24,9 @@ cut-requires c κs = search needs
 faulted-requires : tie.Need-faulted-requires
 faulted-requires c κs = search needs
 
+at-requires : tie.Need-at-requires
+at-requires c κs = search needs
+
 enum-known-found : tie.Need-enum-known-found
 enum-known-found c = search needs
 
@@ -31,8 +34,7 @@ index-requires : tie.Need-index-requires
 index-requires c κs = search needs
 
 shared-slice-read-beat : tie.Need-shared-slice-read-beat
-shared-slice-read-beat c =
-    omega (arith, fits (c .before .before .before .before .before .locate .ensures) (c .before .before .before .found .given .1), c .before .index .ensures .value, c .before .before .before .before .before .before .before .before .before .pre .0)
+shared-slice-read-beat c = omega (arith, fits (c .before .before .before .before .before .locate .ensures) (c .before .before .before .found .given .1), c .before .index .ensures .value, c .before .before .before .before .before .before .before .before .before .pre .0)
 
 beat-requires : tie.Need-beat-requires
 beat-requires c κs = search needs
@@ -49,26 +51,40 @@ with-byte-requires c κs = search needs
 onward-requires : tie.Need-onward-requires
 onward-requires c κs = search needs
 
-add-t21 : tie.Need-add-t21
-add-t21 c =
-    omega (arith, c .before .before .before .before .before .before .before .before .before .before .before .before .before .before .before .before .good, c .before .before .before .before .before .before .before .before .before .before .before .before .before .before .before .before .pre .1 .1 .0)
+add-at : tie.Need-add-at
+add-at c = omega (arith, c .before .before .before .before .before .before .before .before .before .before .before .before .before .before .before .before .good, c .before .before .before .before .before .before .before .before .before .before .before .before .before .before .before .before .pre .1 .1 .0)
+
+at-requires-2 : tie.Need-at-requires-2
+at-requires-2 c κs = search needs
 
 returns : tie.Need-returns
 returns c =
-    ((refl, c .before .before .before .before .before .before .before .before .pre .1 .1 .0), λ beats. simp (c .faulted .ensures, c .before .cut .ensures, c .before .before .before .before .before .read-address .ensures) (send-out _ _ _ _ _ _ _ (outside (c .before .before .before .before .locate .ensures) (c .before .before .before .before .before .read-address .ensures) (c .before .before .enum-told .given .1))))
+    let l = c .before .before .before .before .before in
+    let missed = outside (l .locate .ensures) (l .before .read-address .ensures) (c .before .before .before .enum-told .given .1) in
+    simp (c .at .ensures) (
+      (refl, l .before .before .before .before .pre .1 .1 .0),
+      λ beats. simp (c .before .faulted .ensures, c .before .before .cut .ensures, l .before .read-address .ensures) (send-out _ _ _ _ _ _ _ missed),
+    )
 
 same-length : tie.Need-same-length
 same-length c = search needs
 
 returns-2 : tie.Need-returns-2
 returns-2 c =
-    let l = c .before .before .before .before .before .before .before .before .before .before .before .before in
-    let a = l .before .before .before .before .args in
-    let e = c .before .before .before .before .before .before .before .before .before .before .found .given .1 in
+    let l = c .before .before .before .before .before .before .before .before .before .before .before .before .before in
+    let s = l .before .before .before .before in
+    let a = s .args in
+    let e = c .before .before .before .before .before .before .before .before .before .before .before .found .given .1 in
     let inside-it = inside (l .locate .ensures) (l .before .read-address .ensures) e in
-    let room = l .before .before .before .before .pre .1 .1 .1 inside-it in
-    let from = c .before .before .before .before .before .before .before .before .index .ensures .value ∙ place (l .locate .ensures) (l .before .read-address .ensures) e in
-    ((refl, omega (arith, room)), λ beats. simp (c .onward .ensures, c .before .with-byte .ensures, c .before .before .before .before .put-u16 .ensures .lent) (send-in (a .self) (a .k) (a .window .now) beats (a .taken) (a .out .now) (a .made) inside-it room (c .before .before .before .before .before .before .beat .result) (c .before .before .before .before .before .before .beat .ensures ∙ ap (λ (x : ℕ). beatFor (a .k) (getD (a .window .now) x 0)) from)))
+    let room = s .pre .1 .1 .1 inside-it in
+    let from = c .before .before .before .before .before .before .before .before .before .index .ensures .value ∙ place (l .locate .ensures) (l .before .read-address .ensures) e in
+    let beat = c .before .before .before .before .before .before .before .beat .ensures ∙ ap (λ (x : ℕ). beatFor (a .k) (getD (a .window .now) x 0)) from in
+    simp (c .at2 .ensures) (
+      (refl, omega (arith, room)),
+      λ beats.
+          simp (c .before .onward .ensures, c .before .before .with-byte .ensures, c .before .before .before .before .before .put-u16 .ensures .lent)
+          (send-in (a .self) (a .k) (a .window .now) beats (a .taken) (a .out .now) (a .made) inside-it room (c .before .before .before .before .before .before .before .beat .result) beat),
+    )
 
 pub send-step-spec : {M : Type 1} → statement M
 send-step-spec =
@@ -79,6 +95,7 @@ send-step-spec =
     enum-told
     cut-requires
     faulted-requires
+    at-requires
     enum-known-found
     index-requires
     shared-slice-read-beat
@@ -87,7 +104,8 @@ send-step-spec =
     put-u16-requires
     with-byte-requires
     onward-requires
-    add-t21
+    add-at
+    at-requires-2
     returns
     same-length
     returns-2)

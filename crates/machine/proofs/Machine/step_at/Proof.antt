@@ -35,11 +35,17 @@ enum-told c = search needs
 started-requires : tie.Need-started-requires
 started-requires c κs = search needs
 
+at-requires : tie.Need-at-requires
+at-requires c κs = search needs
+
 enum-told-2 : tie.Need-enum-told-2
 enum-told-2 c = search needs
 
 fetch-step-requires : tie.Need-fetch-step-requires
 fetch-step-requires c κs = search needs
+
+at-requires-2 : tie.Need-at-requires-2
+at-requires-2 c κs = search needs
 
 enum-known-phase : tie.Need-enum-known-phase
 enum-known-phase c = search needs
@@ -60,30 +66,42 @@ write-back-step-requires c κs =
     let s = c .before .before .before .before .before .before .before in
     subst (λ (x : Phase). Placed (s .args .self) x) (c .before .before .phase2 .given .1) (s .pre .0 .placed)
 
+at-requires-3 : tie.Need-at-requires-3
+at-requires-3 c κs = search needs
+
 enum-told-3 : tie.Need-enum-told-3
 enum-told-3 c = search needs
+
+at-requires-4 : tie.Need-at-requires-4
+at-requires-4 c κs = search needs
 
 enum-told-4 : tie.Need-enum-told-4
 enum-told-4 c = search needs
 
+at-requires-5 : tie.Need-at-requires-5
+at-requires-5 c κs = search needs
+
 enum-told-5 : tie.Need-enum-told-5
 enum-told-5 c = search needs
 
+at-requires-6 : tie.Need-at-requires-6
+at-requires-6 c κs = search needs
+
 returns : tie.Need-returns
 returns c =
-    let s = c .before .before .before .before .before .before in
-    let e = c .before .enum-told .given .1 in
-    let starts = went-still restStep _ _ _ _ _ _ _ _ (rest-starts _ _ _ (rest-runs _ (can s e)) (c .started .ensures)) in
-    (s .pre .1 .0, is-step s e restStep (λ memory input output room. refl) starts)
+    let s = c .before .before .before .before .before .before .before in
+    let e = c .before .before .enum-told .given .1 in
+    let starts = went-still restStep _ _ _ _ _ _ _ _ (rest-starts _ _ _ (rest-runs _ (can s e)) (c .before .started .ensures)) in
+    simp (c .at .ensures) (s .pre .1 .0, is-step s e restStep (λ memory input output room. refl) starts)
 
 same-length : tie.Need-same-length
 same-length c = search needs
 
 returns-2 : tie.Need-returns-2
 returns-2 c =
-    let s = c .before .before .before .before .before .before .before in
-    let still = went-still fetchStep _ _ _ _ _ _ _ _ (c .fetch-step .ensures) in
-    (s .pre .1 .0, is-step s (c .before .before .enum-told2 .given .1) fetchStep (λ memory input output room. refl) still)
+    let s = c .before .before .before .before .before .before .before .before in
+    let still = went-still fetchStep _ _ _ _ _ _ _ _ (c .before .fetch-step .ensures) in
+    simp (c .at2 .ensures) (s .pre .1 .0, is-step s (c .before .before .before .enum-told2 .given .1) fetchStep (λ memory input output room. refl) still)
 
 same-length-2 : tie.Need-same-length-2
 same-length-2 c = search needs
@@ -103,19 +121,20 @@ same-length-4 c = search needs
 
 returns-4 : tie.Need-returns-4
 returns-4 c =
-    let s = c .before .before .before .before .before .before .before .before .before .before in
-    let k = c .before .before .before .before .before .phase2 .given .0 .0 in
-    let still = went-still (λ (w : World). writeBackStep w k) _ _ _ _ _ _ _ _ (c .before .before .write-back-step .ensures) in
-    (s .pre .1 .0, is-step s (c .before .before .before .before .before .phase2 .given .1) (λ (w : World). writeBackStep w k) (λ memory input output room. refl) still)
+    let s = c .before .before .before .before .before .before .before .before .before .before .before in
+    let k = c .before .before .before .before .before .before .phase2 .given .0 .0 in
+    let still = went-still (λ (w : World). writeBackStep w k) _ _ _ _ _ _ _ _ (c .before .before .before .write-back-step .ensures) in
+    simp (c .at3 .ensures)
+    (s .pre .1 .0, is-step s (c .before .before .before .before .before .before .phase2 .given .1) (λ (w : World). writeBackStep w k) (λ memory input output room. refl) still)
 
 returns-5 : tie.Need-returns-5
-returns-5 c = absurd (never-goes (can (c .before .before .before .before .before) (c .enum-told3 .given .1)))
+returns-5 c = absurd (never-goes (can (c .before .before .before .before .before .before) (c .before .enum-told3 .given .1)))
 
 returns-6 : tie.Need-returns-6
-returns-6 c = absurd (never-goes (can (c .before .before .before .before .before) (c .enum-told4 .given .1)))
+returns-6 c = absurd (never-goes (can (c .before .before .before .before .before .before) (c .before .enum-told4 .given .1)))
 
 returns-7 : tie.Need-returns-7
-returns-7 c = absurd (never-goes (can (c .before .before .before .before .before) (c .enum-told5 .given .1)))
+returns-7 c = absurd (never-goes (can (c .before .before .before .before .before .before) (c .before .enum-told5 .given .1)))
 
 pub step-at-spec : {M : Type 1} → statement M
 step-at-spec =
@@ -123,15 +142,21 @@ step-at-spec =
     (tie.spec
     enum-told
     started-requires
+    at-requires
     enum-told-2
     fetch-step-requires
+    at-requires-2
     enum-known-phase
     move-step-requires
     enum-known-phase-2
     write-back-step-requires
+    at-requires-3
     enum-told-3
+    at-requires-4
     enum-told-4
+    at-requires-5
     enum-told-5
+    at-requires-6
     returns
     same-length
     returns-2
