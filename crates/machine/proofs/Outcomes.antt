@@ -1,9 +1,9 @@
 -- What a step and a run promise, from what the code found.
 -- Assumes nothing.
-use Prim.Native.Nat.{ℕ, zero, suc, _+_, _-_, _*_, _/_, _≤_}
+use Prim.Native.Nat.{ℕ, _+_, _-_, _*_, _/_, _≤_}
 use mathlib.Core.Path.{_≡_, refl, sym, ap, _∙_}
 use mathlib.Core.Bool.{Bool, true, false, cond, _&&_}
-use mathlib.Core.List.{List, [], _∷_, _++_}
+use mathlib.Core.List.{List, [], _++_}
 use native.Mathlib.Nat.{zero-add, sub-zero}
 use native.Mathlib.Omega.{arith}
 use lib.Dec.{eqb}
@@ -17,12 +17,11 @@ use Rattle.machine.specs.declared.Progress.{Progress}
 use Rattle.machine.specs.declared.Reason.{Reason}
 use Rattle.machine.specs.declared.StepAnswer.{StepAnswer}
 use Rattle.machine.specs.declared.StepAnswer.the-variants as one
-use Rattle.machine.specs.declared.RunAnswer.the-variants as many
-use Rattle.machine.specs.declared.steps.Wait.the-variants.{Go, Stop}
+use Rattle.machine.specs.declared.steps.Wait.the-variants.{Stop}
 use Rattle.machine.specs.Saved.{keeps}
 use Rattle.machine.specs.Beats.{beatsIn, beatBytes}
-use Rattle.machine.specs.Step.{World, Answer, taken, stopped, step}
-use Rattle.machine.specs.Run.{Lent, serves, refused, even, lentOf, worldOf, takenSince, outputOver, steppedAs, worldAfter, stepAnswer, windowAfter, outAfter, Stepped}
+use Rattle.machine.specs.Step.{Answer, taken, stopped, step}
+use Rattle.machine.specs.Run.{Lent, serves, refused, even, lentOf, worldOf, outputOver, steppedAs, worldAfter, stepAnswer, windowAfter, outAfter, Stepped}
 use Rattle.machine.specs.Turns.{worldAt, waitOf, Within, Went, Ready}
 use Rattle.machine.proofs.Streams.{length-beats, length-beat-bytes}
 use Rattle.machine.proofs.Readiness.{keeps-ready}

@@ -2,7 +2,7 @@
 -- Assumes nothing.
 use Prim.Native.Nat.{ℕ, _+_, _≤_}
 use mathlib.Core.Path.{_≡_, sym, ap, _∙_}
-use mathlib.Core.Bool.{Bool, true, false}
+use mathlib.Core.Bool.{true, false}
 use Rattle.bus.specs.declared.Window.{Window}
 use Rattle.bus.specs.declared.Place.{Place}
 use Rattle.bus.specs.declared.Located.{Located}

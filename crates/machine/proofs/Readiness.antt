@@ -1,16 +1,16 @@
 -- A machine that keeps the image rules is ready for a step, and a step leaves it ready for the next.
 -- Assumes nothing.
-use Prim.Native.Nat.{ℕ, zero, suc, _+_, _%_, _^_, _≤_, _<_}
-use mathlib.Core.Path.{_≡_, refl, sym, ap, subst, _∙_}
+use Prim.Native.Nat.{ℕ, zero, suc, _%_, _≤_, _<_}
+use mathlib.Core.Path.{_≡_, refl, sym, ap, subst}
 use mathlib.Core.Bool.{Bool, true, false, not, cond, _&&_, _||_, true≢false}
 use mathlib.Core.List.{List, [], _∷_}
 use native.Mathlib.Omega.{arith}
 use lib.Dec.{eqb}
 use lib.ListN.{length}
 use borrow.Author.Tests.{eqb-true, eqb-false}
-use Rattle.bus.specs.Window.{inWindow, placeOf}
+use Rattle.bus.specs.Window.{inWindow}
 use Rattle.descriptor.specs.declared.Descriptor.{Descriptor}
-use Rattle.descriptor.specs.Layout.{owned, descriptorAt}
+use Rattle.descriptor.specs.Layout.{owned}
 use Rattle.image.specs.Rules.{asked, keepsRules, lowestBroken}
 use Rattle.image.specs.Rules as rules
 use Rattle.image.proofs.Facts.{move-lt, address-inside}

@@ -1,25 +1,22 @@
 -- Where a run stands in the middle of what it is lent: what the loop keeps, and what it promises where it ends.
 -- Assumes nothing.
-use Prim.Native.Nat.{ℕ, zero, suc, _+_, _-_, _*_, _/_, _≤_}
+use Prim.Native.Nat.{ℕ, _+_, _-_, _*_, _/_, _≤_}
 use mathlib.Core.Path.{_≡_, refl, sym, ap, _∙_}
-use mathlib.Core.List.{List, [], _∷_, _++_}
-use native.Mathlib.Nat.{zero-add, add-zero, sub-zero}
+use mathlib.Core.List.{List, [], _++_}
+use native.Mathlib.Nat.{add-zero, sub-zero}
 use native.Mathlib.Omega.{arith}
 use lib.ListN.{length, drop, length-append}
 use Rattle.words.specs.Slices.{put}
 use Rattle.words.proofs.Slices.{put-put}
 use Rattle.bus.specs.declared.Refusal.{Refusal}
 use Rattle.machine.specs.declared.Machine.{Machine}
-use Rattle.machine.specs.declared.Ran.{Ran}
 use Rattle.machine.specs.declared.Reason.{Reason}
 use Rattle.machine.specs.declared.Reason.the-variants as reason
-use Rattle.machine.specs.declared.RunAnswer.{RunAnswer}
 use Rattle.machine.specs.declared.RunAnswer.the-variants as many
-use Rattle.machine.specs.declared.steps.Wait.{Wait}
 use Rattle.machine.specs.declared.steps.Wait.the-variants.{Go, Stop}
 use Rattle.machine.specs.Beats.{beatsIn, beatBytes}
-use Rattle.machine.specs.Step.{World, Answer, taken, step}
-use Rattle.machine.specs.Run.{Report, run, Lent, serves, refused, lentOf, worldOf, takenSince, outputOver, ranAs, runAnswer, windowAfter, outAfter, HasRun}
+use Rattle.machine.specs.Step.{World, taken, step}
+use Rattle.machine.specs.Run.{Report, run, Lent, serves, refused, lentOf, worldOf, outputOver, ranAs, runAnswer, windowAfter, outAfter, HasRun}
 use Rattle.machine.specs.Turns.{worldAt, progress, waitOf, steps, Within, Went, Ready}
 use Rattle.machine.proofs.Streams.{length-beat-bytes, beat-bytes-append, none-made}
 use Rattle.machine.proofs.Readiness.{steps-ready}

@@ -3,16 +3,16 @@
 use Prim.Native.Nat.{ℕ, zero, suc, _+_, _-_, _*_, _/_, _≤_, _<_}
 use mathlib.Core.Path.{_≡_, refl, sym, ap, _∙_}
 use mathlib.Core.Bool.{Bool, true, false}
-use mathlib.Core.List.{List, [], _∷_, _++_, append-nil}
-use native.Mathlib.Nat.{add-zero, suc-ne-zero}
+use mathlib.Core.List.{List, [], _∷_, _++_}
+use native.Mathlib.Nat.{add-zero}
 use native.Mathlib.Omega.{arith}
-use lib.ListN.{length, take, drop, length-append, length-drop, take-append-drop, drop-of-length-le}
+use lib.ListN.{length, drop, take-append-drop, drop-of-length-le}
 use lib.Dec.{ltb}
 use borrow.Author.Tests.{lt-ltb, le-ltb, ltb-true, ltb-false}
 use Rattle.words.specs.declared.Order.the-variants.{MostFirst}
-use Rattle.words.specs.Orders.{bytesOf, numberOf}
+use Rattle.words.specs.Orders.{bytesOf}
 use Rattle.words.specs.Slices.{put, putAt, numberAt}
-use Rattle.words.proofs.Slices.{put-in, put-put, number-in}
+use Rattle.words.proofs.Slices.{put-in, number-in}
 use Rattle.machine.specs.Beats.{beatsIn, beatBytes}
 use Rattle.machine.specs.Turns.{some}
 

@@ -1,9 +1,9 @@
 -- Rules applied in the middle of lent slices.
 -- Assumes nothing.
-use Prim.Native.Nat.{ℕ, zero, suc, _+_, _-_, _*_, _/_, _%_, _^_, _≤_, _<_}
+use Prim.Native.Nat.{ℕ, suc, _+_, _-_, _*_, _/_, _%_, _^_, _<_}
 use mathlib.Core.Path.{_≡_, refl, sym, ap, _∙_}
-use mathlib.Core.Bool.{Bool, true, false}
-use mathlib.Core.List.{List, [], _∷_, _++_, append-nil}
+use mathlib.Core.Bool.{true, false}
+use mathlib.Core.List.{List, [], _∷_, append-nil}
 use native.Mathlib.Nat.{add-zero}
 use native.Mathlib.Omega.{arith}
 use lib.ListN.{length, drop, getD, set}
@@ -14,8 +14,10 @@ use Rattle.bus.specs.Window.{inWindow, placeOf}
 use Rattle.machine.specs.declared.Machine.{Machine}
 use Rattle.machine.specs.declared.Progress.{Progress}
 use Rattle.machine.specs.declared.Work.{Work}
-use Rattle.machine.specs.Beats.{beatsIn, beatBytes, beatError, beatEop, beatData}
-use Rattle.machine.specs.Step.{World, Answer, taken, sourceOf, destinationOf, onward, withByte, beatFor, sendStep, receiveFrom}
+use Rattle.machine.specs.declared.Phase.the-variants.{Fetch}
+use Rattle.machine.specs.State.{run, withPhase, withBusy}
+use Rattle.machine.specs.Beats.{beatsIn, beatError, beatEop, beatData}
+use Rattle.machine.specs.Step.{World, Answer, taken, sourceOf, destinationOf, onward, withByte, beatFor, restStep, sendStep, receiveFrom}
 use Rattle.machine.specs.Turns.{world, worldAt, progress, inFault, Still, Went}
 use Rattle.machine.proofs.Streams.{beatAt, next-beat, none-made, beat-made}
 
@@ -42,6 +44,12 @@ pub went-as : (other rule : World → Answer) {m : Machine} {window beats : List
     → Went other m window beats took out made r window' out' → Went rule m window beats took out made r window' out'
 went-as other rule e g =
     record { new = g .new; counted = g .counted; wrote = g .wrote; goes = λ o. e _ _ _ _ ∙ g .goes o }
+
+-- Rest, RUN 1
+pub rest-starts : (m m' : Machine) (memory : List ℕ) → run (m .control) ≡ true → m' ≡ withPhase Fetch (withBusy true m)
+    → Still restStep m memory m' memory
+unfolding restStep
+rest-starts m m' memory e f = λ input output room. rw (e, f)
 
 -- mode 1
 module _ (m : Machine) (k : Work) (window beats : List ℕ) (took : ℕ) (out : List ℕ) (made : ℕ) where

@@ -1,14 +1,14 @@
 // One step, by phase, in the paper's order.
 ghost use mathlib.Core.Path.{_≡_};
-ghost use mathlib.Core.Bool.{Bool, true, cond};
+ghost use mathlib.Core.Bool.{true, cond};
 ghost use mathlib.Core.List.{List};
 ghost use Prim.Native.Nat.{ℕ, _+_, _%_, _/_, _^_, _≤_, _<_};
-ghost use lib.ListN.{length, drop};
+ghost use lib.ListN.{length};
 ghost use Rattle.bus.specs.Window.{inWindow};
 ghost use Rattle.image.specs.Rules.{asked as askedOf};
 ghost use Rattle.machine.specs.State.{modeNumber, withPhase, withBusy, withPointer};
-ghost use Rattle.machine.specs.Beats.{beatsIn, outputBeat};
-ghost use Rattle.machine.specs.Step.{World, wantsLength, begun as begunOf, ended as endedOf, byteAddress, sourceOf, destinationOf, withByte, onward as onwardOf, beatFor, writtenControl, writtenBack, counted as countedOf, afterBack, completed as completedOf, taken as takenTo};
+ghost use Rattle.machine.specs.Beats.{outputBeat};
+ghost use Rattle.machine.specs.Step.{World, wantsLength, begun as begunOf, ended as endedOf, byteAddress, sourceOf, destinationOf, withByte, onward as onwardOf, beatFor, writtenControl, writtenBack, counted as countedOf, afterBack, completed as completedOf};
 ghost use Rattle.machine.specs.Step.{fetched as fetchedOf, fetchStep, copyStep, sendStep, receiveFrom, moveStep, writeBackStep, step as stepOf};
 ghost use Rattle.machine.specs.Run.{lentOf, Stepped};
 ghost use Rattle.machine.specs.declared.Phase.the-variants.{Fetch, Move};
@@ -198,6 +198,17 @@ impl Machine {
         }
     }
 
+    // The machine, where so many beats are taken and made.
+    fn at(self, taken: usize, made: usize) -> Progress
+        ensures { λ r. ⌜ r ≡ progress self taken made ⌝ }
+    {
+        Progress {
+            machine: self,
+            taken,
+            made,
+        }
+    }
+
     // When L bytes are moved or a taken beat had EOP, go to WriteBack.
     fn onward(self, k: Work) -> Machine
         ensures { λ r. ⌜ r ≡ onwardOf self k ⌝ }
@@ -229,7 +240,7 @@ impl Machine {
         }
     }
 
-    // OWNED 0: set CHAIN_COMPLETED, pend if IE_CHAIN, go to Ended.
+    // OWNED 0: set CHAIN_COMPLETED, pend if IE_CHAIN, go to Ended; BUSY stays.
     fn ended(self) -> Machine
         ensures { λ r. ⌜ r ≡ endedOf self ⌝ }
     {
@@ -374,62 +385,61 @@ impl Machine {
     }
 
     // Mode 1: 13; then the beat is made, for which there is room.
-    fn send_step(self, k: Work, window: &[u8], out: &mut [u8], made: usize) -> Progress
+    fn send_step(
+        self,
+        k: Work,
+        window: &[u8],
+        taken: usize,
+        out: &mut [u8],
+        made: usize,
+    ) -> Progress
         requires { ⌜ self .window .length ≡ length (now window) ⌝ }
         requires { ⌜ k .moved < 65535 ⌝ }
         requires { ⌜ made ≤ length (now out) / 2 ⌝ }
         requires { ⌜ (inWindow (self .window) (sourceOf k) 1 ≡ true → made < length (now out) / 2) ⌝ }
-        ensures { λ r. ⌜ r .made ≤ length (now (out .entry)) / 2 ⌝ }
-        ensures { λ r. ⌜ ((beats : List ℕ) (taken : ℕ) → Went (λ (w : World). sendStep w k) self (now (window .entry)) beats taken (now (out .entry)) made (progress (r .machine) taken (r .made)) (now (window .entry)) (now (out .exit))) ⌝ }
+        ensures { λ r. ⌜ (r .taken ≡ taken) × (r .made ≤ length (now (out .entry)) / 2) ⌝ }
+        ensures { λ r. ⌜ ((beats : List ℕ) → Went (λ (w : World). sendStep w k) self (now (window .entry)) beats taken (now (out .entry)) made r (now (window .entry)) (now (out .exit))) ⌝ }
     {
         let a = k.read_address();
         let found = self.window.locate(a, 1);
         match found {
-            Located::Outside => Progress {
-                machine: self.faulted(13, cut(a)),
-                taken: 0,
-                made,
-            },
+            Located::Outside => self.faulted(13, cut(a)).at(taken, made),
             Located::At(place) => {
                 let at = place.index();
                 let beat = k.beat(window[at]);
                 put_u16(Order::MostFirst, out, 2 * made, beat);
-                Progress {
-                    machine: self.onward(k.with_byte(0, false)),
-                    taken: 0,
-                    made: made + 1,
-                }
+                self.onward(k.with_byte(0, false)).at(taken, made + 1)
             }
         }
     }
 
-    // Mode 2: 14, and then the beat is not taken.
-    fn receive_step(self, k: Work, window: &mut [u8], beats: &[u8], taken: usize) -> Progress
+    // Mode 2: 14, and then the next beat is not taken.
+    fn receive_step(
+        self,
+        k: Work,
+        window: &mut [u8],
+        beats: &[u8],
+        next: usize,
+        made: usize,
+    ) -> Progress
         requires { ⌜ self .window .length ≡ length (now window) ⌝ }
         requires { ⌜ k .moved < 65535 ⌝ }
-        requires { ⌜ taken < length (now beats) / 2 ⌝ }
-        ensures { λ r. ⌜ r .taken ≤ length (now (beats .entry)) / 2 ⌝ }
-        ensures { λ r. ⌜ ((out : List ℕ) (made : ℕ) → Went (λ (w : World). receiveFrom w k (w .input)) self (now (window .entry)) (now (beats .entry)) taken out made (progress (r .machine) (r .taken) made) (now (window .exit)) out) ⌝ }
+        requires { ⌜ next < length (now beats) / 2 ⌝ }
+        ensures { λ r. ⌜ (r .taken ≤ length (now (beats .entry)) / 2) × (r .made ≡ made) ⌝ }
+        ensures { λ r. ⌜ ((out : List ℕ) → Went (λ (w : World). receiveFrom w k (w .input)) self (now (window .entry)) (now (beats .entry)) next out made r (now (window .exit)) out) ⌝ }
     {
         let a = k.write_address();
+        let past = next + 1;
         let found = self.window.locate(a, 1);
         match found {
-            Located::Outside => Progress {
-                machine: self.faulted(14, cut(a)),
-                taken,
-                made: 0,
-            },
+            Located::Outside => self.faulted(14, cut(a)).at(next, made),
             Located::At(place) => {
                 let at = place.index();
-                let beat = get_u16(Order::MostFirst, beats, 2 * taken);
+                let beat = get_u16(Order::MostFirst, beats, 2 * next);
                 let eop = has(beat as u32, EOP as u32);
                 window[at] = (beat % 256) as u8;
-                let next = k.with_byte((beat / ERROR) as u8, eop);
-                Progress {
-                    machine: self.onward(next),
-                    taken: taken + 1,
-                    made: 0,
-                }
+                let work = k.with_byte((beat / ERROR) as u8, eop);
+                self.onward(work).at(past, made)
             }
         }
     }
@@ -525,32 +535,9 @@ impl Machine {
     {
         let mode = self.mode;
         match mode {
-            Mode::MemoryToMemory => {
-                let machine = self.copy_step(k, window);
-                Progress {
-                    machine,
-                    taken,
-                    made,
-                }
-            }
-            Mode::MemoryToStream => {
-                let sent = self.send_step(k, window, out, made);
-                let machine = sent.machine;
-                Progress {
-                    machine,
-                    taken,
-                    made: sent.made,
-                }
-            }
-            Mode::StreamToMemory => {
-                let got = self.receive_step(k, window, beats, taken);
-                let machine = got.machine;
-                Progress {
-                    machine,
-                    taken: got.taken,
-                    made,
-                }
-            }
+            Mode::MemoryToMemory => self.copy_step(k, window).at(taken, made),
+            Mode::MemoryToStream => self.send_step(k, window, taken, out, made),
+            Mode::StreamToMemory => self.receive_step(k, window, beats, taken, made),
         }
     }
 
@@ -571,37 +558,13 @@ impl Machine {
     {
         let phase = self.phase;
         match phase {
-            Phase::Rest => Progress {
-                machine: self.started(),
-                taken,
-                made,
-            },
-            Phase::Fetch => Progress {
-                machine: self.fetch_step(window),
-                taken,
-                made,
-            },
+            Phase::Rest => self.started().at(taken, made),
+            Phase::Fetch => self.fetch_step(window).at(taken, made),
             Phase::Move(k) => self.move_step(k, window, beats, taken, out, made),
-            Phase::WriteBack(k) => Progress {
-                machine: self.write_back_step(k, window),
-                taken,
-                made,
-            },
-            Phase::Ended => Progress {
-                machine: self,
-                taken,
-                made,
-            },
-            Phase::Halted => Progress {
-                machine: self,
-                taken,
-                made,
-            },
-            Phase::Faulted(_) => Progress {
-                machine: self,
-                taken,
-                made,
-            },
+            Phase::WriteBack(k) => self.write_back_step(k, window).at(taken, made),
+            Phase::Ended => self.at(taken, made),
+            Phase::Halted => self.at(taken, made),
+            Phase::Faulted(_) => self.at(taken, made),
         }
     }
 

@@ -32,7 +32,8 @@ after-back-requires c κs = search needs
 
 returns : tie.Need-returns
 unfolding completed
-returns c = simp (c .before .before .before .before .after-back .ensures, c .before .before .before .before .before .before .before .before .before .before .before .before .before .before .before .before .before .before .before .counted .ensures, c .before .before .before .before .before .before .before .before .before .before .before .before .before .before .before .before .before .before .before .before .has2 .ensures, c .before .before .before .before .before .before .before .before .before .before .before .before .before .before .before .before .before .before .before .before .before .has .ensures, c .before .before .before .before .before .before .before .before .before .before .before .before .before .before .before .before .before .before .has3 .ensures, c .before .before .before .before .before .before .before .before .before .before .before .before .before .before .before .before .has4 .ensures, c .before .before .before .before .before .before .before .before .before .before .before .before .before .before .has5 .ensures, c .before .before .before .before .before .before .before .before .before .before .before .before .before .has6 .ensures)
+returns c =
+    simp (c .before .before .before .before .after-back .ensures, c .before .before .before .before .before .before .before .before .before .before .before .before .before .before .before .before .before .before .before .counted .ensures, c .before .before .before .before .before .before .before .before .before .before .before .before .before .before .before .before .before .before .before .before .has2 .ensures, c .before .before .before .before .before .before .before .before .before .before .before .before .before .before .before .before .before .before .before .before .before .has .ensures, c .before .before .before .before .before .before .before .before .before .before .before .before .before .before .before .before .before .before .has3 .ensures, c .before .before .before .before .before .before .before .before .before .before .before .before .before .before .before .before .has4 .ensures, c .before .before .before .before .before .before .before .before .before .before .before .before .before .before .has5 .ensures, c .before .before .before .before .before .before .before .before .before .before .before .before .before .has6 .ensures)
 
 pub completed-spec : {M : Type 1} → statement M
 completed-spec =

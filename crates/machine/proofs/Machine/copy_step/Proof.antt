@@ -1,4 +1,3 @@
-use mathlib.Core.Path.{_∙_, sym}
 use native.Mathlib.Omega.{arith}
 use Rattle.machine.proofs.Places.{inside, outside, place, fits}
 use Rattle.machine.specs.Step.{copyStep}
@@ -49,10 +48,12 @@ index-requires-2 : tie.Need-index-requires-2
 index-requires-2 c κs = search needs
 
 slice-read-window : tie.Need-slice-read-window
-slice-read-window c = omega (arith, fits (c .before .before .before .before .before .before .before .before .before .before .locate .ensures) (c .before .before .before .before .before .before .before .before .from .given .1), c .before .before .index .ensures .value, c .before .before .before .before .before .before .before .before .before .before .before .before .before .before .pre)
+slice-read-window c =
+    omega (arith, fits (c .before .before .before .before .before .before .before .before .before .before .locate .ensures) (c .before .before .before .before .before .before .before .before .from .given .1), c .before .before .index .ensures .value, c .before .before .before .before .before .before .before .before .before .before .before .before .before .before .pre)
 
 slice-write-window : tie.Need-slice-write-window
-slice-write-window c = omega (arith, fits (c .before .before .before .before .before .before .locate2 .ensures) (c .before .before .before .before .to .given .1), c .before .index2 .ensures .value, c .before .before .before .before .before .before .before .before .before .before .before .before .before .before .pre)
+slice-write-window c =
+    omega (arith, fits (c .before .before .before .before .before .before .locate2 .ensures) (c .before .before .before .before .to .given .1), c .before .index2 .ensures .value, c .before .before .before .before .before .before .before .before .before .before .before .before .before .before .pre)
 
 with-byte-requires : tie.Need-with-byte-requires
 with-byte-requires c κs = search needs
@@ -62,18 +63,21 @@ onward-requires c κs = search needs
 
 returns : tie.Need-returns
 unfolding copyStep
-returns c = λ input output room. simp (outside (c .before .before .before .before .locate .ensures) (c .before .before .before .before .before .before .read-address .ensures) (c .before .before .enum-told .given .1), c .faulted .ensures, c .before .cut .ensures, c .before .before .before .before .before .before .read-address .ensures)
+returns c =
+    λ input output room. simp (outside (c .before .before .before .before .locate .ensures) (c .before .before .before .before .before .before .read-address .ensures) (c .before .before .enum-told .given .1), c .faulted .ensures, c .before .cut .ensures, c .before .before .before .before .before .before .read-address .ensures)
 
 returns-2 : tie.Need-returns-2
 unfolding copyStep
-returns-2 c = λ input output room. simp (inside (c .before .before .before .before .before .before .before .before .locate .ensures) (c .before .before .before .before .before .before .before .before .before .before .read-address .ensures) (c .before .before .before .before .before .before .from .given .1), outside (c .before .before .before .before .locate2 .ensures) (c .before .before .before .before .before .before .before .before .before .write-address .ensures) (c .before .before .enum-told2 .given .1), c .faulted2 .ensures, c .before .cut2 .ensures, c .before .before .before .before .before .before .before .before .before .write-address .ensures)
+returns-2 c =
+    λ input output room. simp (inside (c .before .before .before .before .before .before .before .before .locate .ensures) (c .before .before .before .before .before .before .before .before .before .before .read-address .ensures) (c .before .before .before .before .before .before .from .given .1), outside (c .before .before .before .before .locate2 .ensures) (c .before .before .before .before .before .before .before .before .before .write-address .ensures) (c .before .before .enum-told2 .given .1), c .faulted2 .ensures, c .before .cut2 .ensures, c .before .before .before .before .before .before .before .before .before .write-address .ensures)
 
 same-length : tie.Need-same-length
 same-length c = search needs
 
 returns-3 : tie.Need-returns-3
 unfolding copyStep
-returns-3 c = λ input output room. simp (inside (c .before .before .before .before .before .before .before .before .before .before .before .before .locate .ensures) (c .before .before .before .before .before .before .before .before .before .before .before .before .before .before .read-address .ensures) (c .before .before .before .before .before .before .before .before .before .before .from .given .1), inside (c .before .before .before .before .before .before .before .before .locate2 .ensures) (c .before .before .before .before .before .before .before .before .before .before .before .before .before .write-address .ensures) (c .before .before .before .before .before .before .to .given .1), c .onward .ensures, c .before .with-byte .ensures, c .before .before .before .before .index .ensures .value, c .before .before .before .index2 .ensures .value, place (c .before .before .before .before .before .before .before .before .before .before .before .before .locate .ensures) (c .before .before .before .before .before .before .before .before .before .before .before .before .before .before .read-address .ensures) (c .before .before .before .before .before .before .before .before .before .before .from .given .1), place (c .before .before .before .before .before .before .before .before .locate2 .ensures) (c .before .before .before .before .before .before .before .before .before .before .before .before .before .write-address .ensures) (c .before .before .before .before .before .before .to .given .1))
+returns-3 c =
+    λ input output room. simp (inside (c .before .before .before .before .before .before .before .before .before .before .before .before .locate .ensures) (c .before .before .before .before .before .before .before .before .before .before .before .before .before .before .read-address .ensures) (c .before .before .before .before .before .before .before .before .before .before .from .given .1), inside (c .before .before .before .before .before .before .before .before .locate2 .ensures) (c .before .before .before .before .before .before .before .before .before .before .before .before .before .write-address .ensures) (c .before .before .before .before .before .before .to .given .1), c .onward .ensures, c .before .with-byte .ensures, c .before .before .before .before .index .ensures .value, c .before .before .before .index2 .ensures .value, place (c .before .before .before .before .before .before .before .before .before .before .before .before .locate .ensures) (c .before .before .before .before .before .before .before .before .before .before .before .before .before .before .read-address .ensures) (c .before .before .before .before .before .before .before .before .before .before .from .given .1), place (c .before .before .before .before .before .before .before .before .locate2 .ensures) (c .before .before .before .before .before .before .before .before .before .before .before .before .before .write-address .ensures) (c .before .before .before .before .before .before .to .given .1))
 
 pub copy-step-spec : {M : Type 1} → statement M
 copy-step-spec =

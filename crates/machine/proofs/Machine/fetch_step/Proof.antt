@@ -38,15 +38,18 @@ rested-requires c κs = search needs
 
 returns : tie.Need-returns
 unfolding fetchStep
-returns c = λ input output room. simp (sym (c .before .before .before .before .before .before .has .ensures) ∙ c .before .before .before .before .before .if1 .taken, eq-eqb _ _ (c .before .before .before .before .if2 .taken), outside (c .before .before .before .locate .ensures) refl (c .before .enum-told .given .1), c .faulted .ensures)
+returns c =
+    λ input output room. simp (sym (c .before .before .before .before .before .before .has .ensures) ∙ c .before .before .before .before .before .if1 .taken, eq-eqb _ _ (c .before .before .before .before .if2 .taken), outside (c .before .before .before .locate .ensures) refl (c .before .enum-told .given .1), c .faulted .ensures)
 
 returns-2 : tie.Need-returns-2
 unfolding fetchStep
-returns-2 c = λ input output room. simp (sym (c .before .before .before .before .before .before .before .before .has .ensures) ∙ c .before .before .before .before .before .before .before .if1 .taken, eq-eqb _ _ (c .before .before .before .before .before .before .if2 .taken), inside (c .before .before .before .before .before .locate .ensures) refl (c .before .before .before .found .given .1), sym (place (c .before .before .before .before .before .locate .ensures) refl (c .before .before .before .found .given .1)), sym (c .before .at .ensures .value), c .fetched .ensures (c .before .before .before .before .before .before .before .before .before .before .args .window .now) input output room)
+returns-2 c =
+    λ input output room. simp (sym (c .before .before .before .before .before .before .before .before .has .ensures) ∙ c .before .before .before .before .before .before .before .if1 .taken, eq-eqb _ _ (c .before .before .before .before .before .before .if2 .taken), inside (c .before .before .before .before .before .locate .ensures) refl (c .before .before .before .found .given .1), sym (place (c .before .before .before .before .before .locate .ensures) refl (c .before .before .before .found .given .1)), sym (c .before .at .ensures .value), c .fetched .ensures (c .before .before .before .before .before .before .before .before .before .before .args .window .now) input output room)
 
 returns-3 : tie.Need-returns-3
 unfolding fetchStep
-returns-3 c = λ input output room. simp (sym (c .before .before .before .has .ensures) ∙ c .before .before .if1 .taken, ne-eqb _ _ (c .before .if2 .left), c .faulted2 .ensures)
+returns-3 c =
+    λ input output room. simp (sym (c .before .before .before .has .ensures) ∙ c .before .before .if1 .taken, ne-eqb _ _ (c .before .if2 .left), c .faulted2 .ensures)
 
 returns-4 : tie.Need-returns-4
 unfolding fetchStep

@@ -21,15 +21,18 @@ ended-requires c κs = search needs
 
 returns : tie.Need-returns
 unfolding fetched
-returns c = λ memory input output room. simp (sym (c .before .before .before .has .ensures .value) ∙ c .before .before .if1 .taken, sym (c .before .before .before .before .before .wants-length .ensures), c .before .if2 .taken, c .faulted .ensures)
+returns c =
+    λ memory input output room. simp (sym (c .before .before .before .has .ensures .value) ∙ c .before .before .if1 .taken, sym (c .before .before .before .before .before .wants-length .ensures), c .before .if2 .taken, c .faulted .ensures)
 
 returns-2 : tie.Need-returns-2
 unfolding fetched
-returns-2 c = λ memory input output room. simp (sym (c .before .before .before .has .ensures .value) ∙ c .before .before .if1 .taken, sym (c .before .before .before .before .before .wants-length .ensures), c .before .if2 .left, c .begun .ensures)
+returns-2 c =
+    λ memory input output room. simp (sym (c .before .before .before .has .ensures .value) ∙ c .before .before .if1 .taken, sym (c .before .before .before .before .before .wants-length .ensures), c .before .if2 .left, c .begun .ensures)
 
 returns-3 : tie.Need-returns-3
 unfolding fetched
-returns-3 c = λ memory input output room. simp (sym (c .before .before .has .ensures .value) ∙ c .before .if1 .left, c .ended .ensures)
+returns-3 c =
+    λ memory input output room. simp (sym (c .before .before .has .ensures .value) ∙ c .before .if1 .left, c .ended .ensures)
 
 pub fetched-spec : {M : Type 1} → statement M
 fetched-spec =

@@ -19,7 +19,8 @@ enum-told : tie.Need-enum-told
 enum-told c = search needs
 
 returns : tie.Need-returns
-returns c = absurd (true≢false (sym (c .before .before .before .before .before .pre) ∙ outside (c .before .before .locate .ensures) refl (c .enum-told .given .1)))
+returns c =
+    absurd (true≢false (sym (c .before .before .before .before .before .pre) ∙ outside (c .before .before .locate .ensures) refl (c .enum-told .given .1)))
 
 written-control-requires : tie.Need-written-control-requires
 written-control-requires c κs = search needs
@@ -32,7 +33,9 @@ same-length c = search needs
 
 returns-2 : tie.Need-returns-2
 unfolding writtenBack
-returns-2 c = λ input output room. c .before .before .write-back .ensures .lent ∙ simp (place (c .before .before .before .before .before .before .before .before .locate .ensures) refl (c .before .before .before .before .before .before .found .given .1), c .before .before .before .before .written-control .ensures)
+returns-2 c =
+    λ input output room. c .before .before .write-back .ensures .lent
+    ∙ simp (place (c .before .before .before .before .before .before .before .before .locate .ensures) refl (c .before .before .before .before .before .before .found .given .1), c .before .before .before .before .written-control .ensures)
 
 pub put-back-spec : {M : Type 1} → statement M
 put-back-spec =

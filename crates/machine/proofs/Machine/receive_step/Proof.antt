@@ -1,3 +1,4 @@
+use mathlib.Core.Path.{refl}
 use native.Mathlib.Omega.{arith}
 use Rattle.machine.proofs.Places.{inside, outside, place, fits}
 use Rattle.machine.proofs.Turning.{receive-in, receive-out}
@@ -7,6 +8,9 @@ use Rattle.machine.proofs.Machine.receive_step.Tie as tie
 
 write-address-requires : tie.Need-write-address-requires
 write-address-requires c κs = search needs
+
+add-past : tie.Need-add-past
+add-past c = search needs
 
 locate-requires : tie.Need-locate-requires
 locate-requires c κs = search needs
@@ -19,6 +23,9 @@ cut-requires c κs = search needs
 
 faulted-requires : tie.Need-faulted-requires
 faulted-requires c κs = search needs
+
+at-requires : tie.Need-at-requires
+at-requires c κs = search needs
 
 enum-known-found : tie.Need-enum-known-found
 enum-known-found c = search needs
@@ -56,27 +63,47 @@ with-byte-requires c κs = search needs
 onward-requires : tie.Need-onward-requires
 onward-requires c κs = search needs
 
-add-t17 : tie.Need-add-t17
-add-t17 c = omega (arith, c .before .before .before .before .before .before .before .before .before .before .before .before .good, c .before .before .before .before .before .before .before .before .before .before .before .before .pre .1 .1)
+at-requires-2 : tie.Need-at-requires-2
+at-requires-2 c κs = search needs
 
 returns : tie.Need-returns
-returns c = (search needs, λ out made. simp (c .faulted .ensures, c .before .cut .ensures, c .before .before .before .before .before .write-address .ensures) (receive-out _ _ _ _ _ _ _ (c .before .before .before .before .before .before .before .before .pre .1 .1) (outside (c .before .before .before .before .locate .ensures) (c .before .before .before .before .before .write-address .ensures) (c .before .before .enum-told .given .1))))
+returns c =
+    let l = c .before .before .before .before .before in
+    let some = l .before .before .before .before .pre .1 .1 in
+    let missed = outside (l .locate .ensures) (l .before .write-address .ensures) (c .before .before .before .enum-told .given .1) in
+    simp (c .at .ensures) (
+      (omega (arith, some), refl),
+      λ out. simp (c .before .faulted .ensures, c .before .before .cut .ensures, l .before .write-address .ensures) (receive-out _ _ _ _ _ _ _ some missed),
+    )
 
 same-length : tie.Need-same-length
 same-length c = search needs
 
 returns-2 : tie.Need-returns-2
-returns-2 c = (omega (arith, c .before .before .before .before .before .before .before .before .before .before .before .before .pre .1 .1), λ out made. simp (c .onward .ensures, c .before .with-byte .ensures, c .before .before .has .ensures, c .before .before .before .get-u16 .ensures .value, c .before .before .before .before .index .ensures .value, place (c .before .before .before .before .before .before .before .before .locate .ensures) (c .before .before .before .before .before .before .before .before .before .write-address .ensures) (c .before .before .before .before .before .before .found .given .1)) (receive-in _ _ _ _ _ _ _ (c .before .before .before .before .before .before .before .before .before .before .before .before .pre .1 .1) (inside (c .before .before .before .before .before .before .before .before .locate .ensures) (c .before .before .before .before .before .before .before .before .before .write-address .ensures) (c .before .before .before .before .before .before .found .given .1))))
+returns-2 c =
+    let l = c .before .before .before .before .before .before .before .before .before in
+    let some = l .before .before .before .before .pre .1 .1 in
+    let e = c .before .before .before .before .before .before .before .found .given .1 in
+    let to = place (l .locate .ensures) (l .before .write-address .ensures) e in
+    let beat = c .before .before .before .before .get-u16 .ensures .value in
+    simp (c .at2 .ensures) (
+      (omega (arith, some), refl),
+      λ out.
+          simp (c .before .onward .ensures, c .before .before .with-byte .ensures, c .before .before .before .has .ensures, beat, c .before .before .before .before .before .index .ensures .value, to)
+          (receive-in _ _ _ _ _ _ _ some (inside (l .locate .ensures) (l .before .write-address .ensures) e)),
+    )
 
 pub receive-step-spec : {M : Type 1} → statement M
 receive-step-spec =
     tie.close
     (tie.spec
     write-address-requires
+    add-past
     locate-requires
     enum-told
     cut-requires
     faulted-requires
+    at-requires
     enum-known-found
     index-requires
     mul-get-u16
@@ -89,7 +116,7 @@ receive-step-spec =
     cast-with-byte
     with-byte-requires
     onward-requires
-    add-t17
+    at-requires-2
     returns
     same-length
     returns-2)

@@ -1,4 +1,4 @@
-use mathlib.Core.Path.{ap, _∙_}
+use mathlib.Core.Path.{refl, ap, _∙_}
 use native.Mathlib.Omega.{arith}
 use Prim.Native.Nat.{ℕ}
 use lib.ListN.{getD}
@@ -24,6 +24,9 @@ cut-requires c κs = search needs
 faulted-requires : tie.Need-faulted-requires
 faulted-requires c κs = search needs
 
+at-requires : tie.Need-at-requires
+at-requires c κs = search needs
+
 enum-known-found : tie.Need-enum-known-found
 enum-known-found c = search needs
 
@@ -48,17 +51,40 @@ with-byte-requires c κs = search needs
 onward-requires : tie.Need-onward-requires
 onward-requires c κs = search needs
 
-add-t20 : tie.Need-add-t20
-add-t20 c = omega (arith, c .before .before .before .before .before .before .before .before .before .before .before .before .before .before .before .before .good, c .before .before .before .before .before .before .before .before .before .before .before .before .before .before .before .before .pre .1 .1 .0)
+add-at : tie.Need-add-at
+add-at c = omega (arith, c .before .before .before .before .before .before .before .before .before .before .before .before .before .before .before .before .good, c .before .before .before .before .before .before .before .before .before .before .before .before .before .before .before .before .pre .1 .1 .0)
+
+at-requires-2 : tie.Need-at-requires-2
+at-requires-2 c κs = search needs
 
 returns : tie.Need-returns
-returns c = (search needs, λ beats taken. simp (c .faulted .ensures, c .before .cut .ensures, c .before .before .before .before .before .read-address .ensures) (send-out _ _ _ _ _ _ _ (outside (c .before .before .before .before .locate .ensures) (c .before .before .before .before .before .read-address .ensures) (c .before .before .enum-told .given .1))))
+returns c =
+    let l = c .before .before .before .before .before in
+    let missed = outside (l .locate .ensures) (l .before .read-address .ensures) (c .before .before .before .enum-told .given .1) in
+    simp (c .at .ensures) (
+      (refl, l .before .before .before .before .pre .1 .1 .0),
+      λ beats. simp (c .before .faulted .ensures, c .before .before .cut .ensures, l .before .read-address .ensures) (send-out _ _ _ _ _ _ _ missed),
+    )
 
 same-length : tie.Need-same-length
 same-length c = search needs
 
 returns-2 : tie.Need-returns-2
-returns-2 c = let a = c .before .before .before .before .before .before .before .before .before .before .before .before .before .before .before .before .args in let isin = inside (c .before .before .before .before .before .before .before .before .before .before .before .before .locate .ensures) (c .before .before .before .before .before .before .before .before .before .before .before .before .before .read-address .ensures) (c .before .before .before .before .before .before .before .before .before .before .found .given .1) in let room = c .before .before .before .before .before .before .before .before .before .before .before .before .before .before .before .before .pre .1 .1 .1 isin in (omega (arith, room), λ beats taken. simp (c .onward .ensures, c .before .with-byte .ensures, c .before .before .before .before .put-u16 .ensures .lent) (send-in (a .self) (a .k) (a .window .now) beats taken (a .out .now) (a .made) isin room (c .before .before .before .before .before .before .beat .result) (c .before .before .before .before .before .before .beat .ensures ∙ ap (λ (x : ℕ). beatFor (a .k) (getD (a .window .now) x 0)) (c .before .before .before .before .before .before .before .before .index .ensures .value ∙ place (c .before .before .before .before .before .before .before .before .before .before .before .before .locate .ensures) (c .before .before .before .before .before .before .before .before .before .before .before .before .before .read-address .ensures) (c .before .before .before .before .before .before .before .before .before .before .found .given .1)))))
+returns-2 c =
+    let l = c .before .before .before .before .before .before .before .before .before .before .before .before .before in
+    let s = l .before .before .before .before in
+    let a = s .args in
+    let e = c .before .before .before .before .before .before .before .before .before .before .before .found .given .1 in
+    let inside-it = inside (l .locate .ensures) (l .before .read-address .ensures) e in
+    let room = s .pre .1 .1 .1 inside-it in
+    let from = c .before .before .before .before .before .before .before .before .before .index .ensures .value ∙ place (l .locate .ensures) (l .before .read-address .ensures) e in
+    let beat = c .before .before .before .before .before .before .before .beat .ensures ∙ ap (λ (x : ℕ). beatFor (a .k) (getD (a .window .now) x 0)) from in
+    simp (c .at2 .ensures) (
+      (refl, omega (arith, room)),
+      λ beats.
+          simp (c .before .onward .ensures, c .before .before .with-byte .ensures, c .before .before .before .before .before .put-u16 .ensures .lent)
+          (send-in (a .self) (a .k) (a .window .now) beats (a .taken) (a .out .now) (a .made) inside-it room (c .before .before .before .before .before .before .before .beat .result) beat),
+    )
 
 pub send-step-spec : {M : Type 1} → statement M
 send-step-spec =
@@ -69,6 +95,7 @@ send-step-spec =
     enum-told
     cut-requires
     faulted-requires
+    at-requires
     enum-known-found
     index-requires
     shared-slice-read-beat
@@ -77,7 +104,8 @@ send-step-spec =
     put-u16-requires
     with-byte-requires
     onward-requires
-    add-t20
+    add-at
+    at-requires-2
     returns
     same-length
     returns-2)

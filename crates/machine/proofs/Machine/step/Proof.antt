@@ -1,16 +1,22 @@
 use Rattle.machine.proofs.Waiting.{waits-at}
 use Rattle.machine.proofs.Outcomes.{serves-ready, wait-stopped, step-refused, step-stopped, step-taken}
-use Rattle.machine.proofs.Streams.{some-beat, some-room}
+use Rattle.machine.proofs.Streams.{some-beat}
 use Rattle.machine.specs.Turns.{lentAs}
 use Rattle.machine.specs.Beats.{beatsIn}
-use lib.ListN.{length, drop}
+use lib.ListN.{length}
 use mathlib.Core.List.{[]}
-use mathlib.Core.Path.{refl, sym, ap, _∙_}
-use Prim.Native.Nat.{_-_, _/_}
-use native.Mathlib.Omega.{arith}
+use mathlib.Core.Path.{_≡_, refl, sym, ap, _∙_}
+use Prim.Native.Nat.{_/_}
+use Rattle.machine.specs.Run.{lentOf, serves}
 use borrow.Author.Needs.{needs}
 use Rattle.machine.proofs.Machine.step.Statement.{statement}
 use Rattle.machine.proofs.Machine.step.Tie as tie
+
+-- what is lent serves the machine
+served : (c : tie.After-enum-told)
+    → let a = c .before .before .before .before .before .before .before .before .args in
+    lentOf (a .self) (a .window .now) (a .beats .now) (a .out .now) ≡ serves
+served c = sym (c .before .before .checked .ensures) ∙ ap lentAs (c .enum-told .given .1)
 
 checked-requires : tie.Need-checked-requires
 checked-requires c κs = search needs
@@ -43,13 +49,19 @@ same-length-4 : tie.Need-same-length-4
 same-length-4 c = search needs
 
 returns-2 : tie.Need-returns-2
-returns-2 c = let a = c .before .before .before .before .before .before .before .before .before .before .before .before .args in step-stopped (sym (c .before .before .before .before .before .before .checked .ensures) ∙ ap lentAs (c .before .before .before .before .enum-told .given .1)) (wait-stopped _ (sym (c .before .before .before .wait .ensures (a .window .now) (beatsIn (a .beats .now)) [] (length (a .out .now) / 2) (some-beat (a .beats .now) 0) refl) ∙ c .before .wait2 .given .1))
+returns-2 c =
+    let a = c .before .before .before .before .before .before .before .before .before .before .before .before .args in
+    let waits = c .before .before .before .wait .ensures (a .window .now) (beatsIn (a .beats .now)) [] (length (a .out .now) / 2) (some-beat (a .beats .now) 0) refl in
+    step-stopped (served (c .before .before .before .before)) (wait-stopped _ (sym waits ∙ c .before .wait2 .given .1))
 
 enum-told-2 : tie.Need-enum-told-2
 enum-told-2 c = search needs
 
 step-at-requires : tie.Need-step-at-requires
-step-at-requires c κs = let a = c .before .before .before .before .before .before .before .before .before .before .before .before .before .args in (serves-ready (a .self) (a .window .now) (a .beats .now) (a .out .now) (sym (c .before .before .before .before .before .before .before .checked .ensures) ∙ ap lentAs (c .before .before .before .before .before .enum-told .given .1)), (record { taken-in = search needs; made-in = search needs }, waits-at (a .self) (a .window .now) (a .beats .now) 0 (a .out .now) 0 (c .before .before .before .before .wait .ensures) [] ∙ c .before .before .enum-told2 .given .1))
+step-at-requires c κs =
+    let a = c .before .before .before .before .before .before .before .before .before .before .before .before .before .args in
+    let waits = waits-at (a .self) (a .window .now) (a .beats .now) 0 (a .out .now) 0 (c .before .before .before .before .wait .ensures) [] in
+    (serves-ready _ _ _ _ (served (c .before .before .before .before .before)), (record { taken-in = search needs; made-in = search needs }, waits ∙ c .before .before .enum-told2 .given .1))
 
 same-length-5 : tie.Need-same-length-5
 same-length-5 c = search needs
@@ -58,7 +70,8 @@ same-length-6 : tie.Need-same-length-6
 same-length-6 c = search needs
 
 returns-3 : tie.Need-returns-3
-returns-3 c = step-taken (sym (c .before .before .before .before .before .before .before .before .before .before .before .before .checked .ensures) ∙ ap lentAs (c .before .before .before .before .before .before .before .before .before .before .enum-told .given .1)) (c .before .before .before .before .step-at .ensures .0) (c .before .before .before .before .step-at .ensures .1)
+returns-3 c =
+    step-taken (served (c .before .before .before .before .before .before .before .before .before .before)) (c .before .before .before .before .step-at .ensures .0) (c .before .before .before .before .step-at .ensures .1)
 
 pub step-spec : {M : Type 1} → statement M
 step-spec =

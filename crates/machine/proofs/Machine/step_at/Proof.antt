@@ -1,14 +1,33 @@
+use native.Mathlib.Omega.{arith}
 use Rattle.machine.proofs.Readiness.{left-lt}
 use Rattle.machine.proofs.Waiting.{at-phase, goes-in, rest-runs, never-goes}
-use Rattle.machine.proofs.Turning.{went-still, went-as}
-use Rattle.machine.specs.Turns.{world, worldAt, Left, Placed, Within}
-use Rattle.machine.specs.Step.{World, step, stepIn, restStep, fetchStep, moveStep, writeBackStep}
+use Rattle.machine.proofs.Turning.{went-still, went-as, rest-starts}
+use Rattle.machine.specs.Turns.{world, Left, Placed, Goes, Went}
+use Rattle.machine.specs.Step.{World, Answer, step, stepIn, restStep, fetchStep, moveStep, writeBackStep}
 use Rattle.machine.specs.declared.Phase.{Phase}
-use mathlib.Core.Path.{ap, subst}
-use native.Mathlib.Omega.{arith}
+use mathlib.Core.Path.{_≡_, refl, subst, _∙_}
+use mathlib.Core.List.{List}
+use Prim.Native.Nat.{ℕ}
+use Rattle.machine.specs.declared.Progress.{Progress}
 use borrow.Author.Needs.{needs}
 use Rattle.machine.proofs.Machine.step_at.Statement.{statement}
 use Rattle.machine.proofs.Machine.step_at.Tie as tie
+
+-- the step of the phase that was found: it can be taken, and is the step
+module _ (s : tie.Start) {p : Phase} (e : s .args .self .phase ≡ p) where
+  can : Goes (stepIn p) (s .args .self) (s .args .window .now) (s .args .beats .now) (s .args .taken) (s .args .out .now) (s .args .made)
+  can =
+      goes-in (s .args .self) (s .args .window .now) (s .args .beats .now) (s .args .taken) (s .args .out .now) (s .args .made) e
+      (s .pre .1 .1)
+
+  is-step : (rule : World → Answer)
+      → ((memory input output : List ℕ) (room : ℕ) → stepIn p (world (s .args .self) memory input output room) ≡ rule (world (s .args .self) memory input output room))
+      → {r : Progress} {window' out' : List ℕ}
+      → Went rule (s .args .self) (s .args .window .now) (s .args .beats .now) (s .args .taken) (s .args .out .now) (s .args .made) r window' out'
+      → Went step (s .args .self) (s .args .window .now) (s .args .beats .now) (s .args .taken) (s .args .out .now) (s .args .made) r window' out'
+  is-step rule same g =
+      went-as rule step
+      (λ memory input output room. at-phase (world (s .args .self) memory input output room) e ∙ same memory input output room) g
 
 enum-told : tie.Need-enum-told
 enum-told c = search needs
@@ -16,42 +35,73 @@ enum-told c = search needs
 started-requires : tie.Need-started-requires
 started-requires c κs = search needs
 
+at-requires : tie.Need-at-requires
+at-requires c κs = search needs
+
 enum-told-2 : tie.Need-enum-told-2
 enum-told-2 c = search needs
 
 fetch-step-requires : tie.Need-fetch-step-requires
 fetch-step-requires c κs = search needs
 
+at-requires-2 : tie.Need-at-requires-2
+at-requires-2 c κs = search needs
+
 enum-known-phase : tie.Need-enum-known-phase
 enum-known-phase c = search needs
 
 move-step-requires : tie.Need-move-step-requires
-move-step-requires c κs = let a = c .before .before .before .before .before .before .before .before .args in let p = c .before .before .before .before .before .before .before .before .pre in (p .0 .size, (left-lt (a .self) (c .before .before .before .phase .given .0 .0) (search needs) (subst (λ (x : Phase). Left (a .self) x) (c .before .before .before .phase .given .1) (p .0 .left)), (p .1 .0, goes-in (a .self) (a .window .now) (a .beats .now) (a .taken) (a .out .now) (a .made) (c .before .before .before .phase .given .1) (p .1 .1))))
+move-step-requires c κs =
+    let s = c .before .before .before .before .before .before .before .before in
+    let e = c .before .before .before .phase .given .1 in
+    let left = subst (λ (x : Phase). Left (s .args .self) x) e (s .pre .0 .left) in
+    let k = c .before .before .before .phase .given .0 .0 in
+    (s .pre .0 .size, (left-lt (s .args .self) k (omega (arith, c .before .before .known-told .given)) left, (s .pre .1 .0, can s e)))
 
 enum-known-phase-2 : tie.Need-enum-known-phase-2
 enum-known-phase-2 c = search needs
 
 write-back-step-requires : tie.Need-write-back-step-requires
-write-back-step-requires c κs = let a = c .before .before .before .before .before .before .before .args in subst (λ (x : Phase). Placed (a .self) x) (c .before .before .phase2 .given .1) (c .before .before .before .before .before .before .before .pre .0 .placed)
+write-back-step-requires c κs =
+    let s = c .before .before .before .before .before .before .before in
+    subst (λ (x : Phase). Placed (s .args .self) x) (c .before .before .phase2 .given .1) (s .pre .0 .placed)
+
+at-requires-3 : tie.Need-at-requires-3
+at-requires-3 c κs = search needs
 
 enum-told-3 : tie.Need-enum-told-3
 enum-told-3 c = search needs
 
+at-requires-4 : tie.Need-at-requires-4
+at-requires-4 c κs = search needs
+
 enum-told-4 : tie.Need-enum-told-4
 enum-told-4 c = search needs
+
+at-requires-5 : tie.Need-at-requires-5
+at-requires-5 c κs = search needs
 
 enum-told-5 : tie.Need-enum-told-5
 enum-told-5 c = search needs
 
+at-requires-6 : tie.Need-at-requires-6
+at-requires-6 c κs = search needs
+
 returns : tie.Need-returns
-unfolding restStep
-returns c = let a = c .before .before .before .before .before .before .args in let runs = rest-runs (worldAt (a .self) (a .window .now) (a .beats .now) (a .taken) _ _) (goes-in (a .self) (a .window .now) (a .beats .now) (a .taken) (a .out .now) (a .made) (c .before .enum-told .given .1) (c .before .before .before .before .before .before .pre .1 .1)) in (c .before .before .before .before .before .before .pre .1 .0, went-as restStep step (λ memory input output room. at-phase (world (a .self) memory input output room) (c .before .enum-told .given .1)) (went-still _ _ _ _ _ _ _ _ _ (λ input output room. simp (runs, c .started .ensures))))
+returns c =
+    let s = c .before .before .before .before .before .before .before in
+    let e = c .before .before .enum-told .given .1 in
+    let starts = went-still restStep _ _ _ _ _ _ _ _ (rest-starts _ _ _ (rest-runs _ (can s e)) (c .before .started .ensures)) in
+    simp (c .at .ensures) (s .pre .1 .0, is-step s e restStep (λ memory input output room. refl) starts)
 
 same-length : tie.Need-same-length
 same-length c = search needs
 
 returns-2 : tie.Need-returns-2
-returns-2 c = let a = c .before .before .before .before .before .before .before .args in (c .before .before .before .before .before .before .before .pre .1 .0, went-as fetchStep step (λ memory input output room. at-phase (world (a .self) memory input output room) (c .before .before .enum-told2 .given .1)) (went-still _ _ _ _ _ _ _ _ _ (c .fetch-step .ensures)))
+returns-2 c =
+    let s = c .before .before .before .before .before .before .before .before in
+    let still = went-still fetchStep _ _ _ _ _ _ _ _ (c .before .fetch-step .ensures) in
+    simp (c .at2 .ensures) (s .pre .1 .0, is-step s (c .before .before .before .enum-told2 .given .1) fetchStep (λ memory input output room. refl) still)
 
 same-length-2 : tie.Need-same-length-2
 same-length-2 c = search needs
@@ -60,22 +110,31 @@ same-length-3 : tie.Need-same-length-3
 same-length-3 c = search needs
 
 returns-3 : tie.Need-returns-3
-returns-3 c = let a = c .before .before .before .before .before .before .before .before .before .before .before .before .before .args in (c .before .before .before .before .move-step .ensures .0, went-as (λ (w : World). moveStep (a .self .mode) w (c .before .before .before .before .before .before .before .before .phase .given .0 .0)) step (λ memory input output room. at-phase (world (a .self) memory input output room) (c .before .before .before .before .before .before .before .before .phase .given .1)) (c .before .before .before .before .move-step .ensures .1))
+returns-3 c =
+    let s = c .before .before .before .before .before .before .before .before .before .before .before .before .before in
+    let k = c .before .before .before .before .before .before .before .before .phase .given .0 .0 in
+    let move = c .before .before .before .before .move-step .ensures in
+    (move .0, is-step s (c .before .before .before .before .before .before .before .before .phase .given .1) (λ (w : World). moveStep (s .args .self .mode) w k) (λ memory input output room. refl) (move .1))
 
 same-length-4 : tie.Need-same-length-4
 same-length-4 c = search needs
 
 returns-4 : tie.Need-returns-4
-returns-4 c = let a = c .before .before .before .before .before .before .before .before .before .before .args in (c .before .before .before .before .before .before .before .before .before .before .pre .1 .0, went-as (λ (w : World). writeBackStep w (c .before .before .before .before .before .phase2 .given .0 .0)) step (λ memory input output room. at-phase (world (a .self) memory input output room) (c .before .before .before .before .before .phase2 .given .1)) (went-still _ _ _ _ _ _ _ _ _ (c .before .before .write-back-step .ensures)))
+returns-4 c =
+    let s = c .before .before .before .before .before .before .before .before .before .before .before in
+    let k = c .before .before .before .before .before .before .phase2 .given .0 .0 in
+    let still = went-still (λ (w : World). writeBackStep w k) _ _ _ _ _ _ _ _ (c .before .before .before .write-back-step .ensures) in
+    simp (c .at3 .ensures)
+    (s .pre .1 .0, is-step s (c .before .before .before .before .before .before .phase2 .given .1) (λ (w : World). writeBackStep w k) (λ memory input output room. refl) still)
 
 returns-5 : tie.Need-returns-5
-returns-5 c = let a = c .before .before .before .before .before .args in absurd (never-goes (goes-in (a .self) (a .window .now) (a .beats .now) (a .taken) (a .out .now) (a .made) (c .enum-told3 .given .1) (c .before .before .before .before .before .pre .1 .1)))
+returns-5 c = absurd (never-goes (can (c .before .before .before .before .before .before) (c .before .enum-told3 .given .1)))
 
 returns-6 : tie.Need-returns-6
-returns-6 c = let a = c .before .before .before .before .before .args in absurd (never-goes (goes-in (a .self) (a .window .now) (a .beats .now) (a .taken) (a .out .now) (a .made) (c .enum-told4 .given .1) (c .before .before .before .before .before .pre .1 .1)))
+returns-6 c = absurd (never-goes (can (c .before .before .before .before .before .before) (c .before .enum-told4 .given .1)))
 
 returns-7 : tie.Need-returns-7
-returns-7 c = let a = c .before .before .before .before .before .args in absurd (never-goes (goes-in (a .self) (a .window .now) (a .beats .now) (a .taken) (a .out .now) (a .made) (c .enum-told5 .given .1) (c .before .before .before .before .before .pre .1 .1)))
+returns-7 c = absurd (never-goes (can (c .before .before .before .before .before .before) (c .before .enum-told5 .given .1)))
 
 pub step-at-spec : {M : Type 1} → statement M
 step-at-spec =
@@ -83,15 +142,21 @@ step-at-spec =
     (tie.spec
     enum-told
     started-requires
+    at-requires
     enum-told-2
     fetch-step-requires
+    at-requires-2
     enum-known-phase
     move-step-requires
     enum-known-phase-2
     write-back-step-requires
+    at-requires-3
     enum-told-3
+    at-requires-4
     enum-told-4
+    at-requires-5
     enum-told-5
+    at-requires-6
     returns
     same-length
     returns-2

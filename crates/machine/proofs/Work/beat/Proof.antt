@@ -24,7 +24,9 @@ output-beat-requires c κs = search needs
 
 returns : tie.Need-returns
 unfolding beatFor
-returns c = c .output-beat .ensures ∙ simp (c .before .before .has2 .ensures .value, c .before .before .before .before .has .ensures .value)
+returns c =
+    c .output-beat .ensures
+    ∙ simp (c .before .before .has2 .ensures .value, c .before .before .before .before .has .ensures .value)
 
 pub beat-spec : {M : Type 1} → statement M
 beat-spec =
