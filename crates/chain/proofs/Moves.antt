@@ -14,7 +14,7 @@ use Rattle.machine.specs.declared.Machine.{Machine}
 use Rattle.machine.specs.declared.Work.{Work}
 use Rattle.machine.specs.declared.Phase.the-variants.{Move, WriteBack}
 use Rattle.machine.specs.State.{withPhase}
-use Rattle.machine.specs.Beats.{beatEop}
+use Rattle.flow.specs.Beats.{beatEop}
 use Rattle.machine.specs.Step.{World, taken, whole, destinationOf}
 use Rattle.machine.proofs.RunLaws.{Along, here, more}
 use Rattle.chain.specs.Chain.{All, takes, enough, Sent, sentFrom, gathered}

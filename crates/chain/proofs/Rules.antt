@@ -19,7 +19,7 @@ use Rattle.machine.specs.declared.Work.{Work}
 use Rattle.machine.specs.declared.Phase.{Phase}
 use Rattle.machine.specs.declared.Phase.the-variants.{Rest, Fetch, Move, WriteBack}
 use Rattle.machine.specs.State.{run, stopDmaEr, park, withPointer, withPhase, withBusy}
-use Rattle.machine.specs.Beats.{beatError, beatEop, beatData}
+use Rattle.flow.specs.Beats.{beatError, beatEop, beatData}
 use Rattle.machine.specs.Step.{World, taken, became, restStep, ended, wantsLength, begun, fetched, fetchStep, whole, destinationOf, withByte, onward, receiveFrom, moveStep, writtenControl, writtenBack, completed, writeBackStep, stepIn, step}
 use Rattle.chain.specs.Chain.{Link, linkAt}
 

@@ -16,7 +16,7 @@ use Rattle.machine.specs.declared.RunAnswer.{RunAnswer}
 use Rattle.machine.specs.declared.RunAnswer.the-variants as many
 use Rattle.machine.specs.State.{fresh}
 use Rattle.machine.specs.Registers.{WasWritten}
-use Rattle.machine.specs.Beats.{beatsIn}
+use Rattle.flow.specs.Beats.{beatsIn}
 use Rattle.machine.specs.Run.{even, HasRun}
 use Rattle.chain.specs.Chain.{Given, Outcome}
 

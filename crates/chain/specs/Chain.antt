@@ -22,7 +22,7 @@ use Rattle.machine.specs.declared.Reason.the-variants.{Ended, Budget}
 use Rattle.machine.specs.declared.Ran.{Ran}
 use Rattle.machine.specs.State.{withPointer, fresh}
 use Rattle.machine.specs.Registers.{controlWritten}
-use Rattle.machine.specs.Beats.{beatError, beatEop, beatData}
+use Rattle.flow.specs.Beats.{beatError, beatEop, beatData}
 use Rattle.machine.specs.Step.{World}
 use Rattle.machine.specs.Run.{run}
 

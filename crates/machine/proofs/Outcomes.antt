@@ -19,11 +19,11 @@ use Rattle.machine.specs.declared.StepAnswer.{StepAnswer}
 use Rattle.machine.specs.declared.StepAnswer.the-variants as one
 use Rattle.machine.specs.declared.steps.Wait.the-variants.{Stop}
 use Rattle.machine.specs.Saved.{keeps}
-use Rattle.machine.specs.Beats.{beatsIn, beatBytes}
+use Rattle.flow.specs.Beats.{beatsIn, beatBytes}
 use Rattle.machine.specs.Step.{Answer, taken, stopped, step}
 use Rattle.machine.specs.Run.{Lent, serves, refused, even, lentOf, worldOf, outputOver, steppedAs, worldAfter, stepAnswer, windowAfter, outAfter, Stepped}
 use Rattle.machine.specs.Turns.{worldAt, waitOf, Within, Went, Ready}
-use Rattle.machine.proofs.Streams.{length-beats, length-beat-bytes}
+use Rattle.flow.proofs.Streams.{length-beats, length-beat-bytes}
 use Rattle.machine.proofs.Readiness.{keeps-ready}
 
 -- ---- what is lent

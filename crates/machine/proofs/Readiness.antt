@@ -23,7 +23,7 @@ use Rattle.machine.specs.declared.Phase.the-variants.{Rest, Fetch, Move,
 use Rattle.machine.specs.declared.Reason.{Reason}
 use Rattle.machine.specs.State.{modeNumber, phaseNumber, run, stopDmaEr, withPhase}
 use Rattle.machine.specs.Saved.{inHand, fieldsOf, keeps}
-use Rattle.machine.specs.Beats.{beatError, beatEop}
+use Rattle.flow.specs.Beats.{beatError, beatEop}
 use Rattle.machine.specs.Step.{World, Answer, taken, stopped, step, stepIn, restStep, fetchStep, fetched, wantsLength, moveStep, copyStep, sendStep, sendTo, receiveFrom, writeBackStep, completed, afterBack, onward, withByte, whole, sourceOf, destinationOf}
 use Rattle.machine.specs.Turns.{Left, Placed, Ready, stepsOn, steps}
 

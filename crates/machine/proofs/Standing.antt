@@ -14,11 +14,12 @@ use Rattle.machine.specs.declared.Reason.{Reason}
 use Rattle.machine.specs.declared.Reason.the-variants as reason
 use Rattle.machine.specs.declared.RunAnswer.the-variants as many
 use Rattle.machine.specs.declared.steps.Wait.the-variants.{Go, Stop}
-use Rattle.machine.specs.Beats.{beatsIn, beatBytes}
+use Rattle.flow.specs.Beats.{beatsIn, beatBytes}
 use Rattle.machine.specs.Step.{World, taken, step}
 use Rattle.machine.specs.Run.{Report, run, Lent, serves, refused, lentOf, worldOf, outputOver, ranAs, runAnswer, windowAfter, outAfter, HasRun}
 use Rattle.machine.specs.Turns.{worldAt, progress, waitOf, steps, Within, Went, Ready}
-use Rattle.machine.proofs.Streams.{length-beat-bytes, beat-bytes-append, none-made}
+use Rattle.flow.proofs.Streams.{length-beat-bytes}
+use Rattle.machine.proofs.Streams.{beat-bytes-append, none-made}
 use Rattle.machine.proofs.Readiness.{steps-ready}
 use Rattle.machine.proofs.LoopLaws.{report, moreBy, run-stops, run-out, run-steps, more-none, more-more}
 use Rattle.machine.proofs.Outcomes.{serves-ready, took-since, over}

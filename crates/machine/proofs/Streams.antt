@@ -13,32 +13,9 @@ use Rattle.words.specs.declared.Order.the-variants.{MostFirst}
 use Rattle.words.specs.Orders.{bytesOf}
 use Rattle.words.specs.Slices.{put, putAt, numberAt}
 use Rattle.words.proofs.Slices.{put-in, number-in}
-use Rattle.machine.specs.Beats.{beatsIn, beatBytes}
+use Rattle.flow.specs.Beats.{beatsIn, beatBytes}
+use Rattle.flow.proofs.Streams.{length-beats, next-beat}
 use Rattle.machine.specs.Turns.{some}
-
-half : (n : ℕ) → suc (suc n) / 2 ≡ suc (n / 2)
-half n = omega arith
-
-pub length-beats : (xs : List ℕ) → length (beatsIn xs) ≡ length xs / 2
-length-beats [] = refl
-length-beats (x ∷ []) = refl
-length-beats (x ∷ y ∷ xs) = ap suc (length-beats xs) ∙ sym (half (length xs))
-
--- the beat number i of lent bytes
-abbrev pub beatAt : List ℕ → ℕ → ℕ
-beatAt xs i = numberAt MostFirst 2 xs (2 * i)
-
-shifted : (x y : ℕ) (xs : List ℕ) (at : ℕ) → at + 2 ≤ length xs → numberAt MostFirst 2 (x ∷ y ∷ xs) (suc (suc at)) ≡ numberAt MostFirst 2 xs at
-shifted x y xs at h = number-in (x ∷ y ∷ xs) (suc (suc at)) MostFirst 2 (omega arith) ∙ sym (number-in xs at MostFirst 2 h)
-
-pub next-beat : (xs : List ℕ) (i : ℕ) → i < length xs / 2 → drop i (beatsIn xs) ≡ beatAt xs i ∷ drop (i + 1) (beatsIn xs)
-next-beat [] i h = absurd (omega arith)
-next-beat (x ∷ []) i h = absurd (omega arith)
-next-beat (x ∷ y ∷ xs) zero h = ap (λ (b : ℕ). b ∷ beatsIn xs) (sym (number-in (x ∷ y ∷ xs) 0 MostFirst 2 (omega arith)))
-next-beat (x ∷ y ∷ xs) (suc i) h =
-    let two : 2 * suc i ≡ suc (suc (2 * i)) = omega arith in
-    let more : suc i + 1 ≡ suc (i + 1) = omega arith in
-    rw (two, more, shifted x y xs (2 * i) (omega arith)) (next-beat xs i (omega arith))
 
 -- there is a beat, and there is room
 some-by : (b : Bool) (xs : List ℕ) (i : ℕ) → ltb i (length xs / 2) ≡ b → some (drop i (beatsIn xs)) ≡ b
@@ -56,10 +33,6 @@ pub some-room : (room made : ℕ) → ltb made room ≡ ltb 0 (room - made)
 some-room room made = room-by (ltb made room) room made refl
 
 -- beats made
-pub length-beat-bytes : (bs : List ℕ) → length (beatBytes bs) ≡ 2 * length bs
-length-beat-bytes [] = refl
-length-beat-bytes (b ∷ bs) = let l : length (beatBytes bs) ≡ 2 * length bs = length-beat-bytes bs in omega arith
-
 pub none-made : (xs : List ℕ) (at : ℕ) → xs ≡ put xs at (beatBytes [])
 none-made xs at = rw (add-zero at) (sym (take-append-drop at xs))
 

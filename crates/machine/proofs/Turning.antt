@@ -16,10 +16,11 @@ use Rattle.machine.specs.declared.Progress.{Progress}
 use Rattle.machine.specs.declared.Work.{Work}
 use Rattle.machine.specs.declared.Phase.the-variants.{Fetch}
 use Rattle.machine.specs.State.{run, withPhase, withBusy}
-use Rattle.machine.specs.Beats.{beatsIn, beatError, beatEop, beatData}
+use Rattle.flow.specs.Beats.{beatsIn, beatError, beatEop, beatData}
 use Rattle.machine.specs.Step.{World, Answer, taken, sourceOf, destinationOf, onward, withByte, beatFor, restStep, sendStep, receiveFrom}
 use Rattle.machine.specs.Turns.{world, worldAt, progress, inFault, Still, Went}
-use Rattle.machine.proofs.Streams.{beatAt, next-beat, none-made, beat-made}
+use Rattle.flow.proofs.Streams.{beatAt, next-beat}
+use Rattle.machine.proofs.Streams.{none-made, beat-made}
 
 module _ (rule : World → Answer) (m m' : Machine) (window window' beats : List ℕ) (took : ℕ) (out : List ℕ) (made : ℕ) where
   -- no beat made

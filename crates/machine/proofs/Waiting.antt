@@ -22,7 +22,7 @@ use Rattle.machine.specs.declared.steps.Wait.{Wait}
 use Rattle.machine.specs.declared.steps.Wait.the-variants.{Go, Stop}
 use Rattle.machine.specs.State.{run}
 use Rattle.machine.specs.Step.{World, Answer, taken, stopped, step, stepIn, restStep, fetchStep, fetched, wantsLength, copyStep, sendStep, sendTo, receiveFrom, moveStep, sourceOf, destinationOf}
-use Rattle.machine.specs.Beats.{beatsIn}
+use Rattle.flow.specs.Beats.{beatsIn}
 use Rattle.machine.specs.Turns.{worldAt, waitOf, some, Waits, Goes}
 use Rattle.machine.proofs.Streams.{some-beat, some-room}
 

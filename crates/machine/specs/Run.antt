@@ -19,7 +19,7 @@ use Rattle.machine.specs.declared.StepAnswer.the-variants as one
 use Rattle.machine.specs.declared.RunAnswer.{RunAnswer}
 use Rattle.machine.specs.declared.RunAnswer.the-variants as many
 use Rattle.machine.specs.Saved.{keeps}
-use Rattle.machine.specs.Beats.{beatsIn, beatBytes}
+use Rattle.flow.specs.Beats.{beatsIn, beatBytes}
 use Rattle.machine.specs.Step.{World, Answer, taken, stopped, step}
 
 -- ---- the run

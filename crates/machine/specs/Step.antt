@@ -21,7 +21,7 @@ use Rattle.machine.specs.declared.Reason.{Reason}
 use Rattle.machine.specs.declared.Reason.the-variants as reason
 use Rattle.machine.specs.declared.Count.{Count}
 use Rattle.machine.specs.State.{modeNumber, ieError, ieEop, ieDescriptor, ieChain, run, stopDmaEr, ieMax, maxDescProcessed, park, withStatus, withPointer, withPhase, withBusy, pend, rested}
-use Rattle.machine.specs.Beats.{beatError, beatEop, beatData, outputBeat}
+use Rattle.flow.specs.Beats.{beatError, beatEop, beatData, outputBeat}
 
 -- the world of a step: the machine; the window's bytes; the beats not yet taken; the beats made, and the room for more
 pub record World : Type 0 where

@@ -18,7 +18,7 @@ use Rattle.machine.specs.declared.steps.Wait.the-variants.{Go, Stop}
 use Rattle.machine.specs.declared.steps.Lent as code
 use Rattle.machine.specs.declared.steps.Lent.the-variants as lent
 use Rattle.machine.specs.State.{withPhase, withBusy}
-use Rattle.machine.specs.Beats.{beatsIn, beatBytes}
+use Rattle.flow.specs.Beats.{beatsIn, beatBytes}
 use Rattle.machine.specs.Step.{World, Answer, taken, stopped, step, whole}
 use Rattle.machine.specs.Run.{Lent, serves, refused}
 

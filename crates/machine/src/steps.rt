@@ -7,7 +7,7 @@ ghost use lib.ListN.{length};
 ghost use Rattle.bus.specs.Window.{inWindow};
 ghost use Rattle.image.specs.Rules.{asked as askedOf};
 ghost use Rattle.machine.specs.State.{modeNumber, withPhase, withBusy, withPointer};
-ghost use Rattle.machine.specs.Beats.{outputBeat};
+ghost use Rattle.flow.specs.Beats.{outputBeat};
 ghost use Rattle.machine.specs.Step.{World, wantsLength, begun as begunOf, ended as endedOf, byteAddress, sourceOf, destinationOf, withByte, onward as onwardOf, beatFor, writtenControl, writtenBack, counted as countedOf, afterBack, completed as completedOf};
 ghost use Rattle.machine.specs.Step.{fetched as fetchedOf, fetchStep, copyStep, sendStep, receiveFrom, moveStep, writeBackStep, step as stepOf};
 ghost use Rattle.machine.specs.Run.{lentOf, Stepped};

@@ -17,7 +17,7 @@ use Rattle.machine.specs.declared.Mode.{Mode}
 use Rattle.machine.specs.declared.Mode.the-variants.{MemoryToMemory, MemoryToStream, StreamToMemory}
 use Rattle.machine.specs.declared.Work.{Work}
 use Rattle.machine.specs.declared.Phase.the-variants.{Move, WriteBack}
-use Rattle.machine.specs.Beats.{beatError, beatEop}
+use Rattle.flow.specs.Beats.{beatError, beatEop}
 use Rattle.machine.specs.Step.{World, wantsLength, whole, sourceOf, destinationOf, withByte, onward, copyStep, sendTo, sendStep, receiveFrom, moveStep}
 use Rattle.met.specs.Sound.{AllBeats}
 use Rattle.met.proofs.Kept.{Hand, Moving, Suits, Kept, moves-to, on, neither}

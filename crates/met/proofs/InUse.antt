@@ -21,7 +21,7 @@ use Rattle.machine.specs.declared.SavedMachine.the-variants.{Done}
 use Rattle.machine.specs.declared.LoadedMachine.{LoadedMachine}
 use Rattle.machine.specs.declared.LoadedMachine.the-variants.{Good}
 use Rattle.machine.specs.Saved.{keeps, WasLoaded, WasSaved}
-use Rattle.machine.specs.Beats.{beatsIn}
+use Rattle.flow.specs.Beats.{beatsIn}
 use Rattle.machine.specs.Step.{World, Answer, taken, stopped, step}
 use Rattle.machine.specs.Run.{Lent, serves, refused, even, lentOf, worldOf, steppedAs, stepAnswer, runAnswer, Stepped, HasRun}
 use Rattle.met.specs.Sound.{Sound, AllBeats, SoundWorld}

@@ -2,7 +2,7 @@ use Rattle.machine.proofs.Waiting.{waits-at}
 use Rattle.machine.proofs.Outcomes.{serves-ready, wait-stopped, step-refused, step-stopped, step-taken}
 use Rattle.machine.proofs.Streams.{some-beat}
 use Rattle.machine.specs.Turns.{lentAs}
-use Rattle.machine.specs.Beats.{beatsIn}
+use Rattle.flow.specs.Beats.{beatsIn}
 use lib.ListN.{length}
 use mathlib.Core.List.{[]}
 use mathlib.Core.Path.{_≡_, refl, sym, ap, _∙_}
