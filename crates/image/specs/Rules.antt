@@ -1,10 +1,11 @@
 -- The paper's "Image rules": a test for each field, in layout order. A rule over several fields stands at the last of them,
 -- one that makes several zero at each of them.
 -- Assumes nothing.
-use Prim.Native.Nat.{ℕ, suc, _/_, _%_, _^_}
+use Prim.Native.Nat.{ℕ, suc, _%_, _^_}
 use mathlib.Core.Bool.{Bool, true, false, not, cond, _&&_, _||_, Bool·beq}
 use mathlib.Core.List.{List, [], _∷_}
 use lib.Dec.{eqb, leb, ltb}
+use Rattle.words.specs.Bits.{bit}
 use Rattle.bus.specs.Window.{keepsLimits, inWindow}
 use Rattle.image.specs.declared.Fields.{Fields}
 
@@ -32,10 +33,6 @@ either a b n = eqb n a || eqb n b
 abbrev pub between : (a b n : ℕ) → Bool
 between a b n = leb a n && leb n b
 
--- bit i of x is 1
-abbrev pub bit : (x i : ℕ) → Bool
-bit x i = eqb (x / 2 ^ i % 2) 1
-
 -- the bits of x from i on are zero
 abbrev pub zeroFrom : (i x : ℕ) → Bool
 zeroFrom i x = ltb x (2 ^ i)
@@ -62,22 +59,22 @@ abbrev pub inHand : ℕ → Bool
 inHand phase = inMove phase || inWriteBack phase
 
 abbrev pub error : ℕ → Bool
-error status = bit status 0
+error status = bit 0 status
 
 abbrev pub eopEncountered : ℕ → Bool
-eopEncountered status = bit status 1
+eopEncountered status = bit 1 status
 
 abbrev pub busy : ℕ → Bool
-busy status = bit status 4
+busy status = bit 4 status
 
 abbrev pub run : ℕ → Bool
-run control = bit control 5
+run control = bit 5 control
 
 abbrev pub swReset : ℕ → Bool
-swReset control = bit control 16
+swReset control = bit 16 control
 
 abbrev pub ownedByHw : ℕ → Bool
-ownedByHw dcontrol = bit dcontrol 7
+ownedByHw dcontrol = bit 7 dcontrol
 
 -- ---- the rules
 

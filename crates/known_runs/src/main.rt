@@ -36,7 +36,24 @@ const BASE: u64 = 4096;
 
 const FOUR: [u8; 8] = [0, 0x11, 0, 0x22, 0, 0x33, 0, 0x44];
 
-const EIGHT: [u8; 16] = [0, 0x11, 0, 0x22, 0, 0x33, 0, 0x44, 0, 0x11, 0, 0x22, 0, 0x33, 0, 0x44];
+const EIGHT: [u8; 16] = [
+    0,
+    0x11,
+    0,
+    0x22,
+    0,
+    0x33,
+    0,
+    0x44,
+    0,
+    0x11,
+    0,
+    0x22,
+    0,
+    0x33,
+    0,
+    0x44,
+];
 
 fn say(text: &[u8]) {
     io::write_all(STDOUT_FILENO, text);
@@ -107,29 +124,92 @@ fn made(name: &[u8], row: Row, beats: &[u8]) {
     );
     sgdma::sgdma_write_register(&mut image, 8, row.pointer);
     sgdma::sgdma_write_register(&mut image, 4, row.control);
-    sgdma::sgdma_run(&mut image, &mut window, beats, &mut out, row.budget, &mut report);
+    sgdma::sgdma_run(
+        &mut image,
+        &mut window,
+        beats,
+        &mut out,
+        row.budget,
+        &mut report,
+    );
     say(name);
     told(&image, &window, &out, &report);
+}
+
+// Runs whose pointer or descriptor is at fault, or just not.
+fn placed() {
+    let destination = 4350;
+    made(
+        b"7.",
+        Row {
+            destination,
+            ..FIRST
+        },
+        &FOUR,
+    );
+    let pointer = 4098;
+    made(b"8. 4098", Row { pointer, ..FIRST }, &FOUR);
+    let pointer = 4324;
+    made(b"8. 4324", Row { pointer, ..FIRST }, &FOUR);
+    let pointer = 4320;
+    made(b"8. 4320", Row { pointer, ..FIRST }, &FOUR);
+}
+
+// Runs in the modes that read memory.
+fn reading() {
+    let mode = 0;
+    let length = 0;
+    made(
+        b"9.",
+        Row {
+            mode,
+            length,
+            ..FIRST
+        },
+        &FOUR,
+    );
+    let sent = Row {
+        mode: 1,
+        source: 4224,
+        destination: 0,
+        length: 2,
+        owned: 0x85,
+        held: 0xAA,
+        also: 0xBB,
+        ..FIRST
+    };
+    made(b"10. length 2", sent, &[]);
+    let length = 1;
+    made(b"10. length 1", Row { length, ..sent }, &[]);
 }
 
 fn main() {
     made(b"1.", FIRST, &FOUR);
     made(b"2.", FIRST, &[0, 0x11, 1, 0x22, 0, 0x33, 0, 0x44]);
-    made(b"3.", Row { pointer: 4128, ..FIRST }, &FOUR);
+    let pointer = 4128;
+    made(b"3.", Row { pointer, ..FIRST }, &FOUR);
     made(b"4.", FIRST, &[0, 0x11, 0, 0x22, 0, 0x33]);
-    made(b"5.", Row { control: 0x60, ..FIRST }, &[0, 0x11, 0, 0x22, 6, 0x33, 0, 0x44]);
-    made(b"6.", Row { next: 4096, control: 0x2_0020, ..FIRST }, &EIGHT);
-    made(b"7.", Row { destination: 4350, ..FIRST }, &FOUR);
-    more();
-}
-
-fn more() {
-    made(b"8. 4098", Row { pointer: 4098, ..FIRST }, &FOUR);
-    made(b"8. 4324", Row { pointer: 4324, ..FIRST }, &FOUR);
-    made(b"8. 4320", Row { pointer: 4320, ..FIRST }, &FOUR);
-    made(b"9.", Row { mode: 0, length: 0, ..FIRST }, &FOUR);
-    made(b"10. length 2", Row { mode: 1, source: 4224, destination: 0, length: 2, owned: 0x85, held: 0xAA, also: 0xBB, ..FIRST }, &[]);
-    made(b"10. length 1", Row { mode: 1, source: 4224, destination: 0, length: 1, owned: 0x85, held: 0xAA, also: 0xBB, ..FIRST }, &[]);
-    made(b"11. budget 8", Row { budget: 8, ..FIRST }, &FOUR);
-    made(b"11. budget 7", Row { budget: 7, ..FIRST }, &FOUR);
+    let control = 0x60;
+    made(
+        b"5.",
+        Row { control, ..FIRST },
+        &[0, 0x11, 0, 0x22, 6, 0x33, 0, 0x44],
+    );
+    let control = 0x2_0020;
+    let next = 4096;
+    made(
+        b"6.",
+        Row {
+            control,
+            next,
+            ..FIRST
+        },
+        &EIGHT,
+    );
+    placed();
+    reading();
+    let budget = 8;
+    made(b"11. budget 8", Row { budget, ..FIRST }, &FOUR);
+    let budget = 7;
+    made(b"11. budget 7", Row { budget, ..FIRST }, &FOUR);
 }

@@ -1,9 +1,11 @@
 -- The machine's parts by the paper's names and numbers, and the machine with one part changed.
 -- Assumes nothing.
 use Prim.Native.Nat.{ℕ, _+_, _*_, _/_, _%_}
-use mathlib.Core.Bool.{Bool, true, false, cond, _||_}
+use mathlib.Core.Bool.{Bool, true, false, _||_}
 use Rattle.words.specs.Bits.{bit}
 use Rattle.bus.specs.declared.Window.{Window}
+use Rattle.image.specs.Layout.{flag}
+use Rattle.image.specs.Rules as rule
 use Rattle.machine.specs.declared.Machine.{Machine}
 use Rattle.machine.specs.declared.Mode.{Mode}
 use Rattle.machine.specs.declared.Mode.the-variants.{MemoryToMemory, MemoryToStream, StreamToMemory}
@@ -14,9 +16,6 @@ use Rattle.machine.specs.declared.Phase.{Phase}
 use Rattle.machine.specs.declared.Phase.the-variants.{Rest, Fetch, Move, WriteBack, Ended, Halted, Faulted}
 
 -- ---- numbers
-
-abbrev pub one : Bool → ℕ
-one b = cond b 1 0
 
 abbrev pub modeNumber : Mode → ℕ
 modeNumber MemoryToMemory = 0
@@ -34,7 +33,7 @@ phaseNumber (Faulted f) = 6
 
 -- 0 ERROR, 1 EOP_ENCOUNTERED, 2 DESCRIPTOR_COMPLETED, 3 CHAIN_COMPLETED, 4 BUSY; others 0
 abbrev pub statusNumber : Status → ℕ
-statusNumber s = one (s .error) * 1 + one (s .eop) * 2 + one (s .descriptor) * 4 + one (s .chain) * 8 + one (s .busy) * 16
+statusNumber s = flag (s .error) * 1 + flag (s .eop) * 2 + flag (s .descriptor) * 4 + flag (s .chain) * 8 + flag (s .busy) * 16
 
 -- ---- the bits of control
 
@@ -54,7 +53,7 @@ abbrev pub ieGlobal : Control → Bool
 ieGlobal c = bit 4 (c .0)
 
 abbrev pub run : Control → Bool
-run c = bit 5 (c .0)
+run c = rule.run (c .0)
 
 abbrev pub stopDmaEr : Control → Bool
 stopDmaEr c = bit 6 (c .0)
@@ -67,7 +66,7 @@ abbrev pub maxDescProcessed : Control → ℕ
 maxDescProcessed c = c .0 / 256 % 256
 
 abbrev pub swReset : Control → Bool
-swReset c = bit 16 (c .0)
+swReset c = rule.swReset (c .0)
 
 abbrev pub park : Control → Bool
 park c = bit 17 (c .0)

@@ -3,7 +3,8 @@ ghost use mathlib.Core.Path.{_≡_};
 ghost use mathlib.Core.Bool.{cond};
 ghost use Prim.Native.Nat.{_≤_, _<_};
 ghost use Rattle.words.specs.Promise.{Gives};
-ghost use Rattle.machine.specs.State.{one, fresh as freshOf, statusNumber, rested as restedOf};
+ghost use Rattle.image.specs.Layout.{flag as flagOf};
+ghost use Rattle.machine.specs.State.{fresh as freshOf, statusNumber, rested as restedOf};
 ghost use Rattle.machine.specs.Registers.{statusWritten, stored as storedOf, released as releasedOf, controlWritten, WasRead, WasWritten, WasLine};
 use crate::Control;
 use crate::Machine;
@@ -36,7 +37,7 @@ pub enum Line {
 
 // A flag as its bit.
 fn flag(b: bool) -> u32
-    ensures { λ r. ⌜ (r ≡ one b) × (r ≤ 1) ⌝ }
+    ensures { λ r. ⌜ (r ≡ flagOf b) × (r ≤ 1) ⌝ }
 {
     if b { 1 } else { 0 }
 }

@@ -19,7 +19,8 @@ use Rattle.machine.specs.declared.Work.{Work}
 use Rattle.machine.specs.declared.Fault.{Fault}
 use Rattle.machine.specs.declared.Phase.{Phase}
 use Rattle.machine.specs.declared.Phase.the-variants.{Rest, Fetch, Move, WriteBack, Ended, Halted, Faulted}
-use Rattle.machine.specs.State.{one, modeNumber, phaseNumber, statusNumber}
+use Rattle.image.specs.Layout.{flag}
+use Rattle.machine.specs.State.{modeNumber, phaseNumber, statusNumber}
 use Rattle.machine.specs.Saved.{none, noFault, inHand, faultIn, modeOf, statusOf}
 
 pub mode-back : (mode : Mode) → modeOf (modeNumber mode) ≡ mode
@@ -32,20 +33,20 @@ mode-there zero h = refl
 mode-there (suc zero) h = refl
 mode-there (suc (suc n)) h = omega arith
 
-one-lt : (b : Bool) → one b < 2
-one-lt true = omega arith
-one-lt false = omega arith
+flag-lt : (b : Bool) → flag b < 2
+flag-lt true = omega arith
+flag-lt false = omega arith
 
-as-flag : (n : ℕ) (b : Bool) → n ≡ one b → eqb n 1 ≡ b
+as-flag : (n : ℕ) (b : Bool) → n ≡ flag b → eqb n 1 ≡ b
 as-flag n b e = ap (λ (x : ℕ). eqb x 1) e ∙ flag-back b
 
 -- the bits of a status
 module _ (s : Status) where
   abbrev bounds : Type 0
-  bounds = (one (s .error) < 2) × (one (s .eop) < 2) × (one (s .descriptor) < 2) × (one (s .chain) < 2) × (one (s .busy) < 2)
+  bounds = (flag (s .error) < 2) × (flag (s .eop) < 2) × (flag (s .descriptor) < 2) × (flag (s .chain) < 2) × (flag (s .busy) < 2)
 
   small : bounds
-  small = (one-lt (s .error), one-lt (s .eop), one-lt (s .descriptor), one-lt (s .chain), one-lt (s .busy))
+  small = (flag-lt (s .error), flag-lt (s .eop), flag-lt (s .descriptor), flag-lt (s .chain), flag-lt (s .busy))
 
   pub status-lt-32 : statusNumber s < 32
   status-lt-32 = omega (arith, small)
@@ -73,7 +74,7 @@ in-order a b c d e = omega arith
 
 pub status-there : (n : ℕ) → n < 32 → statusNumber (statusOf n) ≡ n
 status-there n h =
-    let f : (w : ℕ) → one (eqb (n / w % 2) 1) ≡ n / w % 2 = λ w. flag-there (n / w % 2) (omega arith) in
+    let f : (w : ℕ) → flag (eqb (n / w % 2) 1) ≡ n / w % 2 = λ w. flag-there (n / w % 2) (omega arith) in
     simp f (in-order (n / 1 % 2) (n / 2 % 2) (n / 4 % 2) (n / 8 % 2) (n / 16 % 2) ∙ join-split (1 ∷ 1 ∷ 1 ∷ 1 ∷ 1 ∷ []) n ∙ mod-eq-of-lt h)
 
 -- the phase of this number, with what it keeps
