@@ -6,6 +6,8 @@ pub mod Streams
 pub mod Turning
 pub mod Readiness
 pub mod Waiting
+pub mod InRows
+pub mod Bulk
 pub mod Outcomes
 pub mod LoopLaws
 pub mod Standing

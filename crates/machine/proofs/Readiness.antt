@@ -13,7 +13,7 @@ use Rattle.descriptor.specs.declared.Descriptor.{Descriptor}
 use Rattle.descriptor.specs.Layout.{owned}
 use Rattle.image.specs.Rules.{asked, keepsRules, lowestBroken}
 use Rattle.image.specs.Rules as rules
-use Rattle.image.proofs.Facts.{move-lt, address-inside}
+use Rattle.image.proofs.Facts.{move-lt, move-eop, address-inside}
 use Rattle.machine.specs.declared.Machine.{Machine}
 use Rattle.machine.specs.declared.Mode.{Mode}
 use Rattle.machine.specs.declared.Mode.the-variants.{MemoryToMemory, MemoryToStream, StreamToMemory}
@@ -55,7 +55,7 @@ module _ (n : ℕ) (w : World) (s : w .machine .window .length ≡ n) where
       (λ e.
       either n (wantsLength (w .machine .mode) && eqb (d .length) 0)
       (λ f. goes (record { size = s; left = tt; placed = tt }))
-      (λ f. goes (record { size = s; left = begins (w .machine .mode) (d .length) f; placed = h })))
+      (λ f. goes (record { size = s; left = (begins (w .machine .mode) (d .length) f, refl); placed = h })))
       (λ e. goes (record { size = s; left = tt; placed = tt }))
 
   fetch-stays : Stays n (fetchStep w)
@@ -72,16 +72,17 @@ module _ (n : ℕ) (w : World) (s : w .machine .window .length ≡ n) where
 
 -- ---- Move
 
-or-right : (a b : Bool) → (a || b) ≡ false → b ≡ false
-or-right true b e = absurd (true≢false e)
-or-right false b e = e
+neither : (a b : Bool) → (a || b) ≡ false → (a ≡ false) × (b ≡ false)
+neither true b e = absurd (true≢false e)
+neither false b e = (refl, e)
 
 module _ (n : ℕ) (m : Machine) (k : Work) (s : m .window .length ≡ n) (p : inWindow (m .window) (k .at) 32 ≡ true) where
   onward-by : (b : Bool) → (k .eop || eqb (k .moved) (whole m k)) ≡ b → k .moved ≤ whole m k → Ready (withPhase (cond b (WriteBack k) (Move k)) m) n
   onward-by true e l = record { size = s; left = tt; placed = p }
   onward-by false e l =
-      let other : (k .moved ≡ whole m k → ⊥) = eqb-false _ _ (or-right (k .eop) _ e) in
-      record { size = s; left = omega arith; placed = p }
+      let not-done = neither (k .eop) _ e in
+      let other : (k .moved ≡ whole m k → ⊥) = eqb-false _ _ (not-done .1) in
+      record { size = s; left = (omega arith, not-done .0); placed = p }
 
   onward-ready : k .moved ≤ whole m k → Ready (onward m k) n
   unfolding onward
@@ -149,7 +150,7 @@ phase-stays : (n : ℕ) (phase : Phase) (w : World) → w .machine .window .leng
 unfolding restStep writeBackStep
 phase-stays n Rest w s l p = either n (run (w .machine .control)) (λ e. goes (record { size = s; left = tt; placed = tt })) (λ e. stops)
 phase-stays n Fetch w s l p = fetch-stays n w s
-phase-stays n (Move k) w s l p = move-stays n w k s l p (w .machine .mode)
+phase-stays n (Move k) w s l p = move-stays n w k s (l .0) p (w .machine .mode)
 phase-stays n (WriteBack k) w s l p = goes (completed-ready n (w .machine) k s)
 phase-stays n Ended w s l p = stops
 phase-stays n Halted w s l p = stops
@@ -181,8 +182,10 @@ module _ (m : Machine) (e : lowestBroken (fieldsOf m) ≡ 0) where
   left-by : (p : Phase) → m .phase ≡ p → Left m p
   left-by Rest q = tt
   left-by Fetch q = tt
-  left-by (Move k) q =
-      subst (λ (p : Phase). inHand p .moved < asked (modeNumber (m .mode)) (inHand p .length)) q (move-lt (fieldsOf m) e (ap phaseNumber q))
+  left-by (Move k) q = (
+    subst (λ (p : Phase). inHand p .moved < asked (modeNumber (m .mode)) (inHand p .length)) q (move-lt (fieldsOf m) e (ap phaseNumber q)),
+    subst (λ (p : Phase). inHand p .eop ≡ false) q (move-eop (fieldsOf m) e (ap phaseNumber q)),
+  )
   left-by (WriteBack k) q = tt
   left-by Ended q = tt
   left-by Halted q = tt

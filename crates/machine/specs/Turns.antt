@@ -8,18 +8,22 @@ use mathlib.Core.List.{List, [], _∷_, _++_}
 use lib.Dec.{ltb}
 use lib.ListN.{length, drop}
 use Rattle.words.specs.Slices.{put}
-use Rattle.bus.specs.Window.{inWindow}
+use Rattle.bus.specs.declared.Window.{Window}
+use Rattle.bus.specs.Window.{inWindow, placeOf}
 use Rattle.machine.specs.declared.Machine.{Machine}
+use Rattle.machine.specs.declared.Mode.{Mode}
+use Rattle.machine.specs.declared.Work.{Work}
 use Rattle.machine.specs.declared.Progress.{Progress}
 use Rattle.machine.specs.declared.Phase.{Phase}
 use Rattle.machine.specs.declared.Phase.the-variants.{Rest, Fetch, Move, WriteBack, Ended, Halted, Faulted}
+use Rattle.machine.specs.declared.bursts.Reach.{Reach}
 use Rattle.machine.specs.declared.steps.Wait.{Wait}
 use Rattle.machine.specs.declared.steps.Wait.the-variants.{Go, Stop}
 use Rattle.machine.specs.declared.steps.Lent as code
 use Rattle.machine.specs.declared.steps.Lent.the-variants as lent
 use Rattle.machine.specs.State.{withPhase, withBusy}
 use Rattle.flow.specs.Beats.{beatsIn, beatBytes}
-use Rattle.machine.specs.Step.{World, Answer, taken, stopped, step, whole}
+use Rattle.machine.specs.Step.{World, Answer, taken, stopped, step, whole, onward, beatFor}
 use Rattle.machine.specs.Run.{Lent, serves, refused}
 
 -- ---- worlds
@@ -98,11 +102,11 @@ pub record Went (rule : World → Answer) (m : Machine) (window beats : List ℕ
 
 -- ---- what a step needs of a machine
 
--- in Move there is a byte left to move
+-- in Move there is a byte left to move, and no EOP was seen
 abbrev pub Left : Machine → Phase → Type 0
 Left m Rest = Unit {0}
 Left m Fetch = Unit {0}
-Left m (Move k) = k .moved < whole m k
+Left m (Move k) = (k .moved < whole m k) × (k .eop ≡ false)
 Left m (WriteBack k) = Unit {0}
 Left m Ended = Unit {0}
 Left m Halted = Unit {0}
@@ -123,3 +127,50 @@ pub record Ready (m : Machine) (lent : ℕ) : Type 0 where
   pub size : m .window .length ≡ lent
   pub left : Left m (m .phase)
   pub placed : Placed m (m .phase)
+
+-- ---- several bytes at once
+
+-- the work with n bytes more, and these errors
+abbrev pub movedBy : Work → (n errors : ℕ) → Work
+movedBy k n errors =
+    record {
+      at = k .at;
+      source = k .source;
+      destination = k .destination;
+      length = k .length;
+      control = k .control;
+      errors = errors;
+      moved = k .moved + n;
+      eop = k .eop;
+    }
+
+-- a machine in Move, in this mode and over this window, with this work in hand, of which so many bytes are left
+pub record Moving (mode : Mode) (window : Window) (k : Work) (most : ℕ) (m : Machine) : Type 0 where
+  pub mode-is : m .mode ≡ mode
+  pub window-is : m .window ≡ window
+  pub phase-is : m .phase ≡ Move k
+  pub no-eop : k .eop ≡ false
+  pub some : k .moved < whole m k
+  pub left : k .moved + most ≤ whole m k
+
+-- n bytes, moved at once: of every such machine they are n steps
+abbrev pub Bursts : Mode → Window → Work → (most n errors : ℕ) (window beats : List ℕ) (took : ℕ) (out : List ℕ) (made took' made' : ℕ) (window' out' : List ℕ) → Type 0
+Bursts mode place k most n errors window beats took out made took' made' window' out' =
+    (m : Machine) → Moving mode place k most m
+    → Went (λ (w : World). steps n w) m window beats took out made (progress (onward m (movedBy k n errors)) took' made') window' out'
+
+-- n bytes from the address a on stand at places from `at` on
+pub record Row (window : Window) (a at n : ℕ) : Type 0 where
+  pub inside : inWindow window a 1 ≡ true
+  pub place : at ≡ placeOf window a
+  pub fits : at + n ≤ window .length
+
+-- so many bytes are in reach from the address a on; none where it is fixed
+pub record Reaches (fixed : Bool) (window : Window) (a : ℕ) (r : Reach) : Type 0 where
+  pub row : (n : ℕ) → 1 ≤ n → n ≤ r .bytes → Row window a (r .at) n
+  pub free : 1 ≤ r .bytes → fixed ≡ false
+  pub within : r .at + r .bytes ≤ window .length
+
+-- the next n bytes make beats with neither SOP nor EOP
+abbrev pub Unmarked : Work → ℕ → Type 0
+Unmarked k n = (i errors byte : ℕ) → i < n → beatFor (movedBy k i errors) byte ≡ byte

@@ -1,5 +1,6 @@
 // The SG-DMA core: what it keeps, its registers, its saved image, its steps and runs. The machine goes into each call by value and
 // comes back from it. (Altera, Embedded Peripherals, chapter 23, as the paper states it.)
+pub mod bursts;
 pub mod registers;
 pub mod runs;
 pub mod saved;

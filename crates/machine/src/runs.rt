@@ -1,15 +1,23 @@
 // A run: steps until one cannot be taken or the budget is spent.
-ghost use Prim.Native.Nat.{_≤_};
+ghost use mathlib.Core.Path.{_≡_};
+ghost use mathlib.Core.Bool.{false};
+ghost use Prim.Native.Nat.{_+_, _≤_, _<_};
 ghost use lib.ListN.{length};
-ghost use Rattle.machine.specs.Step.{World, step as stepOf};
+ghost use Rattle.machine.specs.declared.Phase.the-variants.{Move};
+ghost use Rattle.machine.specs.Step.{World, whole as wholeOf, onward as onwardOf, step as stepOf};
 ghost use Rattle.machine.specs.Run.{HasRun};
-ghost use Rattle.machine.specs.Turns.{progress, steps as stepsOf, Goes, Within, Went, Ready};
+ghost use Rattle.machine.specs.Turns.{progress, steps as stepsOf, Goes, Within, Went, Ready, movedBy};
 use crate::Machine;
+use crate::Mode;
+use crate::Phase;
 use crate::Ran;
 use crate::Reason;
 use crate::RunAnswer;
+use crate::Work;
+use crate::bursts::least;
 use crate::steps::Lent;
 use crate::steps::Wait;
+use crate::steps::asked;
 
 // Where some steps led, and how many they were.
 struct Advanced {
@@ -17,6 +25,95 @@ struct Advanced {
     taken: usize,
     made: usize,
     steps: u32,
+}
+
+// Bytes moved at once.
+impl Machine {
+    // Where so many bytes of the work in hand lead, with these errors.
+    fn moved(self, k: Work, n: usize, errors: u8, taken: usize, made: usize) -> Advanced
+        requires { ⌜ k .moved + n ≤ 65535 ⌝ }
+        ensures { λ r. ⌜ r ≡ record { machine = onwardOf self (movedBy k n errors); taken = taken; made = made; steps = n } ⌝ }
+    {
+        let work = Work {
+            errors,
+            moved: k.moved + n as u16,
+            ..k
+        };
+        Advanced {
+            machine: self.onward(work),
+            taken,
+            made,
+            steps: n as u32,
+        }
+    }
+
+    // Bytes of the work in hand, `left` at most, by the mode.
+    fn move_many(
+        self,
+        k: Work,
+        window: &mut [u8],
+        beats: &[u8],
+        taken: usize,
+        out: &mut [u8],
+        made: usize,
+        left: u32,
+    ) -> Advanced
+        requires { ⌜ self .window .length ≡ length (now window) ⌝ }
+        requires { ⌜ self .phase ≡ Move k ⌝ }
+        requires { ⌜ (k .moved < wholeOf self k) × (k .eop ≡ false) ⌝ }
+        requires { ⌜ Within (now beats) (now out) taken made ⌝ }
+        requires { ⌜ 1 ≤ left ⌝ }
+        ensures { λ r. ⌜ r .steps ≤ left ⌝ }
+        ensures { λ r. ⌜ Within (now (beats .entry)) (now (out .entry)) (r .taken) (r .made) ⌝ }
+        ensures { λ r. ⌜ Went (λ (w : World). stepsOf (r .steps) w) self (now (window .entry)) (now (beats .entry)) taken (now (out .entry)) made (progress (r .machine) (r .taken) (r .made)) (now (window .exit)) (now (out .exit)) ⌝ }
+    {
+        let mode = self.mode;
+        let place = self.window;
+        let most = least((asked(mode, k.length) - k.moved) as usize, left as usize);
+        match mode {
+            Mode::MemoryToMemory => {
+                let n = k.copy_many(place, window, most);
+                self.moved(k, n, k.errors, taken, made)
+            }
+            Mode::MemoryToStream => {
+                let n = k.send_many(place, window, out, made, most);
+                self.moved(k, n, k.errors, taken, made + n)
+            }
+            Mode::StreamToMemory => {
+                let a = k.receive_many(place, window, beats, taken, most);
+                self.moved(k, a.count, a.errors, taken + a.count, made)
+            }
+        }
+    }
+
+    // In Move as many bytes as can be moved at once; none in another phase.
+    fn burst(
+        self,
+        window: &mut [u8],
+        beats: &[u8],
+        taken: usize,
+        out: &mut [u8],
+        made: usize,
+        left: u32,
+    ) -> Advanced
+        requires { ⌜ Ready self (length (now window)) ⌝ }
+        requires { ⌜ Within (now beats) (now out) taken made ⌝ }
+        requires { ⌜ 1 ≤ left ⌝ }
+        ensures { λ r. ⌜ r .steps ≤ left ⌝ }
+        ensures { λ r. ⌜ Within (now (beats .entry)) (now (out .entry)) (r .taken) (r .made) ⌝ }
+        ensures { λ r. ⌜ Went (λ (w : World). stepsOf (r .steps) w) self (now (window .entry)) (now (beats .entry)) taken (now (out .entry)) made (progress (r .machine) (r .taken) (r .made)) (now (window .exit)) (now (out .exit)) ⌝ }
+    {
+        let phase = self.phase;
+        let Phase::Move(k) = phase else {
+            return Advanced {
+                machine: self,
+                taken,
+                made,
+                steps: 0,
+            };
+        };
+        self.move_many(k, window, beats, taken, out, made, left)
+    }
 }
 
 impl Machine {
@@ -38,6 +135,10 @@ impl Machine {
         ensures { λ r. ⌜ Within (now (beats .entry)) (now (out .entry)) (r .taken) (r .made) ⌝ }
         ensures { λ r. ⌜ Went (λ (w : World). stepsOf (r .steps) w) self (now (window .entry)) (now (beats .entry)) taken (now (out .entry)) made (progress (r .machine) (r .taken) (r .made)) (now (window .exit)) (now (out .exit)) ⌝ }
     {
+        let b = self.burst(window, beats, taken, out, made, left);
+        if b.steps != 0 {
+            return b;
+        }
         let s = self.step_at(window, beats, taken, out, made);
         let machine = s.machine;
         Advanced {

@@ -210,7 +210,7 @@ impl Machine {
     }
 
     // When L bytes are moved or a taken beat had EOP, go to WriteBack.
-    fn onward(self, k: Work) -> Machine
+    pub(crate) fn onward(self, k: Work) -> Machine
         ensures { λ r. ⌜ r ≡ onwardOf self k ⌝ }
     {
         let mode = self.mode;

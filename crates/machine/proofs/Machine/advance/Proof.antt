@@ -1,13 +1,16 @@
-use Rattle.machine.proofs.Turning.{went-as}
-use Rattle.machine.specs.Turns.{steps}
-use Rattle.machine.specs.Step.{World, step}
-use mathlib.Core.Path.{refl}
+use native.Mathlib.Omega.{arith}
+use Prim.Native.Nat.{ℕ}
+use mathlib.Core.List.{List}
+use lib.ListN.{length}
+use Rattle.machine.specs.Step.{step}
+use Rattle.machine.specs.Turns.{Ready, Within, Goes}
+use Rattle.machine.proofs.Bulk.{as-before, then-step}
 use borrow.Author.Needs.{needs}
 use Rattle.machine.proofs.Machine.advance.Statement.{statement}
 use Rattle.machine.proofs.Machine.advance.Tie as tie
 
-step-at-requires : tie.Need-step-at-requires
-step-at-requires c κs = search needs
+burst-requires : tie.Need-burst-requires
+burst-requires c κs = search needs
 
 same-length : tie.Need-same-length
 same-length c = search needs
@@ -16,9 +19,43 @@ same-length-2 : tie.Need-same-length-2
 same-length-2 c = search needs
 
 returns : tie.Need-returns
-unfolding steps
-returns c =
-    ((search needs, search needs), (c .before .before .before .before .before .step-at .ensures .0, went-as step (λ (w : World). steps 1 w) (λ memory input output room. refl) (c .before .before .before .before .before .step-at .ensures .1)))
+returns c = search needs
+
+step-at-requires : tie.Need-step-at-requires
+step-at-requires c κs =
+    let start = c .before .before .before .before .before .before .before .before .before .before .before .before .before .before in
+    let self = start .args .self in
+    let beats = start .args .beats .now in
+    let still = as-before (c .before .before .before .before .before .before .before .before .burst .ensures .1 .1) (c .before .before .if1 .left) in (
+      still (λ (window out : List ℕ). Ready self (length window)) (start .pre .0),
+      (
+        still (λ (window out : List ℕ). Within beats out (start .args .taken) (start .args .made)) (start .pre .1 .0),
+        still (λ (window out : List ℕ). Goes step self window beats (start .args .taken) out (start .args .made)) (start .pre .1 .1 .0),
+      ),
+    )
+
+same-length-3 : tie.Need-same-length-3
+same-length-3 c = search needs
+
+same-length-4 : tie.Need-same-length-4
+same-length-4 c = search needs
+
+returns-2 : tie.Need-returns-2
+returns-2 c =
+    let went = c .before .before .before .before .before .step-at .ensures in (
+      (omega arith, c .before .before .before .before .before .before .before .before .before .before .before .before .before .before .before .before .before .before .before .before .pre .1 .1 .1),
+      then-step (c .before .before .before .before .before .before .before .before .before .before .before .before .before .before .burst .ensures .1 .1) (c .before .before .before .before .before .before .before .before .if1 .left) (went .0) (went .1),
+    )
 
 pub advance-spec : {M : Type 1} → statement M
-advance-spec = tie.close (tie.spec step-at-requires same-length same-length-2 returns)
+advance-spec =
+    tie.close
+    (tie.spec
+    burst-requires
+    same-length
+    same-length-2
+    returns
+    step-at-requires
+    same-length-3
+    same-length-4
+    returns-2)

@@ -56,7 +56,7 @@ move-step-requires c κs =
     let e = c .before .before .before .phase .given .1 in
     let left = subst (λ (x : Phase). Left (s .args .self) x) e (s .pre .0 .left) in
     let k = c .before .before .before .phase .given .0 .0 in
-    (s .pre .0 .size, (left-lt (s .args .self) k (omega (arith, c .before .before .known-told .given)) left, (s .pre .1 .0, can s e)))
+    (s .pre .0 .size, (left-lt (s .args .self) k (omega (arith, c .before .before .known-told .given)) (left .0), (s .pre .1 .0, can s e)))
 
 enum-known-phase-2 : tie.Need-enum-known-phase-2
 enum-known-phase-2 c = search needs

@@ -1,0 +1,234 @@
+-- What the code finds before it moves bytes at once, and that the move is a burst: no step where there is no byte, else a row.
+-- Assumes nothing.
+use Prim.Native.Nat.{ℕ, zero, suc, _+_, _-_, _*_, _/_, _≤_, _<_}
+use mathlib.Core.Path.{_≡_, refl, sym, ap, subst, subst⁻¹, _∙_}
+use mathlib.Core.Bool.{Bool, true, false, cond, _&&_, and-false}
+use mathlib.Core.List.{List, [], _++_, append-nil}
+use native.Mathlib.Nat.{sub-zero}
+use native.Mathlib.Omega.{arith}
+use lib.Dec.{eqb}
+use lib.ListN.{length, take, drop, getD, length-drop}
+use lib.Seq.{length-take-le, drop-drop}
+use borrow.Author.Tests.{ne-eqb, eqb-false}
+use Rattle.words.specs.Slices.{put}
+use Rattle.bus.specs.declared.Window.{Window}
+use Rattle.bus.specs.declared.Place.{Place}
+use Rattle.bus.specs.declared.Located.{Located}
+use Rattle.bus.specs.declared.Located.the-variants.{At}
+use Rattle.bus.specs.Window.{Sought}
+use Rattle.descriptor.specs.Layout.{generateEop, readFixed, writeFixed}
+use Rattle.flow.specs.declared.Absorbed.{Absorbed}
+use Rattle.flow.specs.Beats.{beatEop, beatsIn, beatBytes}
+use Rattle.flow.specs.Rows.{fit, calm, gathered, spread, copied, plain, absorbedCount, Absorbs, copiedOver, sentOver}
+use Rattle.flow.proofs.Fitting.{both-fit}
+use Rattle.flow.proofs.Longer.{calm-most, calm-before}
+use Rattle.flow.proofs.Streams.{length-beats}
+use Rattle.machine.specs.declared.Machine.{Machine}
+use Rattle.machine.specs.declared.Mode.{Mode}
+use Rattle.machine.specs.declared.Mode.the-variants.{MemoryToMemory, MemoryToStream, StreamToMemory}
+use Rattle.machine.specs.declared.Work.{Work}
+use Rattle.machine.specs.declared.Phase.the-variants.{Move}
+use Rattle.machine.specs.declared.Progress.{Progress}
+use Rattle.machine.specs.declared.bursts.Reach.{Reach}
+use Rattle.machine.specs.declared.runs.Advanced.{Advanced}
+use Rattle.image.specs.Rules.{asked}
+use Rattle.machine.specs.State.{modeNumber}
+use Rattle.machine.specs.Step.{World, taken, step, whole, sourceOf, destinationOf, onward, beatFor}
+use Rattle.machine.specs.Turns.{world, worldAt, progress, Within, steps, Went, movedBy, Moving, Bursts, Reaches, Unmarked}
+use Rattle.machine.proofs.Places.{inside, place, fits}
+use Rattle.machine.proofs.Streams.{none-made}
+use Rattle.machine.proofs.Turning.{went-none, went-as}
+use Rattle.machine.proofs.InRows.{at-first, copy-steps, send-steps, receive-steps}
+
+-- ---- what is in reach
+
+pub no-reach : (fixed : Bool) (w : Window) (a : ℕ) → Reaches fixed w a (record { at = 0; bytes = 0 })
+no-reach fixed w a = record { row = λ n h i. absurd (omega arith); free = λ h. absurd (omega arith); within = omega arith }
+
+pub reached : (fixed : Bool) (w : Window) (a at : ℕ) {l : Located} {p : Place} → fixed ≡ false → Sought w a 1 l → l ≡ At p → at ≡ p .0
+    → Reaches fixed w a (record { at = at; bytes = w .length - at })
+reached fixed w a at free s e same =
+    record {
+      row = λ n h i. record { inside = inside s refl e; place = same ∙ place s refl e; fits = omega (arith, fits s e) };
+      free = λ h. free;
+      within = omega (arith, fits s e);
+    }
+
+pub reaches-as : {f g : Bool} {w : Window} {a b : ℕ} {r : Reach} → f ≡ g → a ≡ b → Reaches f w a r → Reaches g w b r
+reaches-as {g = g} {w = w} {a = a} {r = r} e d x = subst (λ (z : ℕ). Reaches g w z r) d (subst (λ (z : Bool). Reaches z w a r) e x)
+
+-- ---- beats with neither SOP nor EOP
+
+pub unmarked-none : (k : Work) → Unmarked k 0
+unmarked-none k i errors byte h = absurd (omega arith)
+
+not-first : (b : Bool) (x i : ℕ) → (b && eqb x 0) ≡ false → (b && eqb (x + i) 0) ≡ false
+not-first false x i e = refl
+not-first true x i e = let z : (x ≡ 0 → ⊥) = eqb-false x 0 e in ne-eqb _ _ (λ (y : x + i ≡ 0). z (omega arith))
+
+plain-beat : (byte : ℕ) → 0 + 0 + byte ≡ byte
+plain-beat byte = omega arith
+
+-- `fixed` and `generate` are what the code found of the control byte
+module _ (k : Work) {fixed generate : Bool} (f : fixed ≡ writeFixed (k .control .0)) (g : generate ≡ generateEop (k .control .0))
+    (first : (fixed && eqb (k .moved) 0) ≡ false) where
+  not-sop : (i : ℕ) → (writeFixed (k .control .0) && eqb (k .moved + i) 0) ≡ false
+  not-sop i = not-first (writeFixed (k .control .0)) (k .moved) i (ap (λ (b : Bool). b && eqb (k .moved) 0) (sym f) ∙ first)
+
+  -- without GENERATE_EOP
+  pub unmarked-all : (n : ℕ) → generate ≡ false → Unmarked k n
+  unfolding beatFor
+  unmarked-all n e i errors byte h = rw (not-sop i, sym g ∙ e) (plain-beat byte)
+
+  -- with it, all but the last
+  pub unmarked-inner : (most : ℕ) → k .moved + most ≤ k .length → Unmarked k (most - 1)
+  unfolding beatFor
+  unmarked-inner most l i errors byte h =
+      let last : eqb (k .moved + i + 1) (k .length) ≡ false = ne-eqb _ _ (λ (y : k .moved + i + 1 ≡ k .length). omega arith) in
+      rw (not-sop i, last, and-false (generateEop (k .control .0))) (plain-beat byte)
+
+-- ---- bursts
+
+-- no byte, no step
+no-steps : {mode : Mode} {window : Window} {k : Work} {most : ℕ} {m : Machine} → Moving mode window k most m
+    → (memory input output : List ℕ) (room : ℕ)
+    → steps 0 (world m memory input output room) ≡ taken (world (onward m (movedBy k 0 (k .errors))) memory input output room)
+unfolding steps
+no-steps g memory input output room = ap (λ (x : Machine). taken (world x memory input output room)) (sym (at-first g))
+
+module _ {place : Window} {k : Work} {most : ℕ} where
+  -- mode 0
+  pub copy-bursts : {from to : Reach} (n : ℕ) (memory memory' : List ℕ) → Reaches (readFixed (k .control .0)) place (sourceOf k) from
+      → Reaches (writeFixed (k .control .0)) place (destinationOf k) to → place .length ≡ length memory
+      → n ≤ most → n ≤ from .bytes → n ≤ to .bytes → memory' ≡ copiedOver memory (from .at) (to .at) n
+      → (beats : List ℕ) (took : ℕ) (out : List ℕ) (made : ℕ)
+      → Bursts MemoryToMemory place k most n (k .errors) memory beats took out made took made memory' out
+  unfolding copiedOver copied
+  copy-bursts {from} {to} n memory memory' r s size l f t left beats took out made m g =
+      subst⁻¹ (λ (x : List ℕ). Went (λ (w : World). steps n w) m memory beats took out made (progress (onward m (movedBy k n (k .errors))) took made) x out)
+      (left ∙ both-fit (copied memory (from .at) (to .at) n) memory (from .at) (to .at) n (length memory) (length memory) (omega (arith, r .within)) (omega (arith, s .within)))
+      (went-none (λ (w : World). steps n w) m _ memory _ beats took out made took (λ o. by n l f t o))
+    where
+      by : (n : ℕ) → n ≤ most → n ≤ from .bytes → n ≤ to .bytes → (o : List ℕ)
+          → steps n (world m memory (drop took (beatsIn beats)) o (length out / 2 - made))
+          ≡ taken (world (onward m (movedBy k n (k .errors))) (copied memory (from .at) (to .at) n) (drop took (beatsIn beats)) o (length out / 2 - made))
+      by zero l f t o = no-steps g memory (drop took (beatsIn beats)) o (length out / 2 - made)
+      by (suc n) l f t o =
+          copy-steps g (r .free (omega arith)) (s .free (omega arith)) (from .at) (to .at) (suc n) (r .row (suc n) (omega arith) f)
+          (s .row (suc n) (omega arith) t) l memory (drop took (beatsIn beats)) o (length out / 2 - made)
+
+  -- mode 1
+  pub send-bursts : {from : Reach} (n : ℕ) (memory out out' : List ℕ) (made : ℕ) → Reaches (readFixed (k .control .0)) place (sourceOf k) from
+      → place .length ≡ length memory → n ≤ most → n ≤ from .bytes → made + n ≤ length out / 2 → (k .moved + most ≤ k .length → Unmarked k n)
+      → out' ≡ sentOver memory (from .at) out made n
+      → (beats : List ℕ) (took : ℕ)
+      → Bursts MemoryToStream place k most n (k .errors) memory beats took out made took (made + n) memory out'
+  unfolding sentOver
+  send-bursts {from} n memory out out' made r size l f h u left beats took m g =
+      let inside : from .at + n ≤ length memory = omega (arith, r .within) in
+      let room : length out / 2 - made - n ≡ length out / 2 - (made + n) = omega arith in
+      record {
+        new = plain memory (from .at) n;
+        counted = ap (λ (x : ℕ). made + x) (sym (length-take-le n (drop (from .at) memory) (rw (length-drop (from .at) memory) (omega arith))));
+        wrote = left
+            ∙ both-fit (put out (2 * made) (beatBytes (plain memory (from .at) n))) out (from .at) made n (length memory) (length out / 2) inside h;
+        goes = λ o. by n l f o inside (omega arith) (u (subst (λ (x : Mode). k .moved + most ≤ asked (modeNumber x) (k .length)) (g .mode-is) (g .left)))
+            ∙ ap (λ (x : ℕ). taken (world (onward m (movedBy k n (k .errors))) memory (drop took (beatsIn beats)) (o ++ plain memory (from .at) n) x)) room;
+      }
+    where
+      by : (n : ℕ) → n ≤ most → n ≤ from .bytes → (o : List ℕ) → from .at + n ≤ length memory → n ≤ length out / 2 - made → Unmarked k n
+          → steps n (world m memory (drop took (beatsIn beats)) o (length out / 2 - made))
+          ≡ taken (world (onward m (movedBy k n (k .errors))) memory (drop took (beatsIn beats)) (o ++ plain memory (from .at) n) (length out / 2 - made - n))
+      by zero l f o i h u =
+          let none = sym (append-nil o) in
+          let all = sym (sub-zero (length out / 2 - made)) in
+          no-steps g memory (drop took (beatsIn beats)) o (length out / 2 - made)
+          ∙ (λ x. taken (world (onward m (movedBy k 0 (k .errors))) memory (drop took (beatsIn beats)) (none x) (all x)))
+      by (suc n) l f o i h u =
+          send-steps g (r .free (omega arith)) (from .at) (suc n) (r .row (suc n) (omega arith) f) l u memory i (drop took (beatsIn beats)) o
+          (length out / 2 - made) h
+
+  -- mode 2
+  pub receive-bursts : {to : Reach} (some : ℕ) (memory memory' beats : List ℕ) (took : ℕ) (r : Absorbed) → Reaches (writeFixed (k .control .0)) place (destinationOf k) to
+      → place .length ≡ length memory → some ≤ most → some ≤ to .bytes → took + some ≤ length beats / 2 → Absorbs memory (to .at) beats took some (k .errors) r memory'
+      → (r .count ≤ some) × ((out : List ℕ) (made : ℕ)
+      → Bursts StreamToMemory place k most (r .count) (r .errors) memory beats took out made (took + r .count) made memory' out)
+  receive-bursts {to} some memory memory' beats took r s size l t h a =
+      let bs = drop took (beatsIn beats) in
+      let counted : r .count ≡ calm some bs =
+      a .count ∙ both-fit (calm some bs) 0 (to .at) took some (length memory) (length beats / 2) (omega (arith, s .within)) h in
+      let same : absorbedCount memory (to .at) beats took some ≡ r .count = sym (a .count) in
+      let errors : r .errors ≡ gathered (k .errors) (take (r .count) bs) = a .errors ∙ ap (λ (n : ℕ). gathered (k .errors) (take n bs)) same in
+      let bytes : memory' ≡ spread memory (to .at) (take (r .count) bs) = a .lent ∙ ap (λ (n : ℕ). spread memory (to .at) (take n bs)) same in
+      let few : (r .count ≤ some) × (r .count ≤ length bs) = subst⁻¹ (λ (n : ℕ). (n ≤ some) × (n ≤ length bs)) counted (calm-most some bs) in
+      let calmly : (i : ℕ) → i < r .count → beatEop (getD bs i 0) ≡ false = λ i j. calm-before some bs i (omega arith) in (
+        few .0,
+        λ out made m g.
+            went-none (λ (w : World). steps (r .count) w) m _ memory _ beats took out made (took + r .count)
+            (λ o. by m g (r .count) (omega (arith, few .0)) (omega (arith, few .0)) (few .1) calmly o (length out / 2 - made)
+            ∙ (λ x. taken (world (onward m (movedBy k (r .count) (sym errors x))) (sym bytes x) (drop-drop (r .count) took (beatsIn beats) x) o (length out / 2 - made)))),
+      )
+    where
+      by : (m : Machine) → Moving StreamToMemory place k most m → (n : ℕ) → n ≤ most → n ≤ to .bytes → n ≤ length (drop took (beatsIn beats))
+          → ((i : ℕ) → i < n → beatEop (getD (drop took (beatsIn beats)) i 0) ≡ false) → (o : List ℕ) (room : ℕ)
+          → steps n (world m memory (drop took (beatsIn beats)) o room)
+          ≡ taken (world (onward m (movedBy k n (gathered (k .errors) (take n (drop took (beatsIn beats))))))
+          (spread memory (to .at) (take n (drop took (beatsIn beats)))) (drop n (drop took (beatsIn beats))) o room)
+      by m g zero l f i q o room = no-steps g memory (drop took (beatsIn beats)) o room
+      by m g (suc n) l f i q o room =
+          receive-steps g (s .free (omega arith)) (to .at) (suc n) (s .row (suc n) (omega arith) f) l memory (drop took (beatsIn beats)) o room i q
+
+-- ---- what the run does with a burst
+
+-- the machine is in Move; `bytes` is L, and `most` at most what is left of it
+pub moving : {mode : Mode} {m : Machine} {k : Work} {most bytes : ℕ} → m .mode ≡ mode → m .phase ≡ Move k
+    → (k .moved < whole m k) × (k .eop ≡ false) → bytes ≡ whole m k → most ≤ bytes - k .moved → Moving mode (m .window) k most m
+moving o p l e h =
+    record { mode-is = o; window-is = refl; phase-is = p; no-eop = l .1; some = l .0; left = omega (arith, l .0) }
+
+-- a burst of it is told
+pub burst-told : (errors : ℕ) {mode : Mode} {m : Machine} {k : Work} {most n : ℕ} {window beats : List ℕ} {took : ℕ} {out : List ℕ} {made took' made' : ℕ}
+    {window' out' : List ℕ} {left : ℕ} {r : Advanced} → Moving mode (m .window) k most m
+    → Bursts mode (m .window) k most n errors window beats took out made took' made' window' out'
+    → r ≡ record { machine = onward m (movedBy k n errors); taken = took'; made = made'; steps = n } → n ≤ left → Within beats out took' made'
+    → (r .steps ≤ left) × (Within beats out (r .taken) (r .made)
+    × Went (λ (w : World). steps (r .steps) w) m window beats took out made (progress (r .machine) (r .taken) (r .made)) window' out')
+burst-told errors {m = m} {window = window} {beats = beats} {took = took} {out = out} {made = made} {window' = window'} {out' = out'} {left = left} g b e l h =
+    subst⁻¹ (λ (r : Advanced).
+    (r .steps ≤ left) × (Within beats out (r .taken) (r .made)
+    × Went (λ (w : World). steps (r .steps) w) m window beats took out made (progress (r .machine) (r .taken) (r .made)) window' out'))
+    e (l, (h, b m g))
+
+-- no step leads nowhere
+pub went-nowhere : (m : Machine) (window beats : List ℕ) (took : ℕ) (out : List ℕ) (made : ℕ)
+    → Went (λ (w : World). steps 0 w) m window beats took out made (progress m took made) window out
+unfolding steps
+went-nowhere m window beats took out made = went-none (λ (w : World). steps 0 w) m m window window beats took out made took (λ o. refl)
+
+taken-same : (w v : World) → taken w ≡ taken v → w ≡ v
+taken-same w v e = cc
+
+-- and leaves window and output as they were
+module _ {m : Machine} {window beats : List ℕ} {took : ℕ} {out : List ℕ} {made n : ℕ} {r : Progress} {window' out' : List ℕ}
+    (g : Went (λ (w : World). steps n w) m window beats took out made r window' out') (none : n ≡ 0) where
+  same-world : worldAt m window beats took [] (length out / 2 - made) ≡ worldAt (r .machine) window' beats (r .taken) (g .new) (length out / 2 - r .made)
+  unfolding steps
+  same-world =
+      taken-same _ _ (ap (λ (i : ℕ). steps i (worldAt m window beats took [] (length out / 2 - made))) (sym none) ∙ g .goes [])
+
+  pub as-before : (P : (window out : List ℕ) → Type 0) → P window out → P window' out'
+  as-before P p =
+      subst (λ (x : List ℕ). P x out') (ap (λ (w : World). w .memory) same-world)
+      (subst (λ (x : List ℕ). P window x)
+      (none-made out (2 * made) ∙ ap (λ (bs : List ℕ). put out (2 * made) (beatBytes bs)) (ap (λ (w : World). w .output) same-world) ∙ sym (g .wrote)) p)
+
+  -- so that one step after it is one step
+  pub then-step : {s : Progress} {window'' out'' : List ℕ} → Within beats out' (s .taken) (s .made)
+      → Went step m window' beats took out' made s window'' out''
+      → Within beats out (s .taken) (s .made) × Went (λ (w : World). steps 1 w) m window beats took out made s window'' out''
+  unfolding steps
+  then-step {s} {window''} {out''} h w =
+      as-before (λ window' out'.
+      Within beats out' (s .taken) (s .made) → Went step m window' beats took out' made s window'' out''
+      → Within beats out (s .taken) (s .made) × Went (λ (w : World). steps 1 w) m window beats took out made s window'' out'')
+      (λ h w. (h, went-as step (λ (w : World). steps 1 w) (λ memory input output room. refl) w)) h w
