@@ -1,32 +1,33 @@
--- Two ranges that are looked at once.
+-- Ranges that are looked at once, and the places in them.
 -- Assumes nothing.
-use Prim.Native.Nat.{ℕ, _+_, _/_, _≤_, _<_}
-use mathlib.Core.Path.{_≡_, sym}
-use mathlib.Core.Bool.{cond, _&&_}
-use mathlib.Core.List.{List}
-use lib.ListN.{length, drop}
-use borrow.Author.Tests.{le-leb, lt-leb}
-use Rattle.flow.specs.Beats.{beatsIn}
-use Rattle.flow.specs.Rows.{fit, calm, absorbedCount, Absorbs}
+use Prim.Native.Nat.{ℕ, _+_, _≤_, _<_}
+use mathlib.Core.Path.{_≡_, refl, sym, ap, _∙_}
+use mathlib.Core.Bool.{Bool, true, false, _&&_, true≢false}
+use native.Mathlib.Omega.{arith}
+use lib.Dec.{leb}
+use borrow.Author.Tests.{leb-true}
+use Rattle.flow.specs.Rows.{landing, extent, fit}
 
-module _ {A : Type 0} (a b : A) (i j n p q : ℕ) where
-  pub first-unfit : p < i + n → cond (fit i n p && fit j n q) a b ≡ b
-  first-unfit h = rw (lt-leb (i + n) p h)
+-- both tests hold
+pub both-true : (s t : Bool) → (s && t) ≡ true → (s ≡ true) × (t ≡ true)
+both-true true t e = (refl, e)
+both-true false t e = absurd (true≢false (sym e))
 
-  module _ (g : i + n ≤ p) where
-    pub second-unfit : q < j + n → cond (fit i n p && fit j n q) a b ≡ b
-    second-unfit h = rw (le-leb (i + n) p g, lt-leb (j + n) q h)
+pub landing-in : (fixed : Bool) (at n i length : ℕ) → at + extent fixed n ≤ length → i < n → landing fixed at i < length
+landing-in true at n i length h l = omega arith
+landing-in false at n i length h l = omega arith
 
-    pub both-fit : j + n ≤ q → cond (fit i n p && fit j n q) a b ≡ a
-    both-fit h = rw (le-leb (i + n) p g, le-leb (j + n) q h)
+-- ---- the tests of two ranges
 
--- nothing absorbed
-module _ (mem : List ℕ) (at : ℕ) (beats : List ℕ) (taken most first : ℕ) where
-  none : absorbedCount mem at beats taken most ≡ 0 → Absorbs mem at beats taken most first (record { count = 0; errors = first }) mem
-  none e = record { count = sym e; errors = rw e; lent = rw e }
+-- a test that found the places by their number
+pub by-extent : (fixed : Bool) (at n length : ℕ) {t : Bool} {x : ℕ} → t ≡ leb (at + x) length → x ≡ extent fixed n → t ≡ fit fixed at n length
+by-extent fixed at n length e f = e ∙ ap (λ (x : ℕ). leb (at + x) length) f
 
-  pub no-places : length mem < at + most → Absorbs mem at beats taken most first (record { count = 0; errors = first }) mem
-  no-places h = none (first-unfit (calm most (drop taken (beatsIn beats))) 0 at taken most (length mem) (length beats / 2) h)
+pub told : {s t p q : Bool} (b : Bool) → s ≡ p → t ≡ q → (s && t) ≡ b → (p && q) ≡ b
+told b e f h = sym (λ x. e x && f x) ∙ h
 
-  pub no-beats : at + most ≤ length mem → length beats / 2 < taken + most → Absorbs mem at beats taken most first (record { count = 0; errors = first }) mem
-  no-beats g h = none (second-unfit (calm most (drop taken (beatsIn beats))) 0 at taken most (length mem) (length beats / 2) g h)
+-- where both hold, both are in range
+pub in-range : (f g : Bool) (i j n p q : ℕ) → (fit f i n p && fit g j n q) ≡ true → (i + extent f n ≤ p) × (j + extent g n ≤ q)
+in-range f g i j n p q e =
+    let both = both-true (fit f i n p) (fit g j n q) e in
+    (leb-true (i + extent f n) p (both .0), leb-true (j + extent g n) q (both .1))

@@ -1,11 +1,14 @@
-// Beats and bytes in a row: the tight loops of bulk moves. Each looks at its ranges once, and does nothing where they do not fit.
+// Beats and bytes in a row: the tight loops of bulk moves. A row of places may be fixed to one. Each call looks at its ranges once,
+// and does nothing where they do not fit.
 ghost use mathlib.Core.Path.{_≡_};
-ghost use Prim.Native.Nat.{_+_, _*_, _/_, _≤_};
+ghost use mathlib.Core.Bool.{false};
+ghost use Prim.Native.Nat.{_+_, _*_, _/_, _^_, _≤_, _<_};
+ghost use lib.Dec.{leb};
 ghost use lib.ListN.{length, take, drop};
 ghost use Rattle.words.specs.Promise.{Leaves};
 ghost use Rattle.words.specs.Slices.{put};
 ghost use Rattle.flow.specs.Beats.{beatsIn, beatBytes};
-ghost use Rattle.flow.specs.Rows.{calm, gathered, spread, copied, Absorbs, copiedOver, sentOver};
+ghost use Rattle.flow.specs.Rows.{landing as landingOf, extent as extentOf, calm, gathered, spread, copied, plain, Absorbs, copiedOver, sentOver};
 
 // How many beats were taken, and their errors with those before.
 pub struct Absorbed {
@@ -13,18 +16,44 @@ pub struct Absorbed {
     pub errors: u8,
 }
 
+// The place of byte i.
+fn landing(fixed: bool, at: usize, i: usize) -> usize
+    requires { ⌜ landingOf fixed at i < 2 ^ 64 ⌝ }
+    ensures { λ r. ⌜ r ≡ landingOf fixed at i ⌝ }
+{
+    if fixed { at } else { at + i }
+}
+
+// How many places n bytes take.
+fn extent(fixed: bool, n: usize) -> usize
+    ensures { λ r. ⌜ r ≡ extentOf fixed n ⌝ }
+{
+    if fixed { 1 } else { n }
+}
+
+// Whether `n` from a place on are among `length`.
+fn fits(at: usize, n: usize, length: usize) -> bool
+    ensures { λ r. ⌜ r ≡ leb (at + n) length ⌝ }
+{
+    if length < n {
+        return false;
+    }
+    at <= length - n
+}
+
 // The data of the beats before the first with EOP, `most` at most, written in a row, and their errors gathered.
 fn absorb_all(
     window: &mut [u8],
+    fixed: bool,
     at: usize,
     beats: &[u8],
     taken: usize,
     most: usize,
     first: u8,
 ) -> Absorbed
-    requires { ⌜ at + most ≤ length (now window) ⌝ }
+    requires { ⌜ at + extentOf fixed most ≤ length (now window) ⌝ }
     requires { ⌜ taken + most ≤ length (now beats) / 2 ⌝ }
-    ensures { λ r. ⌜ (r .count ≡ calm most (drop taken (beatsIn (now (beats .entry))))) × (r .errors ≡ gathered first (take (r .count) (drop taken (beatsIn (now (beats .entry)))))) × (now (window .exit) ≡ spread (now (window .entry)) at (take (r .count) (drop taken (beatsIn (now (beats .entry)))))) ⌝ }
+    ensures { λ r. ⌜ (r .count ≡ calm most (drop taken (beatsIn (now (beats .entry))))) × (r .errors ≡ gathered first (take (r .count) (drop taken (beatsIn (now (beats .entry)))))) × (now (window .exit) ≡ spread (now (window .entry)) fixed at (drop taken (beatsIn (now (beats .entry)))) (r .count)) ⌝ }
 {
     let mut errors = first;
     let mut n: usize = 0;
@@ -33,7 +62,8 @@ fn absorb_all(
         if high % 2 == 1 {
             return Absorbed { count: n, errors };
         }
-        window[at + n] = beats[2 * (taken + n) + 1];
+        let to = landing(fixed, at, n);
+        window[to] = beats[2 * (taken + n) + 1];
         errors |= high / 2;
         n += 1;
     }
@@ -43,91 +73,70 @@ fn absorb_all(
 // The same, or nothing where the beats or their places do not fit.
 pub fn absorb(
     window: &mut [u8],
+    fixed: bool,
     at: usize,
     beats: &[u8],
     taken: usize,
     most: usize,
     first: u8,
 ) -> Absorbed
-    ensures { λ r. ⌜ Absorbs (now (window .entry)) at (now (beats .entry)) taken most first r (now (window .exit)) ⌝ }
+    ensures { λ r. ⌜ Absorbs (now (window .entry)) fixed at (now (beats .entry)) taken most first r (now (window .exit)) ⌝ }
 {
-    let none = Absorbed {
+    let both = fits(at, extent(fixed, most), window.len()) & fits(taken, most, beats.len() / 2);
+    if both {
+        return absorb_all(window, fixed, at, beats, taken, most, first);
+    }
+    Absorbed {
         count: 0,
         errors: first,
-    };
-    if window.len() < most {
-        return none;
     }
-    if window.len() - most < at {
-        return none;
-    }
-    if beats.len() / 2 < most {
-        return none;
-    }
-    if beats.len() / 2 - most < taken {
-        return none;
-    }
-    absorb_all(window, at, beats, taken, most, first)
 }
 
 // `n` bytes, copied one after the other.
-fn copy_all(window: &mut [u8], from: usize, to: usize, n: usize)
-    requires { ⌜ from + n ≤ length (now window) ⌝ }
-    requires { ⌜ to + n ≤ length (now window) ⌝ }
-    ensures { λ _. ⌜ Leaves (copied (now (window .entry)) from to n) (now (window .exit)) ⌝ }
+fn copy_all(window: &mut [u8], stays: bool, from: usize, fixed: bool, to: usize, n: usize)
+    requires { ⌜ from + extentOf stays n ≤ length (now window) ⌝ }
+    requires { ⌜ to + extentOf fixed n ≤ length (now window) ⌝ }
+    ensures { λ _. ⌜ Leaves (copied (now (window .entry)) stays from fixed to n) (now (window .exit)) ⌝ }
 {
     let mut i: usize = 0;
     while i < n {
-        window[to + i] = window[from + i];
+        let at = landing(fixed, to, i);
+        window[at] = window[landing(stays, from, i)];
         i += 1;
     }
 }
 
 // The same, or nothing where either end does not fit.
-pub fn copy(window: &mut [u8], from: usize, to: usize, n: usize)
-    ensures { λ _. ⌜ Leaves (copiedOver (now (window .entry)) from to n) (now (window .exit)) ⌝ }
+pub fn copy(window: &mut [u8], stays: bool, from: usize, fixed: bool, to: usize, n: usize)
+    ensures { λ _. ⌜ Leaves (copiedOver (now (window .entry)) stays from fixed to n) (now (window .exit)) ⌝ }
 {
-    if window.len() < n {
-        return;
+    let both = fits(from, extent(stays, n), window.len())
+        & fits(to, extent(fixed, n), window.len());
+    if both {
+        copy_all(window, stays, from, fixed, to, n);
     }
-    if window.len() - n < from {
-        return;
-    }
-    if window.len() - n < to {
-        return;
-    }
-    copy_all(window, from, to, n);
 }
 
 // `n` bytes, made into beats with neither SOP nor EOP.
-fn send_all(window: &[u8], from: usize, out: &mut [u8], made: usize, n: usize)
-    requires { ⌜ from + n ≤ length (now window) ⌝ }
+fn send_all(window: &[u8], stays: bool, from: usize, out: &mut [u8], made: usize, n: usize)
+    requires { ⌜ from + extentOf stays n ≤ length (now window) ⌝ }
     requires { ⌜ made + n ≤ length (now out) / 2 ⌝ }
-    ensures { λ _. ⌜ Leaves (put (now (out .entry)) (2 * made) (beatBytes (take n (drop from (now (window .entry)))))) (now (out .exit)) ⌝ }
+    ensures { λ _. ⌜ Leaves (put (now (out .entry)) (2 * made) (beatBytes (plain (now (window .entry)) stays from n))) (now (out .exit)) ⌝ }
 {
     let mut i: usize = 0;
     while i < n {
         out[2 * (made + i)] = 0;
-        out[2 * (made + i) + 1] = window[from + i];
+        out[2 * (made + i) + 1] = window[landing(stays, from, i)];
         i += 1;
     }
 }
 
 // The same, or nothing where the bytes or the beats do not fit.
-pub fn send(window: &[u8], from: usize, out: &mut [u8], made: usize, n: usize)
-    ensures { λ _. ⌜ Leaves (sentOver (now (window .entry)) from (now (out .entry)) made n) (now (out .exit)) ⌝ }
+pub fn send(window: &[u8], stays: bool, from: usize, out: &mut [u8], made: usize, n: usize)
+    ensures { λ _. ⌜ Leaves (sentOver (now (window .entry)) stays from (now (out .entry)) made n) (now (out .exit)) ⌝ }
 {
-    if window.len() < n {
-        return;
+    let both = fits(from, extent(stays, n), window.len()) & fits(made, n, out.len() / 2);
+    if both {
+        send_all(window, stays, from, out, made, n);
     }
-    if window.len() - n < from {
-        return;
-    }
-    if out.len() / 2 < n {
-        return;
-    }
-    if out.len() / 2 - n < made {
-        return;
-    }
-    send_all(window, from, out, made, n);
 }

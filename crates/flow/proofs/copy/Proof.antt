@@ -1,41 +1,58 @@
-use Rattle.flow.proofs.Fitting.{first-unfit, second-unfit, both-fit}
-use Rattle.flow.specs.Rows.{copied, copiedOver}
+use mathlib.Core.Path.{sym, ap, _∙_}
+use mathlib.Core.Bool.{Bool, cond}
 use lib.ListN.{length}
-use native.Mathlib.Omega.{arith}
-use mathlib.Core.Path.{_≡_, sym, _∙_}
+use Rattle.flow.specs.Rows.{copied, copiedOver}
+use Rattle.flow.proofs.Fitting.{by-extent, told, in-range}
 use borrow.Author.Needs.{needs}
 use Rattle.flow.proofs.copy.Statement.{statement}
 use Rattle.flow.proofs.copy.Tie as tie
 
-returns : tie.Need-returns
-unfolding copiedOver
-returns c = let a = c .before .before .args in let n = length (a .window .now) in record { lent = sym (first-unfit (copied (a .window .now) (a .from) (a .to) (a .n)) (a .window .now) (a .from) (a .to) (a .n) n n (omega arith)) }
+extent-requires : tie.Need-extent-requires
+extent-requires c κs = search needs
 
-sub-if2 : tie.Need-sub-if2
-sub-if2 c = search needs
+fits-requires : tie.Need-fits-requires
+fits-requires c κs = search needs
 
-returns-2 : tie.Need-returns-2
-unfolding copiedOver
-returns-2 c = let a = c .before .before .before .args in let n = length (a .window .now) in record { lent = sym (first-unfit (copied (a .window .now) (a .from) (a .to) (a .n)) (a .window .now) (a .from) (a .to) (a .n) n n (omega arith)) }
+extent-requires-2 : tie.Need-extent-requires-2
+extent-requires-2 c κs = search needs
 
-sub-if3 : tie.Need-sub-if3
-sub-if3 c = search needs
-
-returns-3 : tie.Need-returns-3
-unfolding copiedOver
-returns-3 c = let a = c .before .before .before .before .args in let n = length (a .window .now) in record { lent = sym (second-unfit (copied (a .window .now) (a .from) (a .to) (a .n)) (a .window .now) (a .from) (a .to) (a .n) n n (omega arith) (omega arith)) }
+fits-requires-2 : tie.Need-fits-requires-2
+fits-requires-2 c κs = search needs
 
 copy-all-requires : tie.Need-copy-all-requires
-copy-all-requires c κs = search needs
+copy-all-requires c κs =
+    let a = c .before .before .before .before .before .before .before .args in
+    in-range (a .stays) (a .fixed) (a .from) (a .to) (a .n) _ _ (told _ (by-extent (a .stays) (a .from) (a .n) _ (c .before .before .before .before .fits2 .ensures) (c .before .before .before .before .before .extent .ensures)) (by-extent (a .fixed) (a .to) (a .n) _ (c .before .before .fits3 .ensures) (c .before .before .before .extent2 .ensures)) (c .before .if1 .taken))
 
 same-length : tie.Need-same-length
 same-length c = search needs
 
-returns-4 : tie.Need-returns-4
+returns : tie.Need-returns
 unfolding copiedOver
-returns-4 c = let a = c .before .before .before .before .before .before .before .before .args in let n = length (a .window .now) in record { lent = c .before .before .copy-all .ensures .lent ∙ sym (both-fit (copied (a .window .now) (a .from) (a .to) (a .n)) (a .window .now) (a .from) (a .to) (a .n) n n (omega arith) (omega arith)) }
+returns c =
+    let a = c .before .before .before .before .before .before .before .before .before .before .args in
+    record {
+      lent = c .before .before .copy-all .ensures .lent
+          ∙ sym (ap (λ (t : Bool). cond t (copied (a .window .now) (a .stays) (a .from) (a .fixed) (a .to) (a .n)) (a .window .now)) (told _ (by-extent (a .stays) (a .from) (a .n) _ (c .before .before .before .before .before .before .before .fits2 .ensures) (c .before .before .before .before .before .before .before .before .extent .ensures)) (by-extent (a .fixed) (a .to) (a .n) _ (c .before .before .before .before .before .fits3 .ensures) (c .before .before .before .before .before .before .extent2 .ensures)) (c .before .before .before .before .if1 .taken)));
+    }
+
+returns-2 : tie.Need-returns-2
+unfolding copiedOver
+returns-2 c =
+    let a = c .before .before .before .before .before .before .args in
+    record {
+      lent = sym (ap (λ (t : Bool). cond t (copied (a .window .now) (a .stays) (a .from) (a .fixed) (a .to) (a .n)) (a .window .now)) (told _ (by-extent (a .stays) (a .from) (a .n) _ (c .before .before .before .fits2 .ensures) (c .before .before .before .before .extent .ensures)) (by-extent (a .fixed) (a .to) (a .n) _ (c .before .fits3 .ensures) (c .before .before .extent2 .ensures)) (c .if1 .left)));
+    }
 
 pub copy-spec : {M : Type 1} → statement M
 copy-spec =
     tie.close
-    (tie.spec returns sub-if2 returns-2 sub-if3 returns-3 copy-all-requires same-length returns-4)
+    (tie.spec
+    extent-requires
+    fits-requires
+    extent-requires-2
+    fits-requires-2
+    copy-all-requires
+    same-length
+    returns
+    returns-2)
