@@ -8,7 +8,7 @@ ghost use Rattle.bus.specs.Window.{inWindow};
 ghost use Rattle.image.specs.Rules.{asked as askedOf};
 ghost use Rattle.machine.specs.State.{modeNumber, withPhase, withBusy, withPointer};
 ghost use Rattle.flow.specs.Beats.{outputBeat};
-ghost use Rattle.machine.specs.Step.{World, wantsLength, begun as begunOf, ended as endedOf, byteAddress, sourceOf, destinationOf, withByte, onward as onwardOf, beatFor, writtenControl, writtenBack, counted as countedOf, afterBack, completed as completedOf};
+ghost use Rattle.machine.specs.Step.{World, wantsLength, begun as begunOf, ended as endedOf, byteAddress, sourceOf, destinationOf, withByte, onward as onwardOf, beatFor, writtenControl, writtenBack, counted as countedOf, pends as pendsOf, afterBack, statusBack, completed as completedOf};
 ghost use Rattle.machine.specs.Step.{fetched as fetchedOf, fetchStep, copyStep, sendStep, receiveFrom, moveStep, writeBackStep, step as stepOf};
 ghost use Rattle.machine.specs.Run.{lentOf, Stepped};
 ghost use Rattle.machine.specs.declared.Phase.the-variants.{Fetch, Move};
@@ -22,6 +22,7 @@ use crate::Phase;
 use crate::Pointer;
 use crate::Progress;
 use crate::Reason;
+use crate::Status;
 use crate::StepAnswer;
 use crate::Work;
 use crate::has;
@@ -138,6 +139,33 @@ fn after_back(run: bool, halts: bool) -> Phase
         if halts { Phase::Halted } else { Phase::Fetch }
     } else {
         Phase::Rest
+    }
+}
+
+impl Control {
+    // Each event pends only under its own enable.
+    fn pends(self, eop: bool, failed: bool, full: bool) -> bool
+        ensures { λ r. ⌜ r ≡ pendsOf self eop failed full ⌝ }
+    {
+        has(self.0, Control::IE_DESCRIPTOR)
+            | (has(self.0, Control::IE_EOP) & eop)
+            | (has(self.0, Control::IE_ERROR) & failed)
+            | (has(self.0, Control::IE_MAX) & full)
+    }
+}
+
+impl Status {
+    // DESCRIPTOR_COMPLETED; EOP_ENCOUNTERED if the last beat had EOP; ERROR if errors are not 0.
+    fn after_back(self, eop: bool, failed: bool, busy: bool) -> Status
+        ensures { λ r. ⌜ r ≡ statusBack self eop failed busy ⌝ }
+    {
+        Status {
+            error: self.error | failed,
+            eop: self.eop | eop,
+            descriptor: true,
+            busy,
+            ..self
+        }
     }
 }
 
@@ -287,7 +315,7 @@ impl Machine {
         }
     }
 
-    // The registers after a descriptor, each event pending under its own enable alone.
+    // The registers after a descriptor: RUN 0 or errors with STOP_DMA_ER end BUSY.
     fn completed(self, k: Work) -> Machine
         ensures { λ r. ⌜ r ≡ completedOf self k ⌝ }
     {
@@ -296,24 +324,15 @@ impl Machine {
         let run = has(c, Control::RUN);
         let halts = failed & has(c, Control::STOP_DMA_ER);
         let n = counted(self.count, (c / Control::MAX_DESC_PROCESSED % 256) as u8);
-        let pending = self.pending
-            | has(c, Control::IE_DESCRIPTOR)
-            | (has(c, Control::IE_EOP) & k.eop)
-            | (has(c, Control::IE_ERROR) & failed)
-            | (has(c, Control::IE_MAX) & n.full);
-        let eop = self.status.eop | k.eop;
-        let error = self.status.error | failed;
-        let busy = run & !halts;
-        let mut m = self;
-        m.status.descriptor = true;
-        m.status.eop = eop;
-        m.status.error = error;
-        m.status.busy = busy;
+        let control = self.control;
+        let pending = self.pending | control.pends(k.eop, failed, n.full);
+        let status = self.status;
         Machine {
+            status: status.after_back(k.eop, failed, run & !halts),
             phase: after_back(run, halts),
             pending,
             count: n.count,
-            ..m
+            ..self
         }
     }
 }
