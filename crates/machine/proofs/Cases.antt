@@ -1,24 +1,53 @@
 -- The cases of a step's rules, by the tests that led there.
 -- Assumes nothing.
-use Prim.Native.Nat.{ℕ}
-use mathlib.Core.Path.{_≡_, sym, ap, _∙_}
+use Prim.Native.Nat.{ℕ, _%_, _^_}
+use mathlib.Core.Path.{_≡_, ap, _∙_}
 use mathlib.Core.Bool.{Bool, true, false, cond, _&&_, _||_}
 use mathlib.Core.List.{List}
 use lib.Dec.{eqb}
+use lib.ListN.{getD, set}
+use Rattle.bus.specs.Window.{inWindow, placeOf}
 use Rattle.descriptor.specs.declared.Descriptor.{Descriptor}
 use Rattle.descriptor.specs.Layout.{owned}
 use Rattle.machine.specs.declared.Machine.{Machine}
 use Rattle.machine.specs.declared.Work.{Work}
+use Rattle.machine.specs.declared.Phase.{Phase}
 use Rattle.machine.specs.declared.Phase.the-variants.{Move, WriteBack}
 use Rattle.machine.specs.State.{withPhase, withPointer}
-use Rattle.machine.specs.Step.{World, wantsLength, begun, ended, fetched, whole, onward}
+use Rattle.machine.specs.Step.{World, wantsLength, begun, ended, fetched, whole, sourceOf, destinationOf, withByte, onward, copyStep}
 use Rattle.machine.specs.Turns.{inFault, Still}
 
-module _ (m : Machine) (k : Work) {n : ℕ} {done : Bool} (e : n ≡ whole m k) (f : (k .eop || eqb (k .moved) n) ≡ done) where
-  pub onward-by : withPhase (cond done (WriteBack k) (Move k)) m ≡ onward m k
-  unfolding onward
-  onward-by =
-      ap (λ (b : Bool). withPhase (cond b (WriteBack k) (Move k)) m) (sym (ap (λ (x : ℕ). k .eop || eqb (k .moved) x) (sym e) ∙ f))
+-- when L bytes are moved or a taken beat had EOP
+pub onward-by : (m : Machine) {k next : Work} {l : ℕ} {p : Phase} → next ≡ k → l ≡ whole m next
+    → p ≡ cond (next .eop || eqb (next .moved) l) (WriteBack next) (Move next) → withPhase p m ≡ onward m k
+unfolding onward
+onward-by m {k} {next} e f g =
+    ap (λ (x : Phase). withPhase x m) (g ∙ ap (λ (x : ℕ). cond (next .eop || eqb (next .moved) x) (WriteBack next) (Move next)) f)
+    ∙ ap (λ (x : Work). onward m x) e
+
+-- a fault keeps the address modulo 2^32
+pub fault-at : (m : Machine) (code : ℕ) {m' : Machine} {x a b : ℕ} → m' ≡ inFault m code x → x ≡ a % 2 ^ 32 → a ≡ b
+    → m' ≡ inFault m code (b % 2 ^ 32)
+fault-at m code e f g = e ∙ ap (inFault m code) (f ∙ ap (λ (y : ℕ). y % 2 ^ 32) g)
+
+-- mode 0
+module _ (m : Machine) {m' : Machine} (k : Work) (window : List ℕ) where
+  pub no-source : inWindow (m .window) (sourceOf k) 1 ≡ false → m' ≡ inFault m 13 (sourceOf k % 2 ^ 32)
+      → Still (λ (w : World). copyStep w k) m window m' window
+  unfolding copyStep
+  no-source e g = λ input output room. rw (e, g)
+
+  module _ (e : inWindow (m .window) (sourceOf k) 1 ≡ true) where
+    pub no-destination : inWindow (m .window) (destinationOf k) 1 ≡ false → m' ≡ inFault m 14 (destinationOf k % 2 ^ 32)
+        → Still (λ (w : World). copyStep w k) m window m' window
+    unfolding copyStep
+    no-destination f g = λ input output room. rw (e, f, g)
+
+    pub copies : inWindow (m .window) (destinationOf k) 1 ≡ true → m' ≡ onward m (withByte 0 false k) → {i j : ℕ}
+        → i ≡ placeOf (m .window) (sourceOf k) → j ≡ placeOf (m .window) (destinationOf k)
+        → Still (λ (w : World). copyStep w k) m window m' (set window j (getD window i 0))
+    unfolding copyStep
+    copies f g p q = λ input output room. rw (e, f, g, p, q)
 
 module _ (m : Machine) {m' : Machine} (d : Descriptor) (memory : List ℕ) where
   pub not-owned : owned (d .control .0) ≡ false → m' ≡ ended m → Still (λ (w : World). fetched w d) m memory m' memory

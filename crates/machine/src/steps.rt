@@ -2,16 +2,19 @@
 ghost use mathlib.Core.Path.{_≡_};
 ghost use mathlib.Core.Bool.{true, cond};
 ghost use mathlib.Core.List.{List};
-ghost use Prim.Native.Nat.{ℕ, _+_, _%_, _/_, _^_, _≤_, _<_};
+ghost use Prim.Native.Nat.{ℕ, _+_, _*_, _%_, _/_, _^_, _≤_, _<_};
 ghost use lib.ListN.{length};
+ghost use Rattle.words.specs.declared.Order.the-variants.{MostFirst};
+ghost use Rattle.words.specs.Orders.{bytesOf};
+ghost use Rattle.words.specs.Slices.{putAt};
 ghost use Rattle.bus.specs.Window.{inWindow};
 ghost use Rattle.image.specs.Rules.{asked as askedOf};
-ghost use Rattle.machine.specs.State.{modeNumber, withPhase, withBusy, withPointer};
+ghost use Rattle.machine.specs.State.{modeNumber, withPhase, withPointer};
 ghost use Rattle.flow.specs.Beats.{outputBeat};
 ghost use Rattle.machine.specs.Step.{World, wantsLength, begun as begunOf, ended as endedOf, byteAddress, sourceOf, destinationOf, withByte, onward as onwardOf, beatFor, writtenControl, writtenBack, counted as countedOf, pends as pendsOf, afterBack, statusBack, completed as completedOf};
 ghost use Rattle.machine.specs.Step.{fetched as fetchedOf, fetchStep, copyStep, sendStep, receiveFrom, moveStep, writeBackStep, step as stepOf};
 ghost use Rattle.machine.specs.Run.{lentOf, Stepped};
-ghost use Rattle.machine.specs.declared.Phase.the-variants.{Fetch, Move};
+ghost use Rattle.machine.specs.declared.Phase.the-variants.{Move, WriteBack};
 ghost use Rattle.machine.specs.Turns.{world, progress, inFault, Waits, Goes, lentAs, Within, Still, Went, Ready};
 use crate::Control;
 use crate::Count;
@@ -142,6 +145,17 @@ fn after_back(run: bool, halts: bool) -> Phase
     }
 }
 
+// The phase of a descriptor in hand: WriteBack when its bytes are moved.
+fn phase_with(k: Work, done: bool) -> Phase
+    ensures { λ r. ⌜ r ≡ cond done (WriteBack k) (Move k) ⌝ }
+{
+    if done {
+        Phase::WriteBack(k)
+    } else {
+        Phase::Move(k)
+    }
+}
+
 impl Control {
     // Each event pends only under its own enable.
     fn pends(self, eop: bool, failed: bool, full: bool) -> bool
@@ -211,6 +225,14 @@ impl Work {
         let eop = control.has(DescControl::GENERATE_EOP) & (next == self.length as u32);
         output_beat(sop, eop, byte)
     }
+
+    // That beat, where so many are made already and there is room.
+    fn put_beat(self, byte: u8, out: &mut [u8], made: usize)
+        requires { ⌜ made ≤ length (now out) / 2 ⌝ }
+        ensures { λ _. ⌜ now (out .exit) ≡ putAt (now (out .entry)) (2 * made) (bytesOf MostFirst 2 (beatFor self byte)) ⌝ }
+    {
+        put_u16(Order::MostFirst, out, 2 * made, self.beat(byte));
+    }
 }
 
 impl Machine {
@@ -218,12 +240,7 @@ impl Machine {
     fn faulted(self, code: u8, address: u32) -> Machine
         ensures { λ r. ⌜ r ≡ inFault self code address ⌝ }
     {
-        let mut m = self;
-        m.status.busy = false;
-        Machine {
-            phase: Phase::Faulted(Fault { code, address }),
-            ..m
-        }
+        self.enters(Phase::Faulted(Fault { code, address }), false)
     }
 
     // The machine, where so many beats are taken and made.
@@ -237,34 +254,17 @@ impl Machine {
         }
     }
 
-    // When L bytes are moved or a taken beat had EOP, go to WriteBack.
-    fn onward(self, k: Work) -> Machine
-        ensures { λ r. ⌜ r ≡ onwardOf self k ⌝ }
+    // One byte more; when L bytes are moved or a taken beat had EOP, go to WriteBack.
+    fn onward(self, k: Work, errors: u8, eop: bool) -> Machine
+        requires { ⌜ k .moved < 65535 ⌝ }
+        ensures { λ r. ⌜ r ≡ onwardOf self (withByte errors eop k) ⌝ }
     {
         let mode = self.mode;
-        let done = k.eop | (k.moved == asked(mode, k.length));
-        if done {
-            Machine {
-                phase: Phase::WriteBack(k),
-                ..self
-            }
-        } else {
-            Machine {
-                phase: Phase::Move(k),
-                ..self
-            }
-        }
-    }
-
-    // Rest, RUN 1: BUSY 1, go to Fetch.
-    fn started(self) -> Machine
-        ensures { λ r. ⌜ r ≡ withPhase Fetch (withBusy true self) ⌝ }
-    {
-        let mut m = self;
-        m.status.busy = true;
+        let next = k.with_byte(errors, eop);
+        let done = next.eop | (next.moved == asked(mode, next.length));
         Machine {
-            phase: Phase::Fetch,
-            ..m
+            phase: phase_with(next, done),
+            ..self
         }
     }
 
@@ -396,7 +396,7 @@ impl Machine {
                         let i = p.index();
                         let j = q.index();
                         window[j] = window[i];
-                        self.onward(k.with_byte(0, false))
+                        self.onward(k, 0, false)
                     }
                 }
             }
@@ -425,9 +425,8 @@ impl Machine {
             Located::Outside => self.faulted(13, cut(a)).at(taken, made),
             Located::At(place) => {
                 let at = place.index();
-                let beat = k.beat(window[at]);
-                put_u16(Order::MostFirst, out, 2 * made, beat);
-                self.onward(k.with_byte(0, false)).at(taken, made + 1)
+                k.put_beat(window[at], out, made);
+                self.onward(k, 0, false).at(taken, made + 1)
             }
         }
     }
@@ -457,8 +456,7 @@ impl Machine {
                 let beat = get_u16(Order::MostFirst, beats, 2 * next);
                 let eop = has(beat as u32, EOP as u32);
                 window[at] = (beat % 256) as u8;
-                let work = k.with_byte((beat / ERROR) as u8, eop);
-                self.onward(work).at(past, made)
+                self.onward(k, (beat / ERROR) as u8, eop).at(past, made)
             }
         }
     }
@@ -577,7 +575,7 @@ impl Machine {
     {
         let phase = self.phase;
         match phase {
-            Phase::Rest => self.started().at(taken, made),
+            Phase::Rest => self.enters(Phase::Fetch, true).at(taken, made),
             Phase::Fetch => self.fetch_step(window).at(taken, made),
             Phase::Move(k) => self.move_step(k, window, beats, taken, out, made),
             Phase::WriteBack(k) => self.write_back_step(k, window).at(taken, made),

@@ -3,22 +3,21 @@ use borrow.Author.Needs.{needs}
 use Rattle.machine.proofs.Machine.onward.Statement.{statement}
 use Rattle.machine.proofs.Machine.onward.Tie as tie
 
+with-byte-requires : tie.Need-with-byte-requires
+with-byte-requires c κs = search needs
+
 asked-requires : tie.Need-asked-requires
 asked-requires c κs = search needs
 
+phase-with-requires : tie.Need-phase-with-requires
+phase-with-requires c κs = search needs
+
 returns : tie.Need-returns
 returns c =
-    let t = c .before .before .before .before in
-    let h = t .before .before .before in
-    let a = h .before .args in
-    onward-by (a .self) (a .k) (h .asked .ensures) (t .if1 .taken)
-
-returns-2 : tie.Need-returns-2
-returns-2 c =
-    let t = c .before .before .before .before in
-    let h = t .before .before .before in
-    let a = h .before .args in
-    onward-by (a .self) (a .k) (h .asked .ensures) (t .if1 .left)
+    let p = c .before .before .before .before in
+    let l = p .before .before .before in
+    onward-by (l .before .before .args .self) (l .before .with-byte .ensures) (l .asked .ensures) (p .phase-with .ensures)
 
 pub onward-spec : {M : Type 1} → statement M
-onward-spec = tie.close (tie.spec asked-requires returns returns-2)
+onward-spec =
+    tie.close (tie.spec with-byte-requires asked-requires phase-with-requires returns)

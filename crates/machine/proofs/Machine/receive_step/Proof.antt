@@ -54,11 +54,8 @@ cast-window c = search needs
 slice-write-window : tie.Need-slice-write-window
 slice-write-window c = omega (arith, fits (c .before .before .before .before .before .before .locate .ensures) (c .before .before .before .before .found .given .1), c .before .before .index .ensures .value, c .before .before .before .before .before .before .before .before .before .before .pre .0)
 
-cast-with-byte : tie.Need-cast-with-byte
-cast-with-byte c = search needs
-
-with-byte-requires : tie.Need-with-byte-requires
-with-byte-requires c κs = search needs
+cast-onward : tie.Need-cast-onward
+cast-onward c = search needs
 
 onward-requires : tie.Need-onward-requires
 onward-requires c κs = search needs
@@ -81,15 +78,15 @@ same-length c = search needs
 
 returns-2 : tie.Need-returns-2
 returns-2 c =
-    let l = c .before .before .before .before .before .before .before .before .before in
+    let i = c .before .before .before .before in
+    let l = i .before .before .before .before in
     let some = l .before .before .before .before .pre .1 .1 in
-    let e = c .before .before .before .before .before .before .before .found .given .1 in
+    let e = i .before .before .found .given .1 in
     let to = place (l .locate .ensures) (l .before .write-address .ensures) e in
-    let beat = c .before .before .before .before .get-u16 .ensures .value in
     simp (c .at2 .ensures) (
       (omega (arith, some), refl),
       λ out.
-          simp (c .before .onward .ensures, c .before .before .with-byte .ensures, c .before .before .before .has .ensures, beat, c .before .before .before .before .before .index .ensures .value, to)
+          simp (c .before .onward .ensures, c .before .before .has .ensures, c .before .before .before .get-u16 .ensures .value, i .index .ensures .value, to)
           (receive-in _ _ _ _ _ _ _ some (inside (l .locate .ensures) (l .before .write-address .ensures) e)),
     )
 
@@ -113,8 +110,7 @@ receive-step-spec =
     has-requires
     cast-window
     slice-write-window
-    cast-with-byte
-    with-byte-requires
+    cast-onward
     onward-requires
     at-requires-2
     returns

@@ -33,26 +33,19 @@ enum-known-found c = search needs
 index-requires : tie.Need-index-requires
 index-requires c κs = search needs
 
-shared-slice-read-beat : tie.Need-shared-slice-read-beat
-shared-slice-read-beat c = omega (arith, fits (c .before .before .before .before .before .locate .ensures) (c .before .before .before .found .given .1), c .before .index .ensures .value, c .before .before .before .before .before .before .before .before .before .pre .0)
+shared-slice-read-put-beat : tie.Need-shared-slice-read-put-beat
+shared-slice-read-put-beat c = omega (arith, fits (c .before .before .before .before .before .locate .ensures) (c .before .before .before .found .given .1), c .before .index .ensures .value, c .before .before .before .before .before .before .before .before .before .pre .0)
 
-beat-requires : tie.Need-beat-requires
-beat-requires c κs = search needs
-
-mul-put-u16 : tie.Need-mul-put-u16
-mul-put-u16 c = search needs
-
-put-u16-requires : tie.Need-put-u16-requires
-put-u16-requires c κs = search needs
-
-with-byte-requires : tie.Need-with-byte-requires
-with-byte-requires c κs = search needs
+put-beat-requires : tie.Need-put-beat-requires
+put-beat-requires c κs = search needs
 
 onward-requires : tie.Need-onward-requires
 onward-requires c κs = search needs
 
 add-at : tie.Need-add-at
-add-at c = omega (arith, c .before .before .before .before .before .before .before .before .before .before .before .before .before .before .before .before .good, c .before .before .before .before .before .before .before .before .before .before .before .before .before .before .before .before .pre .1 .1 .0)
+add-at c =
+    let s = c .before .before .before .before .before .before .before .before .before .before .before .before .before .before in
+    omega (arith, s .good, s .pre .1 .1 .0)
 
 at-requires-2 : tie.Need-at-requires-2
 at-requires-2 c κs = search needs
@@ -71,19 +64,20 @@ same-length c = search needs
 
 returns-2 : tie.Need-returns-2
 returns-2 c =
-    let l = c .before .before .before .before .before .before .before .before .before .before .before .before .before in
+    let p = c .before .before .before .before in
+    let i = p .before .before .before in
+    let l = i .before .before .before .before in
     let s = l .before .before .before .before in
     let a = s .args in
-    let e = c .before .before .before .before .before .before .before .before .before .before .before .found .given .1 in
+    let e = i .before .before .found .given .1 in
     let inside-it = inside (l .locate .ensures) (l .before .read-address .ensures) e in
     let room = s .pre .1 .1 .1 inside-it in
-    let from = c .before .before .before .before .before .before .before .before .before .index .ensures .value ∙ place (l .locate .ensures) (l .before .read-address .ensures) e in
-    let beat = c .before .before .before .before .before .before .before .beat .ensures ∙ ap (λ (x : ℕ). beatFor (a .k) (getD (a .window .now) x 0)) from in
+    let from = i .index .ensures .value ∙ place (l .locate .ensures) (l .before .read-address .ensures) e in
     simp (c .at2 .ensures) (
       (refl, omega (arith, room)),
       λ beats.
-          simp (c .before .onward .ensures, c .before .before .with-byte .ensures, c .before .before .before .before .before .put-u16 .ensures .lent)
-          (send-in (a .self) (a .k) (a .window .now) beats (a .taken) (a .out .now) (a .made) inside-it room (c .before .before .before .before .before .before .before .beat .result) beat),
+          simp (c .before .onward .ensures, p .put-beat .ensures)
+          (send-in (a .self) (a .k) (a .window .now) beats (a .taken) (a .out .now) (a .made) inside-it room _ (ap (λ (x : ℕ). beatFor (a .k) (getD (a .window .now) x 0)) from)),
     )
 
 pub send-step-spec : {M : Type 1} → statement M
@@ -98,11 +92,8 @@ send-step-spec =
     at-requires
     enum-known-found
     index-requires
-    shared-slice-read-beat
-    beat-requires
-    mul-put-u16
-    put-u16-requires
-    with-byte-requires
+    shared-slice-read-put-beat
+    put-beat-requires
     onward-requires
     add-at
     at-requires-2
