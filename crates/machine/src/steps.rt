@@ -90,13 +90,6 @@ fn byte_address(fixed: bool, start: u32, i: u16) -> u64
     }
 }
 
-// An address modulo 2^32, as a fault keeps it.
-fn cut(address: BusAddress) -> u32
-    ensures { λ r. ⌜ r ≡ address .0 % 2 ^ 32 ⌝ }
-{
-    (address.0 % 0x1_0000_0000) as u32
-}
-
 // The weight of a flag of an output beat, where it is set.
 fn weight(flag: bool, weight: u16) -> u16
     ensures { λ r. ⌜ (r ≡ cond flag weight 0) × (r ≤ weight) ⌝ }
@@ -243,6 +236,13 @@ impl Machine {
         self.enters(Phase::Faulted(Fault { code, address }), false)
     }
 
+    // Outside the window; a fault keeps the address modulo 2^32.
+    fn missed(self, code: u8, address: BusAddress) -> Machine
+        ensures { λ r. ⌜ r ≡ inFault self code (address .0 % 2 ^ 32) ⌝ }
+    {
+        self.faulted(code, (address.0 % 0x1_0000_0000) as u32)
+    }
+
     // The machine, where so many beats are taken and made.
     fn at(self, taken: usize, made: usize) -> Progress
         ensures { λ r. ⌜ r ≡ progress self taken made ⌝ }
@@ -387,11 +387,11 @@ impl Machine {
         let b = k.write_address();
         let from = self.window.locate(a, 1);
         match from {
-            Located::Outside => self.faulted(13, cut(a)),
+            Located::Outside => self.missed(13, a),
             Located::At(p) => {
                 let to = self.window.locate(b, 1);
                 match to {
-                    Located::Outside => self.faulted(14, cut(b)),
+                    Located::Outside => self.missed(14, b),
                     Located::At(q) => {
                         let i = p.index();
                         let j = q.index();
@@ -422,7 +422,7 @@ impl Machine {
         let a = k.read_address();
         let found = self.window.locate(a, 1);
         match found {
-            Located::Outside => self.faulted(13, cut(a)).at(taken, made),
+            Located::Outside => self.missed(13, a).at(taken, made),
             Located::At(place) => {
                 let at = place.index();
                 k.put_beat(window[at], out, made);
@@ -450,7 +450,7 @@ impl Machine {
         let past = next + 1;
         let found = self.window.locate(a, 1);
         match found {
-            Located::Outside => self.faulted(14, cut(a)).at(next, made),
+            Located::Outside => self.missed(14, a).at(next, made),
             Located::At(place) => {
                 let at = place.index();
                 let beat = get_u16(Order::MostFirst, beats, 2 * next);

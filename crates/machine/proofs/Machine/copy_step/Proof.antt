@@ -18,11 +18,8 @@ locate-requires c κs = search needs
 enum-told : tie.Need-enum-told
 enum-told c = search needs
 
-cut-requires : tie.Need-cut-requires
-cut-requires c κs = search needs
-
-faulted-requires : tie.Need-faulted-requires
-faulted-requires c κs = search needs
+missed-requires : tie.Need-missed-requires
+missed-requires c κs = search needs
 
 enum-known-from : tie.Need-enum-known-from
 enum-known-from c = search needs
@@ -33,11 +30,8 @@ locate-requires-2 c κs = search needs
 enum-told-2 : tie.Need-enum-told-2
 enum-told-2 c = search needs
 
-cut-requires-2 : tie.Need-cut-requires-2
-cut-requires-2 c κs = search needs
-
-faulted-requires-2 : tie.Need-faulted-requires-2
-faulted-requires-2 c κs = search needs
+missed-requires-2 : tie.Need-missed-requires-2
+missed-requires-2 c κs = search needs
 
 enum-known-to : tie.Need-enum-known-to
 enum-known-to c = search needs
@@ -61,22 +55,22 @@ onward-requires c κs = search needs
 
 returns : tie.Need-returns
 returns c =
-    let l = c .before .before .before .before in
+    let l = c .before .before .before in
     let r = l .before .before in
     let a = r .before .before .args in
-    no-source (a .self) (a .k) (a .window .now) (outside (l .locate .ensures) (r .read-address .ensures) (c .before .before .enum-told .given .1))
-    (fault-at (a .self) 13 (c .faulted .ensures) (c .before .cut .ensures) (r .read-address .ensures))
+    let from = r .read-address .ensures in
+    no-source (a .self) (a .k) (a .window .now) (outside (l .locate .ensures) from (c .before .enum-told .given .1))
+    (fault-at (a .self) 13 (c .missed .ensures) from)
 
 returns-2 : tie.Need-returns-2
 returns-2 c =
-    let l = c .before .before .before .before .before .before .before .before in
+    let m = c .before .before .before in
+    let l = m .before .before .before .before in
     let r = l .before .before in
     let a = r .before .before .args in
     let to = l .before .write-address .ensures in
-    no-destination (a .self) (a .k) (a .window .now)
-    (inside (l .locate .ensures) (r .read-address .ensures) (c .before .before .before .before .before .before .from .given .1))
-    (outside (c .before .before .before .before .locate2 .ensures) to (c .before .before .enum-told2 .given .1))
-    (fault-at (a .self) 14 (c .faulted2 .ensures) (c .before .cut2 .ensures) to)
+    no-destination (a .self) (a .k) (a .window .now) (inside (l .locate .ensures) (r .read-address .ensures) (m .before .before .from .given .1))
+    (outside (m .locate2 .ensures) to (c .before .enum-told2 .given .1)) (fault-at (a .self) 14 (c .missed2 .ensures) to)
 
 same-length : tie.Need-same-length
 same-length c = search needs
@@ -103,13 +97,11 @@ copy-step-spec =
     write-address-requires
     locate-requires
     enum-told
-    cut-requires
-    faulted-requires
+    missed-requires
     enum-known-from
     locate-requires-2
     enum-told-2
-    cut-requires-2
-    faulted-requires-2
+    missed-requires-2
     enum-known-to
     index-requires
     index-requires-2
