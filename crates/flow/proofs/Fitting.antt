@@ -2,10 +2,10 @@
 -- Assumes nothing.
 use Prim.Native.Nat.{ℕ, _+_, _≤_, _<_}
 use mathlib.Core.Path.{_≡_, refl, sym, ap, _∙_}
-use mathlib.Core.Bool.{Bool, true, false, _&&_, true≢false}
+use mathlib.Core.Bool.{Bool, true, false, cond, _&&_, true≢false}
 use native.Mathlib.Omega.{arith}
 use lib.Dec.{leb}
-use borrow.Author.Tests.{leb-true}
+use borrow.Author.Tests.{le-leb, leb-true}
 use Rattle.flow.specs.Rows.{landing, extent, fit}
 
 -- both tests hold
@@ -31,3 +31,7 @@ pub in-range : (f g : Bool) (i j n p q : ℕ) → (fit f i n p && fit g j n q) �
 in-range f g i j n p q e =
     let both = both-true (fit f i n p) (fit g j n q) e in
     (leb-true (i + extent f n) p (both .0), leb-true (j + extent g n) q (both .1))
+
+pub both-fit : {A : Type 0} (x y : A) (f g : Bool) (i j n p q : ℕ) → i + extent f n ≤ p → j + extent g n ≤ q
+    → cond (fit f i n p && fit g j n q) x y ≡ x
+both-fit x y f g i j n p q h l = rw (le-leb (i + extent f n) p h, le-leb (j + extent g n) q l)

@@ -19,9 +19,9 @@ use Rattle.bus.specs.Window.{Sought}
 use Rattle.descriptor.specs.Layout.{generateEop, readFixed, writeFixed}
 use Rattle.flow.specs.declared.Absorbed.{Absorbed}
 use Rattle.flow.specs.Beats.{beatEop, beatsIn, beatBytes}
-use Rattle.flow.specs.Rows.{fit, calm, gathered, spread, copied, plain, absorbedCount, Absorbs, copiedOver, sentOver}
+use Rattle.flow.specs.Rows.{extent, fit, calm, gathered, spread, copied, plain, absorbedCount, Absorbs, copiedOver, sentOver}
 use Rattle.flow.proofs.Fitting.{both-fit}
-use Rattle.flow.proofs.Longer.{calm-most, calm-before}
+use Rattle.flow.proofs.Longer.{calm-most, calm-before, length-plain}
 use Rattle.flow.proofs.Streams.{length-beats}
 use Rattle.machine.specs.declared.Machine.{Machine}
 use Rattle.machine.specs.declared.Mode.{Mode}
@@ -42,16 +42,23 @@ use Rattle.machine.proofs.InRows.{at-first, copy-steps, send-steps, rec
 
 -- ---- what is in reach
 
-pub no-reach : (fixed : Bool) (w : Window) (a : ℕ) → Reaches fixed w a (record { at = 0; bytes = 0 })
-no-reach fixed w a = record { row = λ n h i. absurd (omega arith); free = λ h. absurd (omega arith); within = omega arith }
+pub no-reach : (fixed : Bool) (w : Window) (a : ℕ) → Reaches fixed w a (record { fixed = fixed; at = 0; bytes = 0 })
+no-reach fixed w a = record { is-fixed = refl; row = λ n h i. absurd (omega arith) }
 
-pub reached : (fixed : Bool) (w : Window) (a at : ℕ) {l : Located} {p : Place} → fixed ≡ false → Sought w a 1 l → l ≡ At p → at ≡ p .0
-    → Reaches fixed w a (record { at = at; bytes = w .length - at })
-reached fixed w a at free s e same =
+in-span : (fixed : Bool) (at n length : ℕ) → at + 1 ≤ length → n ≤ cond fixed 65535 (length - at) → at + extent fixed n ≤ length
+in-span true at n length h l = h
+in-span false at n length h l = omega arith
+
+pub reached : (fixed : Bool) (w : Window) (a at bytes : ℕ) {l : Located} {p : Place} → Sought w a 1 l → l ≡ At p → at ≡ p .0
+    → bytes ≡ cond fixed 65535 (w .length - at) → Reaches fixed w a (record { fixed = fixed; at = at; bytes = bytes })
+reached fixed w a at bytes s e same far =
     record {
-      row = λ n h i. record { inside = inside s refl e; place = same ∙ place s refl e; fits = omega (arith, fits s e) };
-      free = λ h. free;
-      within = omega (arith, fits s e);
+      is-fixed = refl;
+      row = λ n h i. record {
+        inside = inside s refl e;
+        place = same ∙ place s refl e;
+        fits = in-span fixed at n (w .length) (omega (arith, fits s e)) (omega (arith, far));
+      };
     }
 
 pub reaches-as : {f g : Bool} {w : Window} {a b : ℕ} {r : Reach} → f ≡ g → a ≡ b → Reaches f w a r → Reaches g w b r
@@ -96,70 +103,121 @@ no-steps : {mode : Mode} {window : Window} {k : Work} {most : ℕ} {m : Machine}
 unfolding steps
 no-steps g memory input output room = ap (λ (x : Machine). taken (world x memory input output room)) (sym (at-first g))
 
+either : {A : Type 0} (b : Bool) (x : A) → cond b x x ≡ x
+either true x = refl
+either false x = refl
+
+-- whether the bytes read, and those written, stay at one address
+abbrev reads : Work → Bool
+reads k = readFixed (k .control .0)
+
+abbrev writes : Work → Bool
+writes k = writeFixed (k .control .0)
+
+-- what is in reach fits, so that the loops do not hold back
+module _ (k : Work) {place : Window} where
+  copy-fits : {from to : Reach} (n : ℕ) (memory : List ℕ) → Reaches (reads k) place (sourceOf k) from → Reaches (writes k) place (destinationOf k) to
+      → place .length ≡ length memory → n ≤ from .bytes → n ≤ to .bytes
+      → copiedOver memory (from .fixed) (from .at) (to .fixed) (to .at) n ≡ copied memory (reads k) (from .at) (writes k) (to .at) n
+  unfolding copiedOver copied
+  copy-fits {from} {to} n memory r s size f t =
+      (λ x. copiedOver memory (r .is-fixed x) (from .at) (s .is-fixed x) (to .at) n) ∙ by n f t
+    where
+      by : (n : ℕ) → n ≤ from .bytes → n ≤ to .bytes → copiedOver memory (reads k) (from .at) (writes k) (to .at) n ≡ copied memory (reads k) (from .at) (writes k) (to .at) n
+      by zero f t = either (fit (reads k) (from .at) 0 (length memory) && fit (writes k) (to .at) 0 (length memory)) memory
+      by (suc n) f t =
+          both-fit _ memory (reads k) (writes k) (from .at) (to .at) (suc n) (length memory) (length memory)
+          (subst (λ (x : ℕ). from .at + extent (reads k) (suc n) ≤ x) size (r .row (suc n) (omega arith) f .fits))
+          (subst (λ (x : ℕ). to .at + extent (writes k) (suc n) ≤ x) size (s .row (suc n) (omega arith) t .fits))
+
+  sent-fits : {from : Reach} (n : ℕ) (memory out : List ℕ) (made : ℕ) → Reaches (reads k) place (sourceOf k) from → place .length ≡ length memory
+      → n ≤ from .bytes → made + n ≤ length out / 2
+      → sentOver memory (from .fixed) (from .at) out made n ≡ put out (2 * made) (beatBytes (plain memory (reads k) (from .at) n))
+  unfolding sentOver plain
+  sent-fits {from} n memory out made r size f h = (λ x. sentOver memory (r .is-fixed x) (from .at) out made n) ∙ by n f h
+    where
+      by : (n : ℕ) → n ≤ from .bytes → made + n ≤ length out / 2
+          → sentOver memory (reads k) (from .at) out made n ≡ put out (2 * made) (beatBytes (plain memory (reads k) (from .at) n))
+      by zero f h =
+          let b : Bool = fit (reads k) (from .at) 0 (length memory) && fit false made 0 (length out / 2) in
+          ap (cond b (put out (2 * made) [])) (none-made out (2 * made)) ∙ either b (put out (2 * made) [])
+      by (suc n) f h =
+          both-fit _ out (reads k) false (from .at) made (suc n) (length memory) (length out / 2)
+          (subst (λ (x : ℕ). from .at + extent (reads k) (suc n) ≤ x) size (r .row (suc n) (omega arith) f .fits)) h
+
+  absorbed-fits : {to : Reach} (some : ℕ) (memory beats : List ℕ) (took : ℕ) → Reaches (writes k) place (destinationOf k) to → place .length ≡ length memory
+      → some ≤ to .bytes → took + some ≤ length beats / 2 → absorbedCount memory (to .fixed) (to .at) beats took some ≡ calm some (drop took (beatsIn beats))
+  absorbed-fits {to} some memory beats took s size t h = ap (λ (x : Bool). absorbedCount memory x (to .at) beats took some) (s .is-fixed) ∙ by some t h
+    where
+      by : (some : ℕ) → some ≤ to .bytes → took + some ≤ length beats / 2
+          → absorbedCount memory (writes k) (to .at) beats took some ≡ calm some (drop took (beatsIn beats))
+      by zero t h = either (fit (writes k) (to .at) 0 (length memory) && fit false took 0 (length beats / 2)) 0
+      by (suc n) t h =
+          both-fit _ 0 (writes k) false (to .at) took (suc n) (length memory) (length beats / 2)
+          (subst (λ (x : ℕ). to .at + extent (writes k) (suc n) ≤ x) size (s .row (suc n) (omega arith) t .fits)) h
+
 module _ {place : Window} {k : Work} {most : ℕ} where
   -- mode 0
-  pub copy-bursts : {from to : Reach} (n : ℕ) (memory memory' : List ℕ) → Reaches (readFixed (k .control .0)) place (sourceOf k) from
-      → Reaches (writeFixed (k .control .0)) place (destinationOf k) to → place .length ≡ length memory
-      → n ≤ most → n ≤ from .bytes → n ≤ to .bytes → memory' ≡ copiedOver memory (from .at) (to .at) n
+  pub copy-bursts : {from to : Reach} (n : ℕ) (memory memory' : List ℕ) → Reaches (reads k) place (sourceOf k) from
+      → Reaches (writes k) place (destinationOf k) to → place .length ≡ length memory
+      → n ≤ most → n ≤ from .bytes → n ≤ to .bytes → memory' ≡ copiedOver memory (from .fixed) (from .at) (to .fixed) (to .at) n
       → (beats : List ℕ) (took : ℕ) (out : List ℕ) (made : ℕ)
       → Bursts MemoryToMemory place k most n (k .errors) memory beats took out made took made memory' out
-  unfolding copiedOver copied
+  unfolding copied
   copy-bursts {from} {to} n memory memory' r s size l f t left beats took out made m g =
       subst⁻¹ (λ (x : List ℕ). Went (λ (w : World). steps n w) m memory beats took out made (progress (onward m (movedBy k n (k .errors))) took made) x out)
-      (left ∙ both-fit (copied memory (from .at) (to .at) n) memory (from .at) (to .at) n (length memory) (length memory) (omega (arith, r .within)) (omega (arith, s .within)))
+      (left ∙ copy-fits k n memory r s size f t)
       (went-none (λ (w : World). steps n w) m _ memory _ beats took out made took (λ o. by n l f t o))
     where
       by : (n : ℕ) → n ≤ most → n ≤ from .bytes → n ≤ to .bytes → (o : List ℕ)
           → steps n (world m memory (drop took (beatsIn beats)) o (length out / 2 - made))
-          ≡ taken (world (onward m (movedBy k n (k .errors))) (copied memory (from .at) (to .at) n) (drop took (beatsIn beats)) o (length out / 2 - made))
+          ≡ taken (world (onward m (movedBy k n (k .errors))) (copied memory (reads k) (from .at) (writes k) (to .at) n) (drop took (beatsIn beats)) o (length out / 2 - made))
       by zero l f t o = no-steps g memory (drop took (beatsIn beats)) o (length out / 2 - made)
       by (suc n) l f t o =
-          copy-steps g (r .free (omega arith)) (s .free (omega arith)) (from .at) (to .at) (suc n) (r .row (suc n) (omega arith) f)
-          (s .row (suc n) (omega arith) t) l memory (drop took (beatsIn beats)) o (length out / 2 - made)
+          copy-steps g (from .at) (to .at) (suc n) (r .row (suc n) (omega arith) f) (s .row (suc n) (omega arith) t) l memory
+          (drop took (beatsIn beats)) o (length out / 2 - made)
 
   -- mode 1
-  pub send-bursts : {from : Reach} (n : ℕ) (memory out out' : List ℕ) (made : ℕ) → Reaches (readFixed (k .control .0)) place (sourceOf k) from
+  pub send-bursts : {from : Reach} (n : ℕ) (memory out out' : List ℕ) (made : ℕ) → Reaches (reads k) place (sourceOf k) from
       → place .length ≡ length memory → n ≤ most → n ≤ from .bytes → made + n ≤ length out / 2 → (k .moved + most ≤ k .length → Unmarked k n)
-      → out' ≡ sentOver memory (from .at) out made n
+      → out' ≡ sentOver memory (from .fixed) (from .at) out made n
       → (beats : List ℕ) (took : ℕ)
       → Bursts MemoryToStream place k most n (k .errors) memory beats took out made took (made + n) memory out'
-  unfolding sentOver
+  unfolding plain
   send-bursts {from} n memory out out' made r size l f h u left beats took m g =
-      let inside : from .at + n ≤ length memory = omega (arith, r .within) in
       let room : length out / 2 - made - n ≡ length out / 2 - (made + n) = omega arith in
       record {
-        new = plain memory (from .at) n;
-        counted = ap (λ (x : ℕ). made + x) (sym (length-take-le n (drop (from .at) memory) (rw (length-drop (from .at) memory) (omega arith))));
-        wrote = left
-            ∙ both-fit (put out (2 * made) (beatBytes (plain memory (from .at) n))) out (from .at) made n (length memory) (length out / 2) inside h;
-        goes = λ o. by n l f o inside (omega arith) (u (subst (λ (x : Mode). k .moved + most ≤ asked (modeNumber x) (k .length)) (g .mode-is) (g .left)))
-            ∙ ap (λ (x : ℕ). taken (world (onward m (movedBy k n (k .errors))) memory (drop took (beatsIn beats)) (o ++ plain memory (from .at) n) x)) room;
+        new = plain memory (reads k) (from .at) n;
+        counted = ap (λ (x : ℕ). made + x) (sym (length-plain memory (reads k) (from .at) n));
+        wrote = left ∙ sent-fits k n memory out made r size f h;
+        goes = λ o. by n l f o (omega arith) (u (subst (λ (x : Mode). k .moved + most ≤ asked (modeNumber x) (k .length)) (g .mode-is) (g .left)))
+            ∙ ap (λ (x : ℕ). taken (world (onward m (movedBy k n (k .errors))) memory (drop took (beatsIn beats)) (o ++ plain memory (reads k) (from .at) n) x)) room;
       }
     where
-      by : (n : ℕ) → n ≤ most → n ≤ from .bytes → (o : List ℕ) → from .at + n ≤ length memory → n ≤ length out / 2 - made → Unmarked k n
+      by : (n : ℕ) → n ≤ most → n ≤ from .bytes → (o : List ℕ) → n ≤ length out / 2 - made → Unmarked k n
           → steps n (world m memory (drop took (beatsIn beats)) o (length out / 2 - made))
-          ≡ taken (world (onward m (movedBy k n (k .errors))) memory (drop took (beatsIn beats)) (o ++ plain memory (from .at) n) (length out / 2 - made - n))
-      by zero l f o i h u =
+          ≡ taken (world (onward m (movedBy k n (k .errors))) memory (drop took (beatsIn beats)) (o ++ plain memory (reads k) (from .at) n) (length out / 2 - made - n))
+      by zero l f o h u =
           let none = sym (append-nil o) in
           let all = sym (sub-zero (length out / 2 - made)) in
           no-steps g memory (drop took (beatsIn beats)) o (length out / 2 - made)
           ∙ (λ x. taken (world (onward m (movedBy k 0 (k .errors))) memory (drop took (beatsIn beats)) (none x) (all x)))
-      by (suc n) l f o i h u =
-          send-steps g (r .free (omega arith)) (from .at) (suc n) (r .row (suc n) (omega arith) f) l u memory i (drop took (beatsIn beats)) o
-          (length out / 2 - made) h
+      by (suc n) l f o h u =
+          send-steps g (from .at) (suc n) (r .row (suc n) (omega arith) f) l u memory (drop took (beatsIn beats)) o (length out / 2 - made) h
 
   -- mode 2
-  pub receive-bursts : {to : Reach} (some : ℕ) (memory memory' beats : List ℕ) (took : ℕ) (r : Absorbed) → Reaches (writeFixed (k .control .0)) place (destinationOf k) to
-      → place .length ≡ length memory → some ≤ most → some ≤ to .bytes → took + some ≤ length beats / 2 → Absorbs memory (to .at) beats took some (k .errors) r memory'
+  pub receive-bursts : {to : Reach} (some : ℕ) (memory memory' beats : List ℕ) (took : ℕ) (r : Absorbed) → Reaches (writes k) place (destinationOf k) to
+      → place .length ≡ length memory → some ≤ most → some ≤ to .bytes → took + some ≤ length beats / 2
+      → Absorbs memory (to .fixed) (to .at) beats took some (k .errors) r memory'
       → (r .count ≤ some) × ((out : List ℕ) (made : ℕ)
       → Bursts StreamToMemory place k most (r .count) (r .errors) memory beats took out made (took + r .count) made memory' out)
+  unfolding spread
   receive-bursts {to} some memory memory' beats took r s size l t h a =
       let bs = drop took (beatsIn beats) in
-      let counted : r .count ≡ calm some bs =
-      a .count ∙ both-fit (calm some bs) 0 (to .at) took some (length memory) (length beats / 2) (omega (arith, s .within)) h in
-      let same : absorbedCount memory (to .at) beats took some ≡ r .count = sym (a .count) in
+      let counted : r .count ≡ calm some bs = a .count ∙ absorbed-fits k some memory beats took s size t h in
+      let same : absorbedCount memory (to .fixed) (to .at) beats took some ≡ r .count = sym (a .count) in
       let errors : r .errors ≡ gathered (k .errors) (take (r .count) bs) = a .errors ∙ ap (λ (n : ℕ). gathered (k .errors) (take n bs)) same in
-      let bytes : memory' ≡ spread memory (to .at) (take (r .count) bs) = a .lent ∙ ap (λ (n : ℕ). spread memory (to .at) (take n bs)) same in
+      let bytes : memory' ≡ spread memory (writes k) (to .at) bs (r .count) = a .lent ∙ (λ x. spread memory (s .is-fixed x) (to .at) bs (same x)) in
       let few : (r .count ≤ some) × (r .count ≤ length bs) = subst⁻¹ (λ (n : ℕ). (n ≤ some) × (n ≤ length bs)) counted (calm-most some bs) in
       let calmly : (i : ℕ) → i < r .count → beatEop (getD bs i 0) ≡ false = λ i j. calm-before some bs i (omega arith) in (
         few .0,
@@ -173,10 +231,10 @@ module _ {place : Window} {k : Work} {most : ℕ} where
           → ((i : ℕ) → i < n → beatEop (getD (drop took (beatsIn beats)) i 0) ≡ false) → (o : List ℕ) (room : ℕ)
           → steps n (world m memory (drop took (beatsIn beats)) o room)
           ≡ taken (world (onward m (movedBy k n (gathered (k .errors) (take n (drop took (beatsIn beats))))))
-          (spread memory (to .at) (take n (drop took (beatsIn beats)))) (drop n (drop took (beatsIn beats))) o room)
+          (spread memory (writes k) (to .at) (drop took (beatsIn beats)) n) (drop n (drop took (beatsIn beats))) o room)
       by m g zero l f i q o room = no-steps g memory (drop took (beatsIn beats)) o room
       by m g (suc n) l f i q o room =
-          receive-steps g (s .free (omega arith)) (to .at) (suc n) (s .row (suc n) (omega arith) f) l memory (drop took (beatsIn beats)) o room i q
+          receive-steps g (to .at) (suc n) (s .row (suc n) (omega arith) f) l memory (drop took (beatsIn beats)) o room i q
 
 -- ---- what the run does with a burst
 

@@ -9,8 +9,8 @@ use native.Mathlib.Nat.{add-zero, sub-zero}
 use native.Mathlib.Numerals.{add-one}
 use native.Mathlib.Omega.{arith}
 use lib.Bits.{bitOr, or-zero-r}
-use lib.ListN.{length, take, drop, getD, set, length-drop}
-use lib.Seq.{drop-cons, take-suc, getD-drop}
+use lib.ListN.{length, take, drop, getD, set}
+use lib.Seq.{drop-cons}
 use borrow.Author.Tests.{ne-eqb}
 use Rattle.bus.specs.declared.Window.{Window}
 use Rattle.bus.specs.Window.{inWindow, placeOf}
@@ -23,9 +23,9 @@ use Rattle.machine.specs.declared.Phase.{Phase}
 use Rattle.machine.specs.declared.Phase.the-variants.{Move, WriteBack}
 use Rattle.machine.specs.State.{withPhase}
 use Rattle.flow.specs.Beats.{beatError, beatEop, beatData}
-use Rattle.flow.specs.Rows.{gathered, spread, copied, plain}
-use Rattle.flow.proofs.Longer.{spread-more, gathered-next, copied-more}
-use Rattle.machine.specs.Step.{World, Answer, taken, step, whole, sourceOf, destinationOf, withByte, onward, copyStep, sendStep, receiveFrom, moveStep, beatFor}
+use Rattle.flow.specs.Rows.{landing, gathered, spread, copied, plain}
+use Rattle.flow.proofs.Longer.{gathered-next}
+use Rattle.machine.specs.Step.{World, Answer, taken, step, whole, byteAddress, sourceOf, destinationOf, withByte, onward, copyStep, sendStep, receiveFrom, moveStep, beatFor}
 use Rattle.machine.specs.Turns.{world, stepsOn, steps, movedBy, Moving, Row, Unmarked}
 use Rattle.machine.proofs.Places.{further}
 
@@ -88,54 +88,62 @@ module _ {mode : Mode} {window : Window} {k : Work} {most : ℕ} {m : Machine} (
 
 -- ---- addresses along the row
 
+fixed-or-on : (fixed : Bool) (start moved i : ℕ) → byteAddress fixed start (moved + i) ≡ landing fixed (byteAddress fixed start moved) i
+fixed-or-on true start moved i = refl
+fixed-or-on false start moved i = omega arith
+
 module _ (k : Work) (i errors : ℕ) where
-  source-there : readFixed (k .control .0) ≡ false → sourceOf (movedBy k i errors) ≡ sourceOf k + i
+  source-there : sourceOf (movedBy k i errors) ≡ landing (readFixed (k .control .0)) (sourceOf k) i
   unfolding sourceOf
-  source-there e = rw e (let z : k .source + (k .moved + i) ≡ k .source + k .moved + i = omega arith in z)
+  source-there = fixed-or-on (readFixed (k .control .0)) (k .source) (k .moved) i
 
-  destination-there : writeFixed (k .control .0) ≡ false → destinationOf (movedBy k i errors) ≡ destinationOf k + i
+  destination-there : destinationOf (movedBy k i errors) ≡ landing (writeFixed (k .control .0)) (destinationOf k) i
   unfolding destinationOf
-  destination-there e = rw e (let z : k .destination + (k .moved + i) ≡ k .destination + k .moved + i = omega arith in z)
+  destination-there = fixed-or-on (writeFixed (k .control .0)) (k .destination) (k .moved) i
 
-module _ {window : Window} {a at n : ℕ} (r : Row window a at n) (m : Machine) (w : m .window ≡ window) (i : ℕ) (l : i < n) where
-  there : (inWindow window (a + i) 1 ≡ true) × (placeOf window (a + i) ≡ placeOf window a + i)
-  there = further window a i (r .inside) (omega (arith, r .place, r .fits))
+there : (window : Window) (fixed : Bool) {a at n : ℕ} → Row window fixed a at n → (i : ℕ) → i < n
+    → (inWindow window (landing fixed a i) 1 ≡ true) × (placeOf window (landing fixed a i) ≡ landing fixed at i)
+there window true r i l = (r .inside, sym (r .place))
+there window false {a} {at} r i l =
+    let f = further window a i (r .inside) (omega (arith, r .place, r .fits)) in
+    (f .0, f .1 ∙ ap (λ (x : ℕ). x + i) (sym (r .place)))
 
-  in-row : (b : ℕ) → b ≡ a + i → inWindow (m .window) b 1 ≡ true
-  in-row b e = ap (λ (v : Window). inWindow v b 1) w ∙ ap (λ (x : ℕ). inWindow window x 1) e ∙ there .0
+module _ {window : Window} {fixed : Bool} {a at n : ℕ} (r : Row window fixed a at n) (m : Machine) (w : m .window ≡ window) (i : ℕ) (l : i < n) where
+  in-row : (b : ℕ) → b ≡ landing fixed a i → inWindow (m .window) b 1 ≡ true
+  in-row b e = ap (λ (v : Window). inWindow v b 1) w ∙ ap (λ (x : ℕ). inWindow window x 1) e ∙ there window fixed r i l .0
 
-  place-in-row : (b : ℕ) → b ≡ a + i → placeOf (m .window) b ≡ at + i
-  place-in-row b e =
-      ap (λ (v : Window). placeOf v b) w ∙ ap (λ (x : ℕ). placeOf window x) e ∙ there .1 ∙ ap (λ (x : ℕ). x + i) (sym (r .place))
+  place-in-row : (b : ℕ) → b ≡ landing fixed a i → placeOf (m .window) b ≡ landing fixed at i
+  place-in-row b e = ap (λ (v : Window). placeOf v b) w ∙ ap (λ (x : ℕ). placeOf window x) e ∙ there window fixed r i l .1
 
 -- ---- mode 0
 
-module _ {window : Window} {k : Work} {most : ℕ} {m : Machine} (g : Moving MemoryToMemory window k most m)
-    (reads : readFixed (k .control .0) ≡ false) (writes : writeFixed (k .control .0) ≡ false)
-    (from to n : ℕ) (r : Row window (sourceOf k) from n) (s : Row window (destinationOf k) to n) (l : n ≤ most)
+module _ {window : Window} {k : Work} {most : ℕ} {m : Machine} (g : Moving MemoryToMemory window k most m) (from to n : ℕ)
+    (r : Row window (readFixed (k .control .0)) (sourceOf k) from n) (s : Row window (writeFixed (k .control .0)) (destinationOf k) to n) (l : n ≤ most)
     (memory input output : List ℕ) (room : ℕ) where
+  abbrev bytes-copied : ℕ → List ℕ
+  bytes-copied i = copied memory (readFixed (k .control .0)) from (writeFixed (k .control .0)) to i
+
   abbrev copy-row : ℕ → World
-  copy-row i = world (onward m (movedBy k i (k .errors))) (copied memory from to i) input output room
+  copy-row i = world (onward m (movedBy k i (k .errors))) (bytes-copied i) input output room
 
   copy-next : (i : ℕ) → i < n → step (copy-row i) ≡ taken (copy-row (suc i))
-  unfolding copyStep
+  unfolding copyStep copied
   copy-next i h =
       let j = movedBy k i (k .errors) in
-      let a = source-there k i (k .errors) reads in
-      let b = destination-there k i (k .errors) writes in
+      let a = source-there k i (k .errors) in
+      let b = destination-there k i (k .errors) in
       let here : onward (withPhase (Move j) m) (withByte 0 false j) ≡ onward m (movedBy k (suc i) (k .errors)) =
       machine-there g i (k .errors) 0 (Move j) ∙ ap (λ (e : ℕ). onward m (movedBy k (suc i) e)) (or-zero-r (k .errors)) in
-      step-there g i (k .errors) (omega arith) (copied memory from to i) input output room
+      step-there g i (k .errors) (omega arith) (bytes-copied i) input output room
       ∙ rw (
         in-row r m (g .window-is) i h (sourceOf j) a,
         in-row s m (g .window-is) i h (destinationOf j) b,
         place-in-row r m (g .window-is) i h (sourceOf j) a,
         place-in-row s m (g .window-is) i h (destinationOf j) b,
         here,
-        copied-more memory from to i,
       )
 
-  pub copy-steps : steps n (world m memory input output room) ≡ taken (world (onward m (movedBy k n (k .errors))) (copied memory from to n) input output room)
+  pub copy-steps : steps n (world m memory input output room) ≡ taken (world (onward m (movedBy k n (k .errors))) (bytes-copied n) input output room)
   unfolding copied
   copy-steps = ap (λ (x : Machine). steps n (world x memory input output room)) (sym (at-first g)) ∙ row-steps copy-row n copy-next
 
@@ -147,34 +155,34 @@ send-one : (w : World) (j : Work) (left : ℕ) → inWindow (w .machine .window)
 unfolding sendStep
 send-one w j left e f = rw (e, f)
 
-module _ {window : Window} {k : Work} {most : ℕ} {m : Machine} (g : Moving MemoryToStream window k most m)
-    (reads : readFixed (k .control .0) ≡ false) (from n : ℕ) (r : Row window (sourceOf k) from n) (l : n ≤ most) (unmarked : Unmarked k n)
-    (memory : List ℕ) (fits : from + n ≤ length memory) (input output : List ℕ) (room : ℕ) (some : n ≤ room) where
-  abbrev send-row : ℕ → World
-  send-row i = world (onward m (movedBy k i (k .errors))) memory input (output ++ plain memory from i) (room - i)
+module _ {window : Window} {k : Work} {most : ℕ} {m : Machine} (g : Moving MemoryToStream window k most m) (from n : ℕ)
+    (r : Row window (readFixed (k .control .0)) (sourceOf k) from n) (l : n ≤ most) (unmarked : Unmarked k n)
+    (memory input output : List ℕ) (room : ℕ) (some : n ≤ room) where
+  abbrev beats-sent : ℕ → List ℕ
+  beats-sent i = plain memory (readFixed (k .control .0)) from i
 
-  plain-more : (i : ℕ) → i < n → plain memory from i ++ getD memory (from + i) 0 ∷ [] ≡ plain memory from (suc i)
-  plain-more i h =
-      let b : i < length (drop from memory) = rw (length-drop from memory) (omega arith) in
-      ap (λ (x : ℕ). plain memory from i ++ x ∷ []) (sym (getD-drop from memory i 0)) ∙ sym (take-suc (drop from memory) i 0 b)
+  abbrev send-row : ℕ → World
+  send-row i = world (onward m (movedBy k i (k .errors))) memory input (output ++ beats-sent i) (room - i)
 
   send-next : (i : ℕ) → i < n → step (send-row i) ≡ taken (send-row (suc i))
+  unfolding plain
   send-next i h =
       let j = movedBy k i (k .errors) in
-      let a = source-there k i (k .errors) reads in
-      let w : World = world (withPhase (Move j) m) memory input (output ++ plain memory from i) (room - i) in
+      let a = source-there k i (k .errors) in
+      let w : World = world (withPhase (Move j) m) memory input (output ++ beats-sent i) (room - i) in
       let here : onward (withPhase (Move j) m) (withByte 0 false j) ≡ onward m (movedBy k (suc i) (k .errors)) =
       machine-there g i (k .errors) 0 (Move j) ∙ ap (λ (e : ℕ). onward m (movedBy k (suc i) e)) (or-zero-r (k .errors)) in
-      let byte : beatFor j (getD memory (placeOf (m .window) (sourceOf j)) 0) ≡ getD memory (from + i) 0 =
+      let byte : beatFor j (getD memory (placeOf (m .window) (sourceOf j)) 0) ≡ getD memory (landing (readFixed (k .control .0)) from i) 0 =
       unmarked i (k .errors) _ h ∙ ap (λ (p : ℕ). getD memory p 0) (place-in-row r m (g .window-is) i h (sourceOf j) a) in
-      let made : (output ++ plain memory from i) ++ beatFor j (getD memory (placeOf (m .window) (sourceOf j)) 0) ∷ [] ≡ output ++ plain memory from (suc i) =
-      append-assoc output (plain memory from i) _ ∙ ap (λ (x : List ℕ). output ++ x) (ap (λ (x : ℕ). plain memory from i ++ x ∷ []) byte ∙ plain-more i h) in
-      step-there g i (k .errors) (omega arith) memory input (output ++ plain memory from i) (room - i)
+      let made : (output ++ beats-sent i) ++ beatFor j (getD memory (placeOf (m .window) (sourceOf j)) 0) ∷ [] ≡ output ++ beats-sent (suc i) =
+      append-assoc output (beats-sent i) _ ∙ ap (λ (x : ℕ). output ++ (beats-sent i ++ x ∷ [])) byte in
+      step-there g i (k .errors) (omega arith) memory input (output ++ beats-sent i) (room - i)
       ∙ send-one w j (room - suc i) (in-row r m (g .window-is) i h (sourceOf j) a) (omega arith)
       ∙ λ x. taken (world (here x) memory input (made x) (room - suc i))
 
   pub send-steps : steps n (world m memory input output room)
-      ≡ taken (world (onward m (movedBy k n (k .errors))) memory input (output ++ plain memory from n) (room - n))
+      ≡ taken (world (onward m (movedBy k n (k .errors))) memory input (output ++ beats-sent n) (room - n))
+  unfolding plain
   send-steps =
       let first = sym (at-first g) in
       let none = sym (append-nil output) in
@@ -188,34 +196,38 @@ pub receive-one : (w : World) (j : Work) (b : ℕ) (bs : List ℕ) → w .input 
     (set (w .memory) (placeOf (w .machine .window) (destinationOf j)) (beatData b)) bs (w .output) (w .room))
 receive-one w j b bs e f = ap (receiveFrom w j) e ∙ rw f
 
-module _ {window : Window} {k : Work} {most : ℕ} {m : Machine} (g : Moving StreamToMemory window k most m)
-    (writes : writeFixed (k .control .0) ≡ false) (to n : ℕ) (r : Row window (destinationOf k) to n) (l : n ≤ most)
+module _ {window : Window} {k : Work} {most : ℕ} {m : Machine} (g : Moving StreamToMemory window k most m) (to n : ℕ)
+    (r : Row window (writeFixed (k .control .0)) (destinationOf k) to n) (l : n ≤ most)
     (memory beats output : List ℕ) (room : ℕ) (some : n ≤ length beats) (calm : (i : ℕ) → i < n → beatEop (getD beats i 0) ≡ false) where
   abbrev errors-row : ℕ → ℕ
   errors-row i = gathered (k .errors) (take i beats)
 
+  abbrev bytes-received : ℕ → List ℕ
+  bytes-received i = spread memory (writeFixed (k .control .0)) to beats i
+
   abbrev receive-row : ℕ → World
-  receive-row i = world (onward m (movedBy k i (errors-row i))) (spread memory to (take i beats)) (drop i beats) output room
+  receive-row i = world (onward m (movedBy k i (errors-row i))) (bytes-received i) (drop i beats) output room
 
   receive-next : (i : ℕ) → i < n → step (receive-row i) ≡ taken (receive-row (suc i))
+  unfolding spread
   receive-next i h =
       let e = errors-row i in
       let j = movedBy k i e in
       let b = getD beats i 0 in
-      let a = destination-there k i e writes in
-      let w : World = world (withPhase (Move j) m) (spread memory to (take i beats)) (drop i beats) output room in
-      let more : take (i + 1) beats ≡ take (suc i) beats = ap (λ (x : ℕ). take x beats) (add-one i) in
-      let errors : bitOr e (beatError b) ≡ errors-row (suc i) = sym (gathered-next beats i (omega arith) (k .errors)) ∙ ap (gathered (k .errors)) more in
+      let a = destination-there k i e in
+      let w : World = world (withPhase (Move j) m) (bytes-received i) (drop i beats) output room in
+      let errors : bitOr e (beatError b) ≡ errors-row (suc i) =
+      sym (gathered-next beats i (omega arith) (k .errors)) ∙ ap (λ (x : ℕ). gathered (k .errors) (take x beats)) (add-one i) in
       let here : onward (withPhase (Move j) m) (withByte (beatError b) (beatEop b) j) ≡ onward m (movedBy k (suc i) (errors-row (suc i))) =
       ap (λ (x : Bool). onward (withPhase (Move j) m) (withByte (beatError b) x j)) (calm i h)
       ∙ machine-there g i e (beatError b) (Move j) ∙ ap (λ (x : ℕ). onward m (movedBy k (suc i) x)) errors in
-      let bytes : set (spread memory to (take i beats)) (placeOf (m .window) (destinationOf j)) (beatData b) ≡ spread memory to (take (suc i) beats) =
-      ap (λ (p : ℕ). set (spread memory to (take i beats)) p (beatData b)) (place-in-row r m (g .window-is) i h (destinationOf j) a)
-      ∙ sym (spread-more beats i (omega arith) memory to) ∙ ap (spread memory to) more in
-      step-there g i e (omega arith) (spread memory to (take i beats)) (drop i beats) output room
+      let bytes : set (bytes-received i) (placeOf (m .window) (destinationOf j)) (beatData b) ≡ bytes-received (suc i) =
+      ap (λ (p : ℕ). set (bytes-received i) p (beatData b)) (place-in-row r m (g .window-is) i h (destinationOf j) a) in
+      step-there g i e (omega arith) (bytes-received i) (drop i beats) output room
       ∙ receive-one w j b (drop (suc i) beats) (drop-cons beats i 0 (omega arith)) (in-row r m (g .window-is) i h (destinationOf j) a)
       ∙ λ x. taken (world (here x) (bytes x) (drop (suc i) beats) output room)
 
   pub receive-steps : steps n (world m memory beats output room)
-      ≡ taken (world (onward m (movedBy k n (errors-row n))) (spread memory to (take n beats)) (drop n beats) output room)
+      ≡ taken (world (onward m (movedBy k n (errors-row n))) (bytes-received n) (drop n beats) output room)
+  unfolding spread
   receive-steps = ap (λ (x : Machine). steps n (world x memory beats output room)) (sym (at-first g)) ∙ row-steps receive-row n receive-next

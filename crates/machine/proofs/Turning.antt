@@ -1,8 +1,8 @@
 -- Rules applied in the middle of lent slices.
 -- Assumes nothing.
-use Prim.Native.Nat.{ℕ, suc, _+_, _-_, _*_, _/_, _%_, _^_, _<_}
+use Prim.Native.Nat.{ℕ, suc, _+_, _-_, _*_, _/_, _%_, _^_, _≤_, _<_}
 use mathlib.Core.Path.{_≡_, refl, sym, ap, _∙_}
-use mathlib.Core.Bool.{true, false}
+use mathlib.Core.Bool.{Bool, true, false}
 use mathlib.Core.List.{List, [], _∷_, append-nil}
 use native.Mathlib.Nat.{add-zero}
 use native.Mathlib.Omega.{arith}
@@ -52,35 +52,49 @@ pub rest-starts : (m m' : Machine) (memory : List ℕ) → run (m .control) ≡ 
 unfolding restStep
 rest-starts m m' memory e f = λ input output room. rw (e, f)
 
--- mode 1
-module _ (m : Machine) (k : Work) (window beats : List ℕ) (took : ℕ) (out : List ℕ) (made : ℕ) where
-  pub send-out : inWindow (m .window) (sourceOf k) 1 ≡ false
-      → Went (λ (w : World). sendStep w k) m window beats took out made (progress (inFault m 13 (sourceOf k % 2 ^ 32)) took made) window out
-  unfolding sendStep
-  send-out e = went-none (λ (w : World). sendStep w k) m _ window window beats took out made took (λ o. rw e)
+-- one more is still within
+pub past : {n m : ℕ} → n < m → n + 1 ≤ m
+past h = omega arith
 
-  pub send-in : inWindow (m .window) (sourceOf k) 1 ≡ true → made < length out / 2 → (b : ℕ)
-      → b ≡ beatFor k (getD window (placeOf (m .window) (sourceOf k)) 0)
-      → Went (λ (w : World). sendStep w k) m window beats took out made (progress (onward m (withByte 0 false k)) took (made + 1)) window
-      (putAt out (2 * made) (bytesOf MostFirst 2 b))
+pub within : {n m : ℕ} → n < m → n ≤ m
+within h = omega arith
+
+-- mode 1
+module _ (m : Machine) (k : Work) (window beats : List ℕ) (took : ℕ) (out : List ℕ) (made : ℕ) {m' : Machine} {r : Progress} where
+  pub send-out : inWindow (m .window) (sourceOf k) 1 ≡ false → m' ≡ inFault m 13 (sourceOf k % 2 ^ 32) → r ≡ progress m' took made
+      → Went (λ (w : World). sendStep w k) m window beats took out made r window out
   unfolding sendStep
-  send-in e h b same =
+  send-out e f g =
+      rw g (went-none (λ (w : World). sendStep w k) m _ window window beats took out made took (λ o. rw (e, f)))
+
+  pub send-in : inWindow (m .window) (sourceOf k) 1 ≡ true → made < length out / 2 → {b : ℕ} {out' : List ℕ}
+      → b ≡ beatFor k (getD window (placeOf (m .window) (sourceOf k)) 0) → out' ≡ putAt out (2 * made) (bytesOf MostFirst 2 b)
+      → m' ≡ onward m (withByte 0 false k) → r ≡ progress m' took (made + 1)
+      → Went (λ (w : World). sendStep w k) m window beats took out made r window out'
+  unfolding sendStep
+  send-in e h {b} same put f g =
       let left : length out / 2 - made ≡ suc (length out / 2 - (made + 1)) = omega arith in
-      record {
+      rw g
+      (record {
         new = b ∷ [];
         counted = refl;
-        wrote = beat-made out made b h;
-        goes = λ o. rw (e, left, same);
-      }
+        wrote = put ∙ beat-made out made b h;
+        goes = λ o. rw (e, left, same, f);
+      })
 
 -- mode 2
-module _ (m : Machine) (k : Work) (window beats : List ℕ) (took : ℕ) (out : List ℕ) (made : ℕ) (h : took < length beats / 2) where
-  pub receive-out : inWindow (m .window) (destinationOf k) 1 ≡ false
-      → Went (λ (w : World). receiveFrom w k (w .input)) m window beats took out made (progress (inFault m 14 (destinationOf k % 2 ^ 32)) took made) window out
-  receive-out e = went-none (λ (w : World). receiveFrom w k (w .input)) m _ window window beats took out made took (λ o. rw (next-beat beats took h, e))
+module _ (m : Machine) (k : Work) (window beats : List ℕ) (took : ℕ) (out : List ℕ) (made : ℕ) (h : took < length beats / 2) {m' : Machine} {r : Progress} where
+  pub receive-out : inWindow (m .window) (destinationOf k) 1 ≡ false → m' ≡ inFault m 14 (destinationOf k % 2 ^ 32)
+      → r ≡ progress m' took made → Went (λ (w : World). receiveFrom w k (w .input)) m window beats took out made r window out
+  receive-out e f g =
+      rw g
+      (went-none (λ (w : World). receiveFrom w k (w .input)) m _ window window beats took out made took
+      (λ o. rw (next-beat beats took h, e, f)))
 
-  pub receive-in : inWindow (m .window) (destinationOf k) 1 ≡ true
-      → Went (λ (w : World). receiveFrom w k (w .input)) m window beats took out made
-      (progress (onward m (withByte (beatError (beatAt beats took)) (beatEop (beatAt beats took)) k)) (took + 1) made)
-      (set window (placeOf (m .window) (destinationOf k)) (beatData (beatAt beats took))) out
-  receive-in e = went-none (λ (w : World). receiveFrom w k (w .input)) m _ window _ beats took out made (took + 1) (λ o. rw (next-beat beats took h, e))
+  pub receive-in : inWindow (m .window) (destinationOf k) 1 ≡ true → {b at : ℕ} {eop : Bool} → b ≡ beatAt beats took → eop ≡ beatEop b
+      → at ≡ placeOf (m .window) (destinationOf k) → m' ≡ onward m (withByte (beatError b) eop k) → r ≡ progress m' (took + 1) made
+      → Went (λ (w : World). receiveFrom w k (w .input)) m window beats took out made r (set window at (beatData b)) out
+  receive-in e p q s f g =
+      rw g
+      (went-none (λ (w : World). receiveFrom w k (w .input)) m _ window _ beats took out made (took + 1)
+      (λ o. rw (next-beat beats took h, e, f, q, p, s)))

@@ -14,6 +14,8 @@ use Rattle.image.specs.Rules.{asked}
 use Rattle.machine.specs.declared.Machine.{Machine}
 use Rattle.machine.specs.declared.Mode.{Mode}
 use Rattle.machine.specs.declared.Mode.the-variants.{MemoryToMemory, MemoryToStream, StreamToMemory}
+use Rattle.machine.specs.declared.Status.{Status}
+use Rattle.machine.specs.declared.Control.{Control}
 use Rattle.machine.specs.declared.Work.{Work}
 use Rattle.machine.specs.declared.Phase.{Phase}
 use Rattle.machine.specs.declared.Phase.the-variants.{Rest, Fetch, Move, WriteBack, Ended, Halted, Faulted}
@@ -222,8 +224,15 @@ counted count max =
 abbrev pub afterBack : (run halts : Bool) → Phase
 afterBack run halts = cond run (cond halts Halted Fetch) Rest
 
--- set DESCRIPTOR_COMPLETED; EOP_ENCOUNTERED if the last beat had EOP; ERROR if errors are not 0; each event pends only under
--- its own enable
+-- set DESCRIPTOR_COMPLETED; EOP_ENCOUNTERED if the last beat had EOP; ERROR if errors are not 0
+abbrev pub statusBack : Status → (eop failed busy : Bool) → Status
+statusBack s eop failed busy =
+    record { error = s .error || failed; eop = s .eop || eop; descriptor = true; chain = s .chain; busy = busy }
+
+-- each event pends only under its own enable
+abbrev pub pends : Control → (eop failed full : Bool) → Bool
+pends c eop failed full = ieDescriptor c || (ieEop c && eop) || (ieError c && failed) || (ieMax c && full)
+
 unfoldable pub completed : Machine → Work → Machine
 completed m k =
     let c = m .control in
@@ -233,17 +242,11 @@ completed m k =
     record {
       mode = m .mode;
       window = m .window;
-      status = record {
-        error = m .status .error || failed;
-        eop = m .status .eop || k .eop;
-        descriptor = true;
-        chain = m .status .chain;
-        busy = run c && not halts;
-      };
+      status = statusBack (m .status) (k .eop) failed (run c && not halts);
       control = c;
       pointer = m .pointer;
       phase = afterBack (run c) halts;
-      pending = m .pending || ieDescriptor c || (ieEop c && k .eop) || (ieError c && failed) || (ieMax c && n .full);
+      pending = m .pending || pends c (k .eop) failed (n .full);
       count = n .count;
     }
 

@@ -23,6 +23,7 @@ use Rattle.machine.specs.declared.steps.Lent as code
 use Rattle.machine.specs.declared.steps.Lent.the-variants as lent
 use Rattle.machine.specs.State.{withPhase, withBusy}
 use Rattle.flow.specs.Beats.{beatsIn, beatBytes}
+use Rattle.flow.specs.Rows.{extent}
 use Rattle.machine.specs.Step.{World, Answer, taken, stopped, step, whole, onward, beatFor}
 use Rattle.machine.specs.Run.{Lent, serves, refused}
 
@@ -159,17 +160,16 @@ Bursts mode place k most n errors window beats took out made took' made' window'
     (m : Machine) → Moving mode place k most m
     → Went (λ (w : World). steps n w) m window beats took out made (progress (onward m (movedBy k n errors)) took' made') window' out'
 
--- n bytes from the address a on stand at places from `at` on
-pub record Row (window : Window) (a at n : ℕ) : Type 0 where
+-- n bytes from the address a on stand at places from `at` on, or all at one where the address is fixed
+pub record Row (window : Window) (fixed : Bool) (a at n : ℕ) : Type 0 where
   pub inside : inWindow window a 1 ≡ true
   pub place : at ≡ placeOf window a
-  pub fits : at + n ≤ window .length
+  pub fits : at + extent fixed n ≤ window .length
 
--- so many bytes are in reach from the address a on; none where it is fixed
+-- so many bytes are in reach from the address a on
 pub record Reaches (fixed : Bool) (window : Window) (a : ℕ) (r : Reach) : Type 0 where
-  pub row : (n : ℕ) → 1 ≤ n → n ≤ r .bytes → Row window a (r .at) n
-  pub free : 1 ≤ r .bytes → fixed ≡ false
-  pub within : r .at + r .bytes ≤ window .length
+  pub is-fixed : r .fixed ≡ fixed
+  pub row : (n : ℕ) → 1 ≤ n → n ≤ r .bytes → Row window fixed a (r .at) n
 
 -- the next n bytes make beats with neither SOP nor EOP
 abbrev pub Unmarked : Work → ℕ → Type 0

@@ -1,5 +1,6 @@
 // Bytes moved at once in Move: as many as budget, descriptor, stream, room and window allow. Each is a step of the core.
 ghost use mathlib.Core.Path.{_≡_};
+ghost use mathlib.Core.Bool.{cond};
 ghost use mathlib.Core.List.{List};
 ghost use Prim.Native.Nat.{ℕ, _+_, _/_, _≤_, _<_};
 ghost use lib.ListN.{length};
@@ -17,27 +18,40 @@ use flow::absorb;
 use flow::copy;
 use flow::send;
 
-// How many bytes of the window are in reach, and from which place on.
+// How many bytes of the window are in reach, from which place on, and whether all at that one.
 struct Reach {
+    fixed: bool,
     at: usize,
     bytes: usize,
 }
 
-// From an address on; none where it is fixed or outside.
+// A descriptor moves no more bytes than this.
+const MOST: usize = 65_535;
+
+// How far a row goes that has so many bytes before it: at one place, as far as any.
+fn span(fixed: bool, bytes: usize) -> usize
+    ensures { λ r. ⌜ r ≡ cond fixed 65535 bytes ⌝ }
+{
+    if fixed { MOST } else { bytes }
+}
+
+// From an address on; none where it is outside.
 fn in_reach(fixed: bool, place: Window, address: BusAddress) -> Reach
     ensures { λ r. ⌜ Reaches fixed place (address .0) r ⌝ }
 {
-    if fixed {
-        return Reach { at: 0, bytes: 0 };
-    }
     let found = place.locate(address, 1);
     match found {
-        Located::Outside => Reach { at: 0, bytes: 0 },
+        Located::Outside => Reach {
+            fixed,
+            at: 0,
+            bytes: 0,
+        },
         Located::At(first) => {
             let at = first.index();
             Reach {
+                fixed,
                 at,
-                bytes: place.length as usize - at,
+                bytes: span(fixed, place.length as usize - at),
             }
         }
     }
@@ -52,7 +66,7 @@ pub(crate) fn least(a: usize, b: usize) -> usize
 }
 
 impl Work {
-    // The bytes to read in a row.
+    // The bytes to read.
     fn reads(self, place: Window) -> Reach
         ensures { λ r. ⌜ Reaches (readFixed (self .control .0)) place (sourceOf self) r ⌝ }
     {
@@ -64,7 +78,7 @@ impl Work {
         )
     }
 
-    // The places to write in a row.
+    // The places to write.
     fn writes(self, place: Window) -> Reach
         ensures { λ r. ⌜ Reaches (writeFixed (self .control .0)) place (destinationOf self) r ⌝ }
     {
@@ -85,7 +99,7 @@ impl Work {
         let from = self.reads(place);
         let to = self.writes(place);
         let n = least(most, least(from.bytes, to.bytes));
-        copy(window, from.at, to.at, n);
+        copy(window, from.fixed, from.at, to.fixed, to.at, n);
         n
     }
 
@@ -123,7 +137,7 @@ impl Work {
         let from = self.reads(place);
         let room = least(from.bytes, out.len() / 2 - made);
         let n = least(self.unmarked(most), room);
-        send(window, from.at, out, made, n);
+        send(window, from.fixed, from.at, out, made, n);
         n
     }
 
@@ -143,6 +157,14 @@ impl Work {
     {
         let to = self.writes(place);
         let some = least(to.bytes, beats.len() / 2 - taken);
-        absorb(window, to.at, beats, taken, least(most, some), self.errors)
+        absorb(
+            window,
+            to.fixed,
+            to.at,
+            beats,
+            taken,
+            least(most, some),
+            self.errors,
+        )
     }
 }

@@ -4,7 +4,7 @@ ghost use mathlib.Core.Bool.{cond};
 ghost use Prim.Native.Nat.{_≤_, _<_};
 ghost use Rattle.words.specs.Promise.{Gives};
 ghost use Rattle.image.specs.Layout.{flag as flagOf};
-ghost use Rattle.machine.specs.State.{fresh as freshOf, statusNumber, rested as restedOf};
+ghost use Rattle.machine.specs.State.{fresh as freshOf, statusNumber, withPhase, withBusy, withPointer, rested as restedOf};
 ghost use Rattle.machine.specs.Registers.{statusWritten, stored as storedOf, released as releasedOf, controlWritten, WasRead, WasWritten, WasLine};
 use crate::Control;
 use crate::Machine;
@@ -85,16 +85,24 @@ impl Machine {
         }
     }
 
+    // Another phase, busy or not. Every `..self` is a copy of each field, so those that only do this call it.
+    pub(crate) fn enters(self, phase: Phase, busy: bool) -> Machine
+        ensures { λ r. ⌜ r ≡ withPhase phase (withBusy busy self) ⌝ }
+    {
+        let mut status = self.status;
+        status.busy = busy;
+        Machine {
+            status,
+            phase,
+            ..self
+        }
+    }
+
     // At rest, not busy.
     pub(crate) fn rested(self) -> Machine
         ensures { λ r. ⌜ r ≡ restedOf self ⌝ }
     {
-        let mut m = self;
-        m.status.busy = false;
-        Machine {
-            phase: Phase::Rest,
-            ..m
-        }
+        self.enters(Phase::Rest, false)
     }
 
     // Writing 1 clears bits 0 to 3.
@@ -111,6 +119,13 @@ impl Machine {
         m.status.descriptor = descriptor;
         m.status.chain = chain;
         m
+    }
+
+    fn pointer_written(self, v: u32) -> Machine
+        ensures { λ r. ⌜ r ≡ withPointer v self ⌝ }
+    {
+        let pointer = Pointer(v);
+        Machine { pointer, ..self }
     }
 
     // Bits 0 to 17 are stored, bit 31 clears what pends, and RUN going 0 to 1 zeroes the count.
@@ -198,8 +213,7 @@ impl Machine {
             return WroteRegister::Done(self.control_written(value));
         }
         if offset == Pointer::OFFSET {
-            let pointer = Pointer(value);
-            return WroteRegister::Done(Machine { pointer, ..self });
+            return WroteRegister::Done(self.pointer_written(value));
         }
         WroteRegister::Refused(Refusal::NoRegister)
     }

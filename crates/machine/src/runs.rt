@@ -40,7 +40,7 @@ impl Machine {
             ..k
         };
         Advanced {
-            machine: self.onward(work),
+            machine: self.with_work(work),
             taken,
             made,
             steps: n as u32,

@@ -2,16 +2,19 @@
 ghost use mathlib.Core.Path.{_≡_};
 ghost use mathlib.Core.Bool.{true, cond};
 ghost use mathlib.Core.List.{List};
-ghost use Prim.Native.Nat.{ℕ, _+_, _%_, _/_, _^_, _≤_, _<_};
+ghost use Prim.Native.Nat.{ℕ, _+_, _*_, _%_, _/_, _^_, _≤_, _<_};
 ghost use lib.ListN.{length};
+ghost use Rattle.words.specs.declared.Order.the-variants.{MostFirst};
+ghost use Rattle.words.specs.Orders.{bytesOf};
+ghost use Rattle.words.specs.Slices.{putAt};
 ghost use Rattle.bus.specs.Window.{inWindow};
 ghost use Rattle.image.specs.Rules.{asked as askedOf};
-ghost use Rattle.machine.specs.State.{modeNumber, withPhase, withBusy, withPointer};
+ghost use Rattle.machine.specs.State.{modeNumber, withPhase, withPointer};
 ghost use Rattle.flow.specs.Beats.{outputBeat};
-ghost use Rattle.machine.specs.Step.{World, wantsLength, begun as begunOf, ended as endedOf, byteAddress, sourceOf, destinationOf, withByte, onward as onwardOf, beatFor, writtenControl, writtenBack, counted as countedOf, afterBack, completed as completedOf};
+ghost use Rattle.machine.specs.Step.{World, wantsLength, begun as begunOf, ended as endedOf, byteAddress, sourceOf, destinationOf, withByte, onward as onwardOf, beatFor, writtenControl, writtenBack, counted as countedOf, pends as pendsOf, afterBack, statusBack, completed as completedOf};
 ghost use Rattle.machine.specs.Step.{fetched as fetchedOf, fetchStep, copyStep, sendStep, receiveFrom, moveStep, writeBackStep, step as stepOf};
 ghost use Rattle.machine.specs.Run.{lentOf, Stepped};
-ghost use Rattle.machine.specs.declared.Phase.the-variants.{Fetch, Move};
+ghost use Rattle.machine.specs.declared.Phase.the-variants.{Move, WriteBack};
 ghost use Rattle.machine.specs.Turns.{world, progress, inFault, Waits, Goes, lentAs, Within, Still, Went, Ready};
 use crate::Control;
 use crate::Count;
@@ -22,6 +25,7 @@ use crate::Phase;
 use crate::Pointer;
 use crate::Progress;
 use crate::Reason;
+use crate::Status;
 use crate::StepAnswer;
 use crate::Work;
 use crate::has;
@@ -86,13 +90,6 @@ fn byte_address(fixed: bool, start: u32, i: u16) -> u64
     }
 }
 
-// An address modulo 2^32, as a fault keeps it.
-fn cut(address: BusAddress) -> u32
-    ensures { λ r. ⌜ r ≡ address .0 % 2 ^ 32 ⌝ }
-{
-    (address.0 % 0x1_0000_0000) as u32
-}
-
 // The weight of a flag of an output beat, where it is set.
 fn weight(flag: bool, weight: u16) -> u16
     ensures { λ r. ⌜ (r ≡ cond flag weight 0) × (r ≤ weight) ⌝ }
@@ -141,6 +138,44 @@ fn after_back(run: bool, halts: bool) -> Phase
     }
 }
 
+// The phase of a descriptor in hand: WriteBack when its bytes are moved.
+fn phase_with(k: Work, done: bool) -> Phase
+    ensures { λ r. ⌜ r ≡ cond done (WriteBack k) (Move k) ⌝ }
+{
+    if done {
+        Phase::WriteBack(k)
+    } else {
+        Phase::Move(k)
+    }
+}
+
+impl Control {
+    // Each event pends only under its own enable.
+    fn pends(self, eop: bool, failed: bool, full: bool) -> bool
+        ensures { λ r. ⌜ r ≡ pendsOf self eop failed full ⌝ }
+    {
+        has(self.0, Control::IE_DESCRIPTOR)
+            | (has(self.0, Control::IE_EOP) & eop)
+            | (has(self.0, Control::IE_ERROR) & failed)
+            | (has(self.0, Control::IE_MAX) & full)
+    }
+}
+
+impl Status {
+    // DESCRIPTOR_COMPLETED; EOP_ENCOUNTERED if the last beat had EOP; ERROR if errors are not 0.
+    fn after_back(self, eop: bool, failed: bool, busy: bool) -> Status
+        ensures { λ r. ⌜ r ≡ statusBack self eop failed busy ⌝ }
+    {
+        Status {
+            error: self.error | failed,
+            eop: self.eop | eop,
+            descriptor: true,
+            busy,
+            ..self
+        }
+    }
+}
+
 impl Work {
     // Where the next byte is read.
     pub(crate) fn read_address(self) -> BusAddress
@@ -183,6 +218,14 @@ impl Work {
         let eop = control.has(DescControl::GENERATE_EOP) & (next == self.length as u32);
         output_beat(sop, eop, byte)
     }
+
+    // That beat, where so many are made already and there is room.
+    fn put_beat(self, byte: u8, out: &mut [u8], made: usize)
+        requires { ⌜ made ≤ length (now out) / 2 ⌝ }
+        ensures { λ _. ⌜ now (out .exit) ≡ putAt (now (out .entry)) (2 * made) (bytesOf MostFirst 2 (beatFor self byte)) ⌝ }
+    {
+        put_u16(Order::MostFirst, out, 2 * made, self.beat(byte));
+    }
 }
 
 impl Machine {
@@ -190,12 +233,14 @@ impl Machine {
     fn faulted(self, code: u8, address: u32) -> Machine
         ensures { λ r. ⌜ r ≡ inFault self code address ⌝ }
     {
-        let mut m = self;
-        m.status.busy = false;
-        Machine {
-            phase: Phase::Faulted(Fault { code, address }),
-            ..m
-        }
+        self.enters(Phase::Faulted(Fault { code, address }), false)
+    }
+
+    // Outside the window; a fault keeps the address modulo 2^32.
+    fn missed(self, code: u8, address: BusAddress) -> Machine
+        ensures { λ r. ⌜ r ≡ inFault self code (address .0 % 2 ^ 32) ⌝ }
+    {
+        self.faulted(code, (address.0 % 0x1_0000_0000) as u32)
     }
 
     // The machine, where so many beats are taken and made.
@@ -210,34 +255,23 @@ impl Machine {
     }
 
     // When L bytes are moved or a taken beat had EOP, go to WriteBack.
-    pub(crate) fn onward(self, k: Work) -> Machine
+    pub(crate) fn with_work(self, k: Work) -> Machine
         ensures { λ r. ⌜ r ≡ onwardOf self k ⌝ }
     {
         let mode = self.mode;
         let done = k.eop | (k.moved == asked(mode, k.length));
-        if done {
-            Machine {
-                phase: Phase::WriteBack(k),
-                ..self
-            }
-        } else {
-            Machine {
-                phase: Phase::Move(k),
-                ..self
-            }
+        Machine {
+            phase: phase_with(k, done),
+            ..self
         }
     }
 
-    // Rest, RUN 1: BUSY 1, go to Fetch.
-    fn started(self) -> Machine
-        ensures { λ r. ⌜ r ≡ withPhase Fetch (withBusy true self) ⌝ }
+    // One byte more.
+    fn onward(self, k: Work, errors: u8, eop: bool) -> Machine
+        requires { ⌜ k .moved < 65535 ⌝ }
+        ensures { λ r. ⌜ r ≡ onwardOf self (withByte errors eop k) ⌝ }
     {
-        let mut m = self;
-        m.status.busy = true;
-        Machine {
-            phase: Phase::Fetch,
-            ..m
-        }
+        self.with_work(k.with_byte(errors, eop))
     }
 
     // OWNED 0: set CHAIN_COMPLETED, pend if IE_CHAIN, go to Ended; BUSY stays.
@@ -287,7 +321,7 @@ impl Machine {
         }
     }
 
-    // The registers after a descriptor, each event pending under its own enable alone.
+    // The registers after a descriptor: RUN 0 or errors with STOP_DMA_ER end BUSY.
     fn completed(self, k: Work) -> Machine
         ensures { λ r. ⌜ r ≡ completedOf self k ⌝ }
     {
@@ -296,24 +330,15 @@ impl Machine {
         let run = has(c, Control::RUN);
         let halts = failed & has(c, Control::STOP_DMA_ER);
         let n = counted(self.count, (c / Control::MAX_DESC_PROCESSED % 256) as u8);
-        let pending = self.pending
-            | has(c, Control::IE_DESCRIPTOR)
-            | (has(c, Control::IE_EOP) & k.eop)
-            | (has(c, Control::IE_ERROR) & failed)
-            | (has(c, Control::IE_MAX) & n.full);
-        let eop = self.status.eop | k.eop;
-        let error = self.status.error | failed;
-        let busy = run & !halts;
-        let mut m = self;
-        m.status.descriptor = true;
-        m.status.eop = eop;
-        m.status.error = error;
-        m.status.busy = busy;
+        let control = self.control;
+        let pending = self.pending | control.pends(k.eop, failed, n.full);
+        let status = self.status;
         Machine {
+            status: status.after_back(k.eop, failed, run & !halts),
             phase: after_back(run, halts),
             pending,
             count: n.count,
-            ..m
+            ..self
         }
     }
 }
@@ -368,16 +393,16 @@ impl Machine {
         let b = k.write_address();
         let from = self.window.locate(a, 1);
         match from {
-            Located::Outside => self.faulted(13, cut(a)),
+            Located::Outside => self.missed(13, a),
             Located::At(p) => {
                 let to = self.window.locate(b, 1);
                 match to {
-                    Located::Outside => self.faulted(14, cut(b)),
+                    Located::Outside => self.missed(14, b),
                     Located::At(q) => {
                         let i = p.index();
                         let j = q.index();
                         window[j] = window[i];
-                        self.onward(k.with_byte(0, false))
+                        self.onward(k, 0, false)
                     }
                 }
             }
@@ -403,12 +428,11 @@ impl Machine {
         let a = k.read_address();
         let found = self.window.locate(a, 1);
         match found {
-            Located::Outside => self.faulted(13, cut(a)).at(taken, made),
+            Located::Outside => self.missed(13, a).at(taken, made),
             Located::At(place) => {
                 let at = place.index();
-                let beat = k.beat(window[at]);
-                put_u16(Order::MostFirst, out, 2 * made, beat);
-                self.onward(k.with_byte(0, false)).at(taken, made + 1)
+                k.put_beat(window[at], out, made);
+                self.onward(k, 0, false).at(taken, made + 1)
             }
         }
     }
@@ -432,14 +456,13 @@ impl Machine {
         let past = next + 1;
         let found = self.window.locate(a, 1);
         match found {
-            Located::Outside => self.faulted(14, cut(a)).at(next, made),
+            Located::Outside => self.missed(14, a).at(next, made),
             Located::At(place) => {
                 let at = place.index();
                 let beat = get_u16(Order::MostFirst, beats, 2 * next);
                 let eop = has(beat as u32, EOP as u32);
                 window[at] = (beat % 256) as u8;
-                let work = k.with_byte((beat / ERROR) as u8, eop);
-                self.onward(work).at(past, made)
+                self.onward(k, (beat / ERROR) as u8, eop).at(past, made)
             }
         }
     }
@@ -558,7 +581,7 @@ impl Machine {
     {
         let phase = self.phase;
         match phase {
-            Phase::Rest => self.started().at(taken, made),
+            Phase::Rest => self.enters(Phase::Fetch, true).at(taken, made),
             Phase::Fetch => self.fetch_step(window).at(taken, made),
             Phase::Move(k) => self.move_step(k, window, beats, taken, out, made),
             Phase::WriteBack(k) => self.write_back_step(k, window).at(taken, made),

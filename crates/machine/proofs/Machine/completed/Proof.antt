@@ -15,25 +15,18 @@ cast-counted c = search needs
 counted-requires : tie.Need-counted-requires
 counted-requires c κs = search needs
 
-has-requires-3 : tie.Need-has-requires-3
-has-requires-3 c κs = search needs
-
-has-requires-4 : tie.Need-has-requires-4
-has-requires-4 c κs = search needs
-
-has-requires-5 : tie.Need-has-requires-5
-has-requires-5 c κs = search needs
-
-has-requires-6 : tie.Need-has-requires-6
-has-requires-6 c κs = search needs
+pends-requires : tie.Need-pends-requires
+pends-requires c κs = search needs
 
 after-back-requires : tie.Need-after-back-requires
 after-back-requires c κs = search needs
 
+after-back-requires-2 : tie.Need-after-back-requires-2
+after-back-requires-2 c κs = search needs
+
 returns : tie.Need-returns
 unfolding completed
-returns c =
-    simp (c .before .before .before .before .after-back .ensures, c .before .before .before .before .before .before .before .before .before .before .before .before .before .before .before .before .before .before .before .counted .ensures, c .before .before .before .before .before .before .before .before .before .before .before .before .before .before .before .before .before .before .before .before .has2 .ensures, c .before .before .before .before .before .before .before .before .before .before .before .before .before .before .before .before .before .before .before .before .before .has .ensures, c .before .before .before .before .before .before .before .before .before .before .before .before .before .before .before .before .before .before .has3 .ensures, c .before .before .before .before .before .before .before .before .before .before .before .before .before .before .before .before .has4 .ensures, c .before .before .before .before .before .before .before .before .before .before .before .before .before .before .has5 .ensures, c .before .before .before .before .before .before .before .before .before .before .before .before .before .has6 .ensures)
+returns c = simp (c .before .before .before .after-back2 .ensures, c .before .before .before .before .after-back .ensures, c .before .before .before .before .before .before .before .pends .ensures, c .before .before .before .before .before .before .before .before .before .counted .ensures, c .before .before .before .before .before .before .before .before .before .before .has2 .ensures, c .before .before .before .before .before .before .before .before .before .before .before .has .ensures)
 
 pub completed-spec : {M : Type 1} → statement M
 completed-spec =
@@ -43,9 +36,7 @@ completed-spec =
     has-requires-2
     cast-counted
     counted-requires
-    has-requires-3
-    has-requires-4
-    has-requires-5
-    has-requires-6
+    pends-requires
     after-back-requires
+    after-back-requires-2
     returns)

@@ -1,10 +1,8 @@
 use Rattle.machine.specs.declared.Machine.{Machine}
 use Rattle.machine.specs.Registers.{released}
+use Rattle.machine.proofs.Answers.{both}
 use Rattle.machine.proofs.Writes.{write-resets, write-runs, write-releases}
-use Rattle.machine.specs.State.{swReset}
-use Rattle.words.specs.Bits.{bit}
-use mathlib.Core.Bool.{Bool, true, false, _&&_}
-use mathlib.Core.Path.{_≡_, sym, ap, _∙_}
+use mathlib.Core.Path.{sym, ap, _∙_}
 use borrow.Author.Needs.{needs}
 use Rattle.machine.proofs.Machine.control_written.Statement.{statement}
 use Rattle.machine.proofs.Machine.control_written.Tie as tie
@@ -19,7 +17,10 @@ fresh-requires : tie.Need-fresh-requires
 fresh-requires c κs = search needs
 
 returns : tie.Need-returns
-returns c = let a = c .before .before .before .before .before .args in let t : (bit 16 (a .v) && swReset (a .self .control)) ≡ true = cc in c .fresh .ensures .value ∙ sym (write-resets (a .v) (a .self) t)
+returns c =
+    let h = c .before .before .before in
+    let a = h .before .before .args in
+    c .fresh .ensures .value ∙ sym (write-resets (a .v) (a .self) (both (h .before .has .ensures) (h .has2 .ensures) (c .before .before .if1 .taken)))
 
 stored-requires : tie.Need-stored-requires
 stored-requires c κs = search needs
@@ -31,10 +32,21 @@ released-requires : tie.Need-released-requires
 released-requires c κs = search needs
 
 returns-2 : tie.Need-returns-2
-returns-2 c = let a = c .before .before .before .before .before .before .args in let t : (bit 16 (a .v) && swReset (a .self .control)) ≡ false = cc in c .before .before .stored .ensures ∙ sym (write-runs (a .v) (a .self) t (cc))
+returns-2 c =
+    let e = c .before .before .before in
+    let h = e .before in
+    let a = h .before .before .args in
+    c .before .before .stored .ensures
+    ∙ sym (write-runs (a .v) (a .self) (both (h .before .has .ensures) (h .has2 .ensures) (e .if1 .left)) (sym (c .before .has3 .ensures) ∙ c .if2 .taken))
 
 returns-3 : tie.Need-returns-3
-returns-3 c = let a = c .before .before .before .before .before .before .before .args in let t : (bit 16 (a .v) && swReset (a .self .control)) ≡ false = cc in c .released .ensures ∙ ap (λ (n : Machine). released (n .phase) n) (c .before .before .before .stored .ensures) ∙ sym (write-releases (a .v) (a .self) t (cc))
+returns-3 c =
+    let e = c .before .before .before .before in
+    let h = e .before in
+    let a = h .before .before .args in
+    c .released .ensures
+    ∙ ap (λ (n : Machine). released (n .phase) n) (c .before .before .before .stored .ensures)
+    ∙ sym (write-releases (a .v) (a .self) (both (h .before .has .ensures) (h .has2 .ensures) (e .if1 .left)) (sym (c .before .before .has3 .ensures) ∙ c .before .if2 .left))
 
 pub control-written-spec : {M : Type 1} → statement M
 control-written-spec =

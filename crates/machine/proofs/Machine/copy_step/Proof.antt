@@ -1,6 +1,7 @@
 use native.Mathlib.Omega.{arith}
 use Rattle.machine.proofs.Places.{inside, outside, place, fits}
-use Rattle.machine.specs.Step.{copyStep}
+use Rattle.machine.proofs.Cases.{fault-at, no-source, no-destination, copies}
+use mathlib.Core.Path.{_∙_}
 use borrow.Author.Needs.{needs}
 use Rattle.machine.proofs.Machine.copy_step.Statement.{statement}
 use Rattle.machine.proofs.Machine.copy_step.Tie as tie
@@ -17,11 +18,8 @@ locate-requires c κs = search needs
 enum-told : tie.Need-enum-told
 enum-told c = search needs
 
-cut-requires : tie.Need-cut-requires
-cut-requires c κs = search needs
-
-faulted-requires : tie.Need-faulted-requires
-faulted-requires c κs = search needs
+missed-requires : tie.Need-missed-requires
+missed-requires c κs = search needs
 
 enum-known-from : tie.Need-enum-known-from
 enum-known-from c = search needs
@@ -32,11 +30,8 @@ locate-requires-2 c κs = search needs
 enum-told-2 : tie.Need-enum-told-2
 enum-told-2 c = search needs
 
-cut-requires-2 : tie.Need-cut-requires-2
-cut-requires-2 c κs = search needs
-
-faulted-requires-2 : tie.Need-faulted-requires-2
-faulted-requires-2 c κs = search needs
+missed-requires-2 : tie.Need-missed-requires-2
+missed-requires-2 c κs = search needs
 
 enum-known-to : tie.Need-enum-known-to
 enum-known-to c = search needs
@@ -55,29 +50,44 @@ slice-write-window : tie.Need-slice-write-window
 slice-write-window c =
     omega (arith, fits (c .before .before .before .before .before .before .locate2 .ensures) (c .before .before .before .before .to .given .1), c .before .index2 .ensures .value, c .before .before .before .before .before .before .before .before .before .before .before .before .before .before .pre)
 
-with-byte-requires : tie.Need-with-byte-requires
-with-byte-requires c κs = search needs
-
 onward-requires : tie.Need-onward-requires
 onward-requires c κs = search needs
 
 returns : tie.Need-returns
-unfolding copyStep
 returns c =
-    λ input output room. simp (outside (c .before .before .before .before .locate .ensures) (c .before .before .before .before .before .before .read-address .ensures) (c .before .before .enum-told .given .1), c .faulted .ensures, c .before .cut .ensures, c .before .before .before .before .before .before .read-address .ensures)
+    let l = c .before .before .before in
+    let r = l .before .before in
+    let a = r .before .before .args in
+    let from = r .read-address .ensures in
+    no-source (a .self) (a .k) (a .window .now) (outside (l .locate .ensures) from (c .before .enum-told .given .1))
+    (fault-at (a .self) 13 (c .missed .ensures) from)
 
 returns-2 : tie.Need-returns-2
-unfolding copyStep
 returns-2 c =
-    λ input output room. simp (inside (c .before .before .before .before .before .before .before .before .locate .ensures) (c .before .before .before .before .before .before .before .before .before .before .read-address .ensures) (c .before .before .before .before .before .before .from .given .1), outside (c .before .before .before .before .locate2 .ensures) (c .before .before .before .before .before .before .before .before .before .write-address .ensures) (c .before .before .enum-told2 .given .1), c .faulted2 .ensures, c .before .cut2 .ensures, c .before .before .before .before .before .before .before .before .before .write-address .ensures)
+    let m = c .before .before .before in
+    let l = m .before .before .before .before in
+    let r = l .before .before in
+    let a = r .before .before .args in
+    let to = l .before .write-address .ensures in
+    no-destination (a .self) (a .k) (a .window .now) (inside (l .locate .ensures) (r .read-address .ensures) (m .before .before .from .given .1))
+    (outside (m .locate2 .ensures) to (c .before .enum-told2 .given .1)) (fault-at (a .self) 14 (c .missed2 .ensures) to)
 
 same-length : tie.Need-same-length
 same-length c = search needs
 
 returns-3 : tie.Need-returns-3
-unfolding copyStep
 returns-3 c =
-    λ input output room. simp (inside (c .before .before .before .before .before .before .before .before .before .before .before .before .locate .ensures) (c .before .before .before .before .before .before .before .before .before .before .before .before .before .before .read-address .ensures) (c .before .before .before .before .before .before .before .before .before .before .from .given .1), inside (c .before .before .before .before .before .before .before .before .locate2 .ensures) (c .before .before .before .before .before .before .before .before .before .before .before .before .before .write-address .ensures) (c .before .before .before .before .before .before .to .given .1), c .onward .ensures, c .before .with-byte .ensures, c .before .before .before .before .index .ensures .value, c .before .before .before .index2 .ensures .value, place (c .before .before .before .before .before .before .before .before .before .before .before .before .locate .ensures) (c .before .before .before .before .before .before .before .before .before .before .before .before .before .before .read-address .ensures) (c .before .before .before .before .before .before .before .before .before .before .from .given .1), place (c .before .before .before .before .before .before .before .before .locate2 .ensures) (c .before .before .before .before .before .before .before .before .before .before .before .before .before .write-address .ensures) (c .before .before .before .before .before .before .to .given .1))
+    let i = c .before .before .before in
+    let m = i .before .before .before .before in
+    let l = m .before .before .before .before in
+    let r = l .before .before in
+    let a = r .before .before .args in
+    let from = r .read-address .ensures in
+    let to = l .before .write-address .ensures in
+    let e = m .before .before .from .given .1 in
+    let f = i .before .before .to .given .1 in
+    copies (a .self) (a .k) (a .window .now) (inside (l .locate .ensures) from e) (inside (m .locate2 .ensures) to f) (c .onward .ensures)
+    (i .index .ensures .value ∙ place (l .locate .ensures) from e) (c .before .before .index2 .ensures .value ∙ place (m .locate2 .ensures) to f)
 
 pub copy-step-spec : {M : Type 1} → statement M
 copy-step-spec =
@@ -87,19 +97,16 @@ copy-step-spec =
     write-address-requires
     locate-requires
     enum-told
-    cut-requires
-    faulted-requires
+    missed-requires
     enum-known-from
     locate-requires-2
     enum-told-2
-    cut-requires-2
-    faulted-requires-2
+    missed-requires-2
     enum-known-to
     index-requires
     index-requires-2
     slice-read-window
     slice-write-window
-    with-byte-requires
     onward-requires
     returns
     returns-2

@@ -1,7 +1,7 @@
 use mathlib.Core.Path.{refl, _∙_, sym}
 use borrow.Author.Tests.{eq-eqb, ne-eqb}
 use Rattle.machine.proofs.Places.{inside, outside, place}
-use Rattle.machine.specs.Step.{fetchStep}
+use Rattle.machine.proofs.Cases.{not-running, misaligned, no-descriptor, fetches}
 use borrow.Author.Needs.{needs}
 use Rattle.machine.proofs.Machine.fetch_step.Statement.{statement}
 use Rattle.machine.proofs.Machine.fetch_step.Tie as tie
@@ -37,23 +37,35 @@ rested-requires : tie.Need-rested-requires
 rested-requires c κs = search needs
 
 returns : tie.Need-returns
-unfolding fetchStep
 returns c =
-    λ input output room. simp (sym (c .before .before .before .before .before .before .has .ensures) ∙ c .before .before .before .before .before .if1 .taken, eq-eqb _ _ (c .before .before .before .before .if2 .taken), outside (c .before .before .before .locate .ensures) refl (c .before .enum-told .given .1), c .faulted .ensures)
+    let l = c .before .before .before in
+    let t = l .before in
+    let h = t .before .before in
+    let a = h .before .before .args in
+    no-descriptor (a .self) (a .window .now) (sym (h .has .ensures) ∙ t .before .if1 .taken) (eq-eqb _ _ (t .if2 .taken))
+    (outside (l .locate .ensures) refl (c .before .enum-told .given .1)) (c .faulted .ensures)
 
 returns-2 : tie.Need-returns-2
-unfolding fetchStep
 returns-2 c =
-    λ input output room. simp (sym (c .before .before .before .before .before .before .before .before .has .ensures) ∙ c .before .before .before .before .before .before .before .if1 .taken, eq-eqb _ _ (c .before .before .before .before .before .before .if2 .taken), inside (c .before .before .before .before .before .locate .ensures) refl (c .before .before .before .found .given .1), sym (place (c .before .before .before .before .before .locate .ensures) refl (c .before .before .before .found .given .1)), sym (c .before .at .ensures .value), c .fetched .ensures (c .before .before .before .before .before .before .before .before .before .before .args .window .now) input output room)
+    let l = c .before .before .before .before .before in
+    let t = l .before in
+    let h = t .before .before in
+    let a = h .before .before .args in
+    let e = c .before .before .before .found .given .1 in
+    fetches (a .self) (a .window .now) (sym (h .has .ensures) ∙ t .before .if1 .taken) (eq-eqb _ _ (t .if2 .taken)) (inside (l .locate .ensures) refl e)
+    (place (l .locate .ensures) refl e) (c .before .at .ensures .value) (c .fetched .ensures (a .window .now))
 
 returns-3 : tie.Need-returns-3
-unfolding fetchStep
 returns-3 c =
-    λ input output room. simp (sym (c .before .before .before .has .ensures) ∙ c .before .before .if1 .taken, ne-eqb _ _ (c .before .if2 .left), c .faulted2 .ensures)
+    let h = c .before .before .before in
+    let a = h .before .before .args in
+    misaligned (a .self) (a .window .now) (sym (h .has .ensures) ∙ c .before .before .if1 .taken) (ne-eqb _ _ (c .before .if2 .left)) (c .faulted2 .ensures)
 
 returns-4 : tie.Need-returns-4
-unfolding fetchStep
-returns-4 c = λ input output room. simp (sym (c .before .before .has .ensures) ∙ c .before .if1 .left, c .rested .ensures)
+returns-4 c =
+    let h = c .before .before in
+    let a = h .before .before .args in
+    not-running (a .self) (a .window .now) (sym (h .has .ensures) ∙ c .before .if1 .left) (c .rested .ensures)
 
 pub fetch-step-spec : {M : Type 1} → statement M
 fetch-step-spec =

@@ -1,5 +1,6 @@
-use mathlib.Core.Path.{_∙_, sym}
-use Rattle.machine.specs.Step.{fetched}
+use mathlib.Core.Path.{refl, sym, _∙_}
+use Rattle.machine.proofs.Answers.{both}
+use Rattle.machine.proofs.Cases.{not-owned, no-length, begins}
 use borrow.Author.Needs.{needs}
 use Rattle.machine.proofs.Machine.fetched.Statement.{statement}
 use Rattle.machine.proofs.Machine.fetched.Tie as tie
@@ -20,19 +21,24 @@ ended-requires : tie.Need-ended-requires
 ended-requires c κs = search needs
 
 returns : tie.Need-returns
-unfolding fetched
 returns c =
-    λ memory input output room. simp (sym (c .before .before .before .has .ensures .value) ∙ c .before .before .if1 .taken, sym (c .before .before .before .before .before .wants-length .ensures), c .before .if2 .taken, c .faulted .ensures)
+    λ memory.
+    let t = c .before .before in
+    let h = t .before in
+    no-length (h .before .before .before .before .args .self) _ memory (sym (h .has .ensures .value) ∙ t .if1 .taken) (both (h .before .before .wants-length .ensures) refl (c .before .if2 .taken)) (c .faulted .ensures)
 
 returns-2 : tie.Need-returns-2
-unfolding fetched
 returns-2 c =
-    λ memory input output room. simp (sym (c .before .before .before .has .ensures .value) ∙ c .before .before .if1 .taken, sym (c .before .before .before .before .before .wants-length .ensures), c .before .if2 .left, c .begun .ensures)
+    λ memory.
+    let t = c .before .before in
+    let h = t .before in
+    begins (h .before .before .before .before .args .self) _ memory (sym (h .has .ensures .value) ∙ t .if1 .taken) (both (h .before .before .wants-length .ensures) refl (c .before .if2 .left)) (c .begun .ensures)
 
 returns-3 : tie.Need-returns-3
-unfolding fetched
 returns-3 c =
-    λ memory input output room. simp (sym (c .before .before .has .ensures .value) ∙ c .before .if1 .left, c .ended .ensures)
+    λ memory.
+    let h = c .before .before in
+    not-owned (h .before .before .before .before .args .self) _ memory (sym (h .has .ensures .value) ∙ c .before .if1 .left) (c .ended .ensures)
 
 pub fetched-spec : {M : Type 1} → statement M
 fetched-spec =

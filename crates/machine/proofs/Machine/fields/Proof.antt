@@ -24,7 +24,8 @@ cast-t12 : tie.Need-cast-t12
 cast-t12 c = search needs
 
 returns : tie.Need-returns
-returns c = cc
+returns c =
+    rw (c .number .ensures .0, c .before .has .ensures, c .before .before .phase-number .ensures, c .before .before .before .mode-number .ensures, c .before .before .before .before .before .fault-in .ensures, c .before .before .before .before .before .before .in-hand .ensures)
 
 pub fields-spec : {M : Type 1} → statement M
 fields-spec =

@@ -1,21 +1,18 @@
-use mathlib.Core.Path.{sym}
+use mathlib.Core.Path.{ap, _∙_}
+use Rattle.machine.specs.declared.Work.{Work}
 use Rattle.machine.specs.Step.{onward}
 use borrow.Author.Needs.{needs}
 use Rattle.machine.proofs.Machine.onward.Statement.{statement}
 use Rattle.machine.proofs.Machine.onward.Tie as tie
 
-asked-requires : tie.Need-asked-requires
-asked-requires c κs = search needs
+with-byte-requires : tie.Need-with-byte-requires
+with-byte-requires c κs = search needs
+
+with-work-requires : tie.Need-with-work-requires
+with-work-requires c κs = search needs
 
 returns : tie.Need-returns
-unfolding onward
-returns c =
-    simp (sym (c .before .before .before .before .before .before .before .asked .ensures), c .before .before .before .before .if1 .taken)
-
-returns-2 : tie.Need-returns-2
-unfolding onward
-returns-2 c =
-    simp (sym (c .before .before .before .before .before .before .before .asked .ensures), c .before .before .before .before .if1 .left)
+returns c = c .with-work .ensures ∙ ap (λ (k : Work). onward (c .before .before .args .self) k) (c .before .with-byte .ensures)
 
 pub onward-spec : {M : Type 1} → statement M
-onward-spec = tie.close (tie.spec asked-requires returns returns-2)
+onward-spec = tie.close (tie.spec with-byte-requires with-work-requires returns)

@@ -1,7 +1,11 @@
-use mathlib.Core.Path.{refl}
+use mathlib.Core.Path.{ap, _∙_}
+use Prim.Native.Nat.{_/_, _<_}
+use lib.ListN.{length}
 use native.Mathlib.Omega.{arith}
 use Rattle.machine.proofs.Places.{inside, outside, place, fits}
-use Rattle.machine.proofs.Turning.{receive-in, receive-out}
+use Rattle.machine.proofs.Cases.{fault-at}
+use Rattle.machine.proofs.Turning.{past, within, receive-in, receive-out}
+use Rattle.machine.specs.declared.Progress.{Progress}
 use borrow.Author.Needs.{needs}
 use Rattle.machine.proofs.Machine.receive_step.Statement.{statement}
 use Rattle.machine.proofs.Machine.receive_step.Tie as tie
@@ -18,11 +22,8 @@ locate-requires c κs = search needs
 enum-told : tie.Need-enum-told
 enum-told c = search needs
 
-cut-requires : tie.Need-cut-requires
-cut-requires c κs = search needs
-
-faulted-requires : tie.Need-faulted-requires
-faulted-requires c κs = search needs
+missed-requires : tie.Need-missed-requires
+missed-requires c κs = search needs
 
 at-requires : tie.Need-at-requires
 at-requires c κs = search needs
@@ -54,11 +55,8 @@ cast-window c = search needs
 slice-write-window : tie.Need-slice-write-window
 slice-write-window c = omega (arith, fits (c .before .before .before .before .before .before .locate .ensures) (c .before .before .before .before .found .given .1), c .before .before .index .ensures .value, c .before .before .before .before .before .before .before .before .before .before .pre .0)
 
-cast-with-byte : tie.Need-cast-with-byte
-cast-with-byte c = search needs
-
-with-byte-requires : tie.Need-with-byte-requires
-with-byte-requires c κs = search needs
+cast-onward : tie.Need-cast-onward
+cast-onward c = search needs
 
 onward-requires : tie.Need-onward-requires
 onward-requires c κs = search needs
@@ -68,12 +66,14 @@ at-requires-2 c κs = search needs
 
 returns : tie.Need-returns
 returns c =
-    let l = c .before .before .before .before .before in
-    let some = l .before .before .before .before .pre .1 .1 in
-    let missed = outside (l .locate .ensures) (l .before .write-address .ensures) (c .before .before .before .enum-told .given .1) in
-    simp (c .at .ensures) (
-      (omega (arith, some), refl),
-      λ out. simp (c .before .faulted .ensures, c .before .before .cut .ensures, l .before .write-address .ensures) (receive-out _ _ _ _ _ _ _ some missed),
+    let l = c .before .before .before .before in
+    let s = l .before .before .before .before in
+    let a = s .args in
+    let some : a .next < length (a .beats .now) / 2 = s .pre .1 .1 in
+    let to = l .before .write-address .ensures in
+    let missed = outside (l .locate .ensures) to (c .before .before .enum-told .given .1) in (
+      (rw (c .at .ensures) (within some), ap (λ (r : Progress). r .made) (c .at .ensures)),
+      λ out. receive-out (a .self) (a .k) (a .window .now) (a .beats .now) (a .next) out (a .made) some missed (fault-at (a .self) 14 (c .before .missed .ensures) to) (c .at .ensures),
     )
 
 same-length : tie.Need-same-length
@@ -81,16 +81,18 @@ same-length c = search needs
 
 returns-2 : tie.Need-returns-2
 returns-2 c =
-    let l = c .before .before .before .before .before .before .before .before .before in
-    let some = l .before .before .before .before .pre .1 .1 in
-    let e = c .before .before .before .before .before .before .before .found .given .1 in
-    let to = place (l .locate .ensures) (l .before .write-address .ensures) e in
-    let beat = c .before .before .before .before .get-u16 .ensures .value in
-    simp (c .at2 .ensures) (
-      (omega (arith, some), refl),
+    let i = c .before .before .before .before in
+    let l = i .before .before .before .before in
+    let s = l .before .before .before .before in
+    let a = s .args in
+    let some : a .next < length (a .beats .now) / 2 = s .pre .1 .1 in
+    let e = i .before .before .found .given .1 in
+    let to = l .before .write-address .ensures in
+    let inside-it = inside (l .locate .ensures) to e in
+    let at = i .index .ensures .value ∙ place (l .locate .ensures) to e in (
+      (rw (c .at2 .ensures) (past some), ap (λ (r : Progress). r .made) (c .at2 .ensures)),
       λ out.
-          simp (c .before .onward .ensures, c .before .before .with-byte .ensures, c .before .before .before .has .ensures, beat, c .before .before .before .before .before .index .ensures .value, to)
-          (receive-in _ _ _ _ _ _ _ some (inside (l .locate .ensures) (l .before .write-address .ensures) e)),
+          receive-in (a .self) (a .k) (a .window .now) (a .beats .now) (a .next) out (a .made) some inside-it (c .before .before .before .get-u16 .ensures .value) (c .before .before .has .ensures) at (c .before .onward .ensures) (c .at2 .ensures),
     )
 
 pub receive-step-spec : {M : Type 1} → statement M
@@ -101,8 +103,7 @@ receive-step-spec =
     add-past
     locate-requires
     enum-told
-    cut-requires
-    faulted-requires
+    missed-requires
     at-requires
     enum-known-found
     index-requires
@@ -113,8 +114,7 @@ receive-step-spec =
     has-requires
     cast-window
     slice-write-window
-    cast-with-byte
-    with-byte-requires
+    cast-onward
     onward-requires
     at-requires-2
     returns

@@ -1,9 +1,11 @@
-use mathlib.Core.Path.{refl, ap, _∙_}
+use mathlib.Core.Path.{ap, _∙_}
 use native.Mathlib.Omega.{arith}
-use Prim.Native.Nat.{ℕ}
-use lib.ListN.{getD}
+use Prim.Native.Nat.{ℕ, _/_, _<_}
+use lib.ListN.{length, getD}
 use Rattle.machine.proofs.Places.{inside, outside, place, fits}
-use Rattle.machine.proofs.Turning.{send-in, send-out}
+use Rattle.machine.proofs.Cases.{fault-at}
+use Rattle.machine.proofs.Turning.{past, send-in, send-out}
+use Rattle.machine.specs.declared.Progress.{Progress}
 use Rattle.machine.specs.Step.{beatFor}
 use borrow.Author.Needs.{needs}
 use Rattle.machine.proofs.Machine.send_step.Statement.{statement}
@@ -18,11 +20,8 @@ locate-requires c κs = search needs
 enum-told : tie.Need-enum-told
 enum-told c = search needs
 
-cut-requires : tie.Need-cut-requires
-cut-requires c κs = search needs
-
-faulted-requires : tie.Need-faulted-requires
-faulted-requires c κs = search needs
+missed-requires : tie.Need-missed-requires
+missed-requires c κs = search needs
 
 at-requires : tie.Need-at-requires
 at-requires c κs = search needs
@@ -33,37 +32,32 @@ enum-known-found c = search needs
 index-requires : tie.Need-index-requires
 index-requires c κs = search needs
 
-shared-slice-read-beat : tie.Need-shared-slice-read-beat
-shared-slice-read-beat c = omega (arith, fits (c .before .before .before .before .before .locate .ensures) (c .before .before .before .found .given .1), c .before .index .ensures .value, c .before .before .before .before .before .before .before .before .before .pre .0)
+shared-slice-read-put-beat : tie.Need-shared-slice-read-put-beat
+shared-slice-read-put-beat c = omega (arith, fits (c .before .before .before .before .before .locate .ensures) (c .before .before .before .found .given .1), c .before .index .ensures .value, c .before .before .before .before .before .before .before .before .before .pre .0)
 
-beat-requires : tie.Need-beat-requires
-beat-requires c κs = search needs
-
-mul-put-u16 : tie.Need-mul-put-u16
-mul-put-u16 c = search needs
-
-put-u16-requires : tie.Need-put-u16-requires
-put-u16-requires c κs = search needs
-
-with-byte-requires : tie.Need-with-byte-requires
-with-byte-requires c κs = search needs
+put-beat-requires : tie.Need-put-beat-requires
+put-beat-requires c κs = search needs
 
 onward-requires : tie.Need-onward-requires
 onward-requires c κs = search needs
 
 add-at : tie.Need-add-at
-add-at c = omega (arith, c .before .before .before .before .before .before .before .before .before .before .before .before .before .before .before .before .good, c .before .before .before .before .before .before .before .before .before .before .before .before .before .before .before .before .pre .1 .1 .0)
+add-at c =
+    let s = c .before .before .before .before .before .before .before .before .before .before .before .before .before .before in
+    omega (arith, s .good, s .pre .1 .1 .0)
 
 at-requires-2 : tie.Need-at-requires-2
 at-requires-2 c κs = search needs
 
 returns : tie.Need-returns
 returns c =
-    let l = c .before .before .before .before .before in
-    let missed = outside (l .locate .ensures) (l .before .read-address .ensures) (c .before .before .before .enum-told .given .1) in
-    simp (c .at .ensures) (
-      (refl, l .before .before .before .before .pre .1 .1 .0),
-      λ beats. simp (c .before .faulted .ensures, c .before .before .cut .ensures, l .before .read-address .ensures) (send-out _ _ _ _ _ _ _ missed),
+    let l = c .before .before .before .before in
+    let s = l .before .before .before .before in
+    let a = s .args in
+    let from = l .before .read-address .ensures in
+    let missed = outside (l .locate .ensures) from (c .before .before .enum-told .given .1) in (
+      (ap (λ (r : Progress). r .taken) (c .at .ensures), rw (c .at .ensures) (s .pre .1 .1 .0)),
+      λ beats. send-out (a .self) (a .k) (a .window .now) beats (a .taken) (a .out .now) (a .made) missed (fault-at (a .self) 13 (c .before .missed .ensures) from) (c .at .ensures),
     )
 
 same-length : tie.Need-same-length
@@ -71,19 +65,18 @@ same-length c = search needs
 
 returns-2 : tie.Need-returns-2
 returns-2 c =
-    let l = c .before .before .before .before .before .before .before .before .before .before .before .before .before in
+    let p = c .before .before .before .before in
+    let i = p .before .before .before in
+    let l = i .before .before .before .before in
     let s = l .before .before .before .before in
     let a = s .args in
-    let e = c .before .before .before .before .before .before .before .before .before .before .before .found .given .1 in
+    let e = i .before .before .found .given .1 in
     let inside-it = inside (l .locate .ensures) (l .before .read-address .ensures) e in
-    let room = s .pre .1 .1 .1 inside-it in
-    let from = c .before .before .before .before .before .before .before .before .before .index .ensures .value ∙ place (l .locate .ensures) (l .before .read-address .ensures) e in
-    let beat = c .before .before .before .before .before .before .before .beat .ensures ∙ ap (λ (x : ℕ). beatFor (a .k) (getD (a .window .now) x 0)) from in
-    simp (c .at2 .ensures) (
-      (refl, omega (arith, room)),
+    let room : a .made < length (a .out .now) / 2 = s .pre .1 .1 .1 inside-it in
+    let from = i .index .ensures .value ∙ place (l .locate .ensures) (l .before .read-address .ensures) e in (
+      (ap (λ (r : Progress). r .taken) (c .at2 .ensures), rw (c .at2 .ensures) (past room)),
       λ beats.
-          simp (c .before .onward .ensures, c .before .before .with-byte .ensures, c .before .before .before .before .before .put-u16 .ensures .lent)
-          (send-in (a .self) (a .k) (a .window .now) beats (a .taken) (a .out .now) (a .made) inside-it room (c .before .before .before .before .before .before .before .beat .result) beat),
+          send-in (a .self) (a .k) (a .window .now) beats (a .taken) (a .out .now) (a .made) inside-it room (ap (λ (x : ℕ). beatFor (a .k) (getD (a .window .now) x 0)) from) (p .put-beat .ensures) (c .before .onward .ensures) (c .at2 .ensures),
     )
 
 pub send-step-spec : {M : Type 1} → statement M
@@ -93,16 +86,12 @@ send-step-spec =
     read-address-requires
     locate-requires
     enum-told
-    cut-requires
-    faulted-requires
+    missed-requires
     at-requires
     enum-known-found
     index-requires
-    shared-slice-read-beat
-    beat-requires
-    mul-put-u16
-    put-u16-requires
-    with-byte-requires
+    shared-slice-read-put-beat
+    put-beat-requires
     onward-requires
     add-at
     at-requires-2

@@ -15,7 +15,7 @@ has-requires-4 : tie.Need-has-requires-4
 has-requires-4 c κs = search needs
 
 returns : tie.Need-returns
-returns c = cc
+returns c = rw (c .before .before .before .before .before .has4 .ensures, c .before .before .before .before .before .before .before .has3 .ensures, c .before .before .before .before .before .before .before .before .before .has2 .ensures, c .before .before .before .before .before .before .before .before .before .before .before .has .ensures)
 
 pub status-written-spec : {M : Type 1} → statement M
 status-written-spec =

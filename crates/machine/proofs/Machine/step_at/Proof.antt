@@ -32,8 +32,8 @@ module _ (s : tie.Start) {p : Phase} (e : s .args .self .phase ≡ p) where
 enum-told : tie.Need-enum-told
 enum-told c = search needs
 
-started-requires : tie.Need-started-requires
-started-requires c κs = search needs
+enters-requires : tie.Need-enters-requires
+enters-requires c κs = search needs
 
 at-requires : tie.Need-at-requires
 at-requires c κs = search needs
@@ -91,7 +91,7 @@ returns : tie.Need-returns
 returns c =
     let s = c .before .before .before .before .before .before .before in
     let e = c .before .before .enum-told .given .1 in
-    let starts = went-still restStep _ _ _ _ _ _ _ _ (rest-starts _ _ _ (rest-runs _ (can s e)) (c .before .started .ensures)) in
+    let starts = went-still restStep _ _ _ _ _ _ _ _ (rest-starts _ _ _ (rest-runs _ (can s e)) (c .before .enters .ensures)) in
     simp (c .at .ensures) (s .pre .1 .0, is-step s e restStep (λ memory input output room. refl) starts)
 
 same-length : tie.Need-same-length
@@ -141,7 +141,7 @@ step-at-spec =
     tie.close
     (tie.spec
     enum-told
-    started-requires
+    enters-requires
     at-requires
     enum-told-2
     fetch-step-requires

@@ -15,7 +15,7 @@ count-from-requires : tie.Need-count-from-requires
 count-from-requires c κs = search needs
 
 returns : tie.Need-returns
-returns c = cc
+returns c = rw (c .before .before .before .count-from .ensures, c .before .before .before .before .before .has3 .ensures, c .before .before .before .before .before .before .has2 .ensures, c .before .before .before .before .before .before .before .has .ensures)
 
 pub stored-spec : {M : Type 1} → statement M
 stored-spec =

@@ -28,9 +28,14 @@ returns-3 : tie.Need-returns-3
 unfolding writeOf
 returns-3 c = record { answer = ap Done (c .control-written .ensures) ∙ sym (at-control _ _ _ _ _ _ _ (sym (c .before .before .before .before .keeps .ensures) ∙ not-false _ (c .before .before .before .if1 .left)) (c .before .if3 .taken)) }
 
+pointer-written-requires : tie.Need-pointer-written-requires
+pointer-written-requires c κs = search needs
+
 returns-4 : tie.Need-returns-4
 unfolding writeOf
-returns-4 c = record { answer = sym (at-pointer _ _ _ _ _ _ _ (sym (c .before .before .before .before .before .before .before .keeps .ensures) ∙ not-false _ (c .before .before .before .before .before .before .if1 .left)) (c .before .before .before .if4 .taken)) }
+returns-4 c =
+    let e = c .before .before .before .before in
+    record { answer = ap Done (c .pointer-written .ensures) ∙ sym (at-pointer _ _ _ _ _ _ _ (sym (e .before .keeps .ensures) ∙ not-false _ (e .if1 .left)) (c .before .if4 .taken)) }
 
 returns-5 : tie.Need-returns-5
 unfolding writeOf
@@ -46,5 +51,6 @@ write-register-spec =
     returns-2
     control-written-requires
     returns-3
+    pointer-written-requires
     returns-4
     returns-5)

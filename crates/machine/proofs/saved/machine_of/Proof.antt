@@ -15,7 +15,7 @@ phase-of-requires : tie.Need-phase-of-requires
 phase-of-requires c κs = search needs
 
 returns : tie.Need-returns
-returns c = cc
+returns c = rw (c .phase-of .ensures, c .before .status-of .ensures, c .before .before .mode-of .ensures)
 
 pub machine-of-spec : {M : Type 1} → statement M
 machine-of-spec =

@@ -18,7 +18,7 @@ has-requires-5 : tie.Need-has-requires-5
 has-requires-5 c κs = search needs
 
 returns : tie.Need-returns
-returns c = cc
+returns c = rw (c .has5 .ensures, c .before .has4 .ensures, c .before .before .has3 .ensures, c .before .before .before .has2 .ensures, c .before .before .before .before .has .ensures)
 
 pub status-of-spec : {M : Type 1} → statement M
 status-of-spec =
