@@ -45,7 +45,7 @@ none = record { to = 0; byte = 0 }
 
 -- byte n of all that are sent, and none after it to its address
 module _ {g : Given} {ran : Ran} {memory : List ℕ} (o : Outcome g ran memory) (n : ℕ) where
-  landed-nth : n < length (sent g) → noneTo (getD (sent g) n none .to) (drop (suc n) (sent g)) ≡ true
+  pub landed-nth : n < length (sent g) → noneTo (getD (sent g) n none .to) (drop (suc n) (sent g)) ≡ true
       → getD memory (placeOf (g .window) (getD (sent g) n none .to)) 0 ≡ getD (sent g) n none .byte
   landed-nth h e = o .landed (take n (sent g)) (drop (suc n) (sent g)) (getD (sent g) n none) (split-at (sent g) n none h) (none-to (getD (sent g) n none .to) (drop (suc n) (sent g)) e)
 

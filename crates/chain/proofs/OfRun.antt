@@ -131,13 +131,13 @@ module _ {window : Window} {pointer control : ℕ} {memory beats out : List ℕ}
   m2-stored : c .m2 ≡ stored control (withPointer pointer (fresh StreamToMemory window))
   m2-stored = m2-is ∙ write-runs control (withPointer pointer (fresh StreamToMemory window)) (and-false (bit 16 control)) (h .run-set)
 
-  served : lentOf (c .m2) memory beats out ≡ serves
+  pub served : lentOf (c .m2) memory beats out ≡ serves
   served =
       serve (c .m2) memory beats out (subst⁻¹ (λ (m : Machine). keeps m ≡ true) m2-stored
       (rest-keeps window limits pointer (control % 2 ^ 18) _ _ (omega arith) (let z = cond-same (bit 5 control) in omega arith)))
       (c .even-beats) (c .even-out) (h .lent ∙ sym (ap (λ (m : Machine). m .window .length) m2-stored))
 
-  ends-as : memory' ≡ run budget (worldFor g) .world .memory
+  pub ends-as : memory' ≡ run budget (worldFor g) .world .memory
   ends-as =
       c .ran .window-after ∙ ap (λ (l : Lent). windowAfter l (run budget (worldOf (c .m2) memory beats out) .world) memory) served
       ∙ ap (λ (m : Machine). run budget (worldOf m memory beats out) .world .memory) m2-is

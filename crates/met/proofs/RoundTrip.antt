@@ -121,7 +121,7 @@ saves {m} {ys} k l s =
     (s .answer ∙ ap core.savedAs (sym (w .answer)), s .lent ∙ sym (w .lent))
 
 -- the image of a machine that keeps the rules loads as it
-loads : (m : Machine) → Typed (core.fieldsOf m) → core.keeps m ≡ true → core.loadOf (image (core.fieldsOf m)) ≡ Good m
+pub loads : (m : Machine) → Typed (core.fieldsOf m) → core.keeps m ≡ true → core.loadOf (image (core.fieldsOf m)) ≡ Good m
 unfolding core.loadOf
 loads m t k =
     ap core.loadedAs (read-image (core.fieldsOf m) t (kept-none (core.fieldsOf m) k)) ∙ ap Good (machine-back m)

@@ -1,0 +1,136 @@
+-- Known run 1 through the C calls, in numbers. What is lent for it, and for the chain of three of crate chain, is well lent.
+-- Assumes nothing.
+use Prim.Native.Nat.{ℕ, zero, suc, _*_, _%_, _^_, _<_}
+use mathlib.Core.Path.{_≡_, refl, _∙_}
+use mathlib.Core.Bool.{true}
+use mathlib.Core.List.{List, [], _∷_, _++_}
+use native.Mathlib.Nat.{mod-lt}
+use native.Mathlib.Omega.{arith}
+use lib.ListN.{length, take, replicate, length-replicate}
+use borrow.Author.Tests.{eq-eqb}
+use Rattle.words.specs.Slices.{putAt}
+use Rattle.words.proofs.Bytes.{AllBytes}
+use Rattle.bus.specs.Window.{keepsLimits, inWindow}
+use Rattle.descriptor.specs.Layout.{bytesFor, descriptorAt}
+use Rattle.flow.specs.Beats.{beatBytes}
+use Rattle.flow.proofs.Streams.{length-beat-bytes}
+use Rattle.image.specs.Layout.{image}
+use Rattle.image.proofs.RoundTrip.{image-bytes}
+use Rattle.machine.specs.Saved.{fieldsOf}
+use Rattle.machine.specs.Registers.{controlWritten}
+use Rattle.machine.specs.Step.{restStep, fetched, fetchStep, sourceOf, destinationOf, onward, copyStep, beatFor, sendStep, writtenControl, writtenBack, counted, completed, writeBackStep, step}
+use Rattle.machine.specs.Run.{run, even}
+use Rattle.sgdma.specs.Calls.{imageOf}
+use Rattle.chain.specs.Chain.{Given, machineFor, worldFor, Premises}
+use Rattle.chain.proofs.Instances.{known, known-run-1, three}
+use Rattle.chain_calls.specs.InC.{RunLent, RunLeft, Lends, WellLent, runLent, Called, NoneRefused}
+use Rattle.chain_calls.specs.Useless.{InBytes}
+use Rattle.chain_calls.proofs.OfCalls.{are-all-bytes, run-is, run-memory, run-image, none-refused, chain-of-calls}
+
+-- ---- what is lent: zeros where nothing is said, budget 100
+
+abbrev pub lends : Given → Lends
+lends g =
+    record {
+      image = replicate 44 0;
+      window = g .window;
+      pointer = g .pointer;
+      control = g .control;
+      memory = g .memory;
+      beats = beatBytes (g .beats);
+      out = replicate (2 * g .room) 0;
+      budget = 100;
+      report = replicate 14 0;
+    }
+
+-- zeros and the bytes of beats are bytes, and whole beats
+zero-bytes : (n : ℕ) → AllBytes (replicate n 0)
+zero-bytes zero = tt
+zero-bytes (suc n) = (omega arith, zero-bytes n)
+
+beat-bytes : (bs : List ℕ) → AllBytes (beatBytes bs)
+beat-bytes [] = tt
+beat-bytes (b ∷ bs) = (mod-lt _ (omega arith), (mod-lt _ (omega arith), beat-bytes bs))
+
+whole : (xs : List ℕ) (n : ℕ) → length xs ≡ 2 * n → even xs ≡ true
+whole xs n l = eq-eqb (length xs % 2) 0 (omega arith)
+
+-- within the limits and with registers of 32 bits all is well lent
+well-lent : (g : Given) → keepsLimits (g .window .base) (g .window .length) ≡ true → g .pointer < 2 ^ 32 → g .control < 2 ^ 32
+    → WellLent (lends g)
+well-lent g limits pointer control =
+    record {
+      image-size = refl;
+      report-size = refl;
+      even-beats = whole (beatBytes (g .beats)) (length (g .beats)) (length-beat-bytes (g .beats));
+      even-out = whole (replicate (2 * g .room) 0) (g .room) (length-replicate (2 * g .room) 0);
+      limits = limits;
+      beat-bytes = beat-bytes (g .beats);
+      pointer-bits = pointer;
+      control-bits = control;
+    }
+
+-- what the run is lent then is bytes
+abbrev pub lentTo : Given → RunLent
+lentTo g = runLent (lends g) (imageOf (machineFor g))
+
+pub in-bytes : (g : Given) → Premises g → InBytes (lentTo g)
+in-bytes g h =
+    record {
+      image = image-bytes (fieldsOf (machineFor g));
+      memory = are-all-bytes (g .memory) (h .bytes);
+      beats = beat-bytes (g .beats);
+      out = zero-bytes (2 * g .room);
+      budget = omega arith;
+      report = zero-bytes 14;
+    }
+
+pub known-lent : WellLent (lends known)
+unfolding keepsLimits
+known-lent = well-lent known refl (omega arith) (omega arith)
+
+pub three-lent : WellLent (lends three)
+unfolding keepsLimits
+three-lent = well-lent three refl (omega arith) (omega arith)
+
+-- ---- known run 1
+
+-- of the window: D but for its last four bytes, these, and from 4224 on the bytes of the beats
+abbrev pub knownLeft : RunLeft
+knownLeft =
+    record {
+      number = 0;
+      image =
+          0x1A ∷ 0x00 ∷  -- edition 1, mode 2, phase 4, Ended
+          0x1C ∷ 0x00 ∷  -- status, count
+          0x00 ∷ 0x00 ∷ 0x00 ∷ 0x20 ∷  -- control
+          0x00 ∷ 0x00 ∷ 0x10 ∷ 0x20 ∷  -- pointer 4128
+          0x00 ∷ 0x00 ∷ 0x10 ∷ 0x00 ∷  -- base 4096
+          0x00 ∷ 0x00 ∷ 0x01 ∷ 0x00 ∷  -- window length 256
+          replicate 24 0;
+      memory = take 28 (known .memory) ++ 0x04 ∷ 0x00 ∷ 0x00 ∷ 0x00 ∷ replicate 96 0 ++ 0x11 ∷ 0x22 ∷ 0x33 ∷ 0x44 ∷ replicate 124 0;
+      out = [];
+      report =
+          0x00 ∷ 0x01 ∷  -- Ended
+          0x00 ∷ 0x00 ∷ 0x00 ∷ 0x08 ∷  -- steps
+          0x00 ∷ 0x00 ∷ 0x00 ∷ 0x04 ∷  -- taken
+          0x00 ∷ 0x00 ∷ 0x00 ∷ 0x00 ∷  -- made
+          [];
+    }
+
+-- by computation over the step rules
+known-ends : (imageOf (run 100 (worldFor known) .world .machine) ≡ knownLeft .image) × (run 100 (worldFor known) .world .memory ≡ knownLeft .memory)
+unfolding image bytesFor inWindow putAt descriptorAt controlWritten restStep fetched fetchStep sourceOf destinationOf onward copyStep beatFor sendStep writtenControl writtenBack counted completed writeBackStep step run
+known-ends = (refl, refl)
+
+-- Known run 1 through the C calls: each gives back 0, and these bytes are left.
+pub known-run-1-in-c : {created pointed started : ℕ} {left : RunLeft} → Called (lends known) created pointed started left
+    → NoneRefused created pointed started left × (left ≡ knownLeft)
+unfolding descriptorAt bytesFor
+known-run-1-in-c c =
+    let p = run-is known-lent c in
+    let f = chain-of-calls 1 c known-lent (known-run-1 .meets) (omega arith) in
+    let n = none-refused 1 c known-lent (known-run-1 .meets) in
+    let image = run-image 1 known-lent (known-run-1 .meets) p ∙ known-ends .0 in
+    let memory = run-memory 1 known-lent (known-run-1 .meets) p ∙ known-ends .1 in
+    (n, λ i. record { number = n .run i; image = image i; memory = memory i; out = f .output i; report = f .report i })

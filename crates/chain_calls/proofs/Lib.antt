@@ -1,0 +1,3 @@
+pub mod OfCalls
+pub mod Instances
+pub mod NoneUseless

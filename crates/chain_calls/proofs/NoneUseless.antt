@@ -1,0 +1,103 @@
+-- None of the useless models keeps the promise of sgdma_run, though it can be kept.
+-- Assumes nothing.
+use Prim.Native.Nat.{ℕ, _<_}
+use mathlib.Core.Path.{_≡_, refl, sym, ap, _∙_}
+use mathlib.Core.Bool.{cond, _&&_}
+use mathlib.Core.List.{List}
+use native.Mathlib.Nat.{mod-eq-of-lt}
+use native.Mathlib.Omega.{arith}
+use lib.ListN.{length, getD}
+use Rattle.words.specs.declared.Order.the-variants.{MostFirst}
+use Rattle.words.proofs.Orders.{number-bytes}
+use Rattle.descriptor.specs.Layout.{bytesFor, descriptorAt}
+use Rattle.image.specs.Promise.{sized}
+use Rattle.image.proofs.RoundTrip.{length-image}
+use Rattle.machine.specs.declared.RunAnswer.{RunAnswer}
+use Rattle.machine.specs.declared.LoadedMachine.the-variants.{Good}
+use Rattle.machine.specs.Saved.{fieldsOf, loadOf, WasLoaded}
+use Rattle.machine.specs.Run.{Lent, serves, run, worldOf, runAnswer, runNumber}
+use Rattle.machine.proofs.RunLaws.{run-tells}
+use Rattle.met.proofs.RoundTrip.{loaded-typed, loads-exactly}
+use Rattle.sgdma.specs.Calls.{isSize, runCall, ranOver, reportOver, windowIn, outIn}
+use Rattle.chain.proofs.Instances.{known, known-run-1, three, chain-of-three, landed-nth}
+use Rattle.chain_calls.specs.InC.{RunLeft, Found}
+use Rattle.chain_calls.specs.Useless.{Model, Keeps, RefusesEverything, OneFixedAnswer, NeverMoves, OnlyMarksTheOthers, stepsTold, MakesUpSteps}
+use Rattle.chain_calls.proofs.OfCalls.{runs-as, run-not-refused, run-finds}
+use Rattle.chain_calls.proofs.Instances.{lends, lentTo, in-bytes, known-lent, three-lent}
+
+-- ---- the promise can be kept: the model that does what it says
+
+abbrev pub honest : Model
+honest x =
+    let answer = runCall (x .image) (x .memory) (x .beats) (x .out) (x .budget) (x .report) in
+    let sizes = sized (x .image) && isSize 14 (x .report) in
+    record {
+      number = runNumber answer;
+      image = ranOver answer (x .image);
+      memory = cond sizes (windowIn (loadOf (x .image)) (x .memory) (x .beats) (x .out) (x .budget)) (x .memory);
+      out = cond sizes (outIn (loadOf (x .image)) (x .memory) (x .beats) (x .out) (x .budget)) (x .out);
+      report = reportOver answer (x .report);
+    }
+
+pub honest-keeps : Keeps honest
+honest-keeps x b = record { number = refl; image-after = refl; window-after = refl; out-after = refl; report-after = refl }
+
+-- ---- what a model that keeps it makes of known run 1, and of the chain of three
+
+module _ (f : Model) (k : Keeps f) where
+  known-found : Found known (lends known) (f (lentTo known))
+  unfolding descriptorAt bytesFor
+  known-found = run-finds 1 known-lent (known-run-1 .meets) (k (lentTo known) (in-bytes known (known-run-1 .meets))) (omega arith)
+
+  three-found : Found three (lends three) (f (lentTo three))
+  unfolding descriptorAt bytesFor
+  three-found = run-finds 3 three-lent (chain-of-three .meets) (k (lentTo three) (in-bytes three (chain-of-three .meets))) (omega arith)
+
+-- ---- the models
+
+-- known run 1 gives back 0
+pub refuser-fails : (f : Model) → RefusesEverything f → Keeps f → ⊥
+refuser-fails f r k = r (lentTo known) (run-not-refused 1 known-lent (known-run-1 .meets) (k (lentTo known) (in-bytes known (known-run-1 .meets))))
+
+-- known run 1 takes 8 steps, and the chain of three 16
+pub fixed-fails : (f : Model) → OneFixedAnswer f → Keeps f → ⊥
+unfolding descriptorAt bytesFor
+fixed-fails f e k =
+    let same : f (lentTo known) .report ≡ f (lentTo three) .report = ap (λ (y : RunLeft). y .report) (e (lentTo known) (lentTo three)) in
+    let z : _≡_ {A = ℕ} 8 16 = ap (λ (r : List ℕ). getD r 5 0) (sym (known-found f k .report) ∙ same ∙ three-found f k .report) in
+    omega arith
+
+-- in known run 1 the byte 0x11 lands at place 128, where 0 was
+pub never-moving-fails : (f : Model) → NeverMoves f → Keeps f → ⊥
+unfolding descriptorAt bytesFor
+never-moving-fails f n k =
+    let landed : getD (f (lentTo known) .memory) 128 0 ≡ 0x11 = landed-nth (known-found f k .outcome) 0 (omega arith) refl in
+    let z : _≡_ {A = ℕ} 0x11 0 = sym landed ∙ ap (λ (m : List ℕ). getD m 128 0) (n (lentTo known)) in
+    omega arith
+
+-- in the chain of three the second descriptor's byte 0x55 lands at place 131, where 0 was
+pub marker-fails : (f : Model) → OnlyMarksTheOthers f → Keeps f → ⊥
+unfolding descriptorAt bytesFor
+marker-fails f o k =
+    let landed : getD (f (lentTo three) .memory) 131 0 ≡ 0x55 = landed-nth (three-found f k .outcome) 4 (omega arith) refl in
+    let kept = o (lends three) 3 three-lent (chain-of-three .meets) 131
+    (λ e. omega arith, (λ e. omega arith, (λ e. omega arith, tt)))
+    (λ j a e. omega arith, (λ j a e. omega arith, (λ j a e. omega arith, tt))) in
+    let z : _≡_ {A = ℕ} 0x55 0 = sym landed ∙ kept in
+    omega arith
+
+-- the report's steps are the applications of the step rule, which are not more than the budget
+pub made-up-fails : (f : Model) → MakesUpSteps f → Keeps f → ⊥
+made-up-fails f u k =
+    let x = u .lent in
+    let w = worldOf (u .machine) (x .memory) (x .beats) (x .out) in
+    let l : WasLoaded (x .image) (Good (u .machine)) = record { answer = sym (u .loads) } in
+    let size : length (x .image) ≡ 44 =
+    ap length (loads-exactly (x .image) (u .machine) (u .bytes .image) (loaded-typed l) .0 l .1) ∙ length-image (fieldsOf (u .machine)) in
+    let answer : runCall (x .image) (x .memory) (x .beats) (x .out) (x .budget) (x .report) ≡ runAnswer serves w (x .budget) =
+    runs-as x size (u .report-size) (u .loads) ∙ ap (λ (s : Lent). runAnswer s w (x .budget)) (u .not-refused) in
+    let told : stepsTold (f x .report) ≡ stepsTold (reportOver (runAnswer serves w (x .budget)) (x .report)) =
+    ap stepsTold (k x (u .bytes) .report-after ∙ ap (λ (a : RunAnswer). reportOver a (x .report)) answer) in
+    let steps = run (x .budget) w .steps in
+    let fits : steps < 4294967296 = omega (arith, run-tells (x .budget) w .within, u .bytes .budget) in
+    u .made-up (told ∙ number-bytes MostFirst 4 steps ∙ mod-eq-of-lt fits)

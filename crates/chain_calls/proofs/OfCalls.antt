@@ -1,0 +1,227 @@
+-- Demand 3 of the C calls. The image between two calls is that of a machine met in use, and loads back as it: so what the calls
+-- promise over images is what the methods promise over machines, of which the chain theorem is proved.
+-- Assumes nothing.
+use Prim.Native.Nat.{ℕ, _+_, _≤_, _<_}
+use mathlib.Core.Path.{_≡_, refl, sym, ap, subst, _∙_}
+use mathlib.Core.List.{List, [], _∷_}
+use lib.ListN.{length, take}
+use borrow.Author.Tests.{eq-eqb}
+use Rattle.words.specs.declared.Order.the-variants.{MostFirst}
+use Rattle.words.specs.Orders.{rowBytes}
+use Rattle.words.proofs.Bytes.{AllBytes}
+use Rattle.image.proofs.RoundTrip.{length-image}
+use Rattle.machine.specs.declared.Machine.{Machine}
+use Rattle.machine.specs.declared.Mode.the-variants.{StreamToMemory}
+use Rattle.machine.specs.declared.Ran.{Ran}
+use Rattle.machine.specs.declared.RunAnswer.{RunAnswer}
+use Rattle.machine.specs.declared.RunAnswer.the-variants as many
+use Rattle.machine.specs.declared.LoadedMachine.{LoadedMachine}
+use Rattle.machine.specs.declared.LoadedMachine.the-variants.{Good}
+use Rattle.machine.specs.declared.registers.WroteRegister.{WroteRegister}
+use Rattle.machine.specs.declared.registers.WroteRegister.the-variants as wrote
+use Rattle.machine.specs.State.{withPointer, fresh}
+use Rattle.machine.specs.Saved.{fieldsOf, loadOf}
+use Rattle.machine.specs.Registers.{controlWritten, writeOf, wroteNumber}
+use Rattle.machine.specs.Run.{Lent, run, reasonNumber, lentOf, worldOf, ranAs, runAnswer, runNumber, HasRun}
+use Rattle.met.specs.Met.{Met}
+use Rattle.met.specs.Met as met
+use Rattle.met.proofs.RoundTrip.{loads}
+use Rattle.met.proofs.InUse.{met-sound}
+use Rattle.sgdma.specs.Calls.{imageOf, createNumber, ifDone, writtenIn, writtenOver, RegisterWritten, runIn, runCall, windowIn, outIn, ranOver, reportOver}
+use Rattle.sgdma.proofs.Opened.{sizes-right}
+use Rattle.chain.specs.Chain.{All, Given, machineFor, worldFor, shares, cost, given, Premises, Outcome}
+use Rattle.chain.specs.Calls.{Finished}
+use Rattle.chain.specs.Calls as methods
+use Rattle.chain.proofs.Theorem.{chain-at-every-step}
+use Rattle.chain.proofs.OfRun.{pointer-done, control-done, served, ends-as, chain-of-run, chain-of-run-at-every-step}
+use Rattle.chain_calls.specs.InC.{RunLent, RunLeft, Promised, Lends, WellLent, givenIn, runLent, Called, NoneRefused, Found, FoundAtEveryStep}
+
+-- what a window holds is bytes
+pub are-all-bytes : (xs : List ℕ) → All (λ x. x < 256) xs → AllBytes xs
+are-all-bytes [] h = tt
+are-all-bytes (x ∷ xs) h = (h .0, are-all-bytes xs (h .1))
+
+-- ---- one call over the image of a machine
+
+-- the image of a machine met in use loads as it
+loads-as : {m : Machine} → Met m → loadOf (imageOf m) ≡ Good m
+loads-as {m} h = loads m (met-sound h .typed) (met-sound h .rules)
+
+-- a write that a machine does not refuse, over its image
+written-over : {xs ys : List ℕ} {m n : Machine} {offset v r : ℕ}
+    → loadOf xs ≡ Good m → writeOf m offset v ≡ wrote.Done n → RegisterWritten xs offset v r ys → (r ≡ 0) × (ys ≡ imageOf n)
+written-over {xs} {ys} {m} {n} {offset} {v} e d w =
+    let a : writtenIn (loadOf xs) offset v ≡ wrote.Done n = ap (λ (x : LoadedMachine). writtenIn x offset v) e ∙ d in
+    (w .number ∙ ap wroteNumber a, w .image-after ∙ ap (λ (x : WroteRegister). writtenOver x xs) a)
+
+-- a run over an image that loads is the machine's run
+module _ (x : RunLent) {m : Machine} (size : length (x .image) ≡ 44) (report-size : length (x .report) ≡ 14) (e : loadOf (x .image) ≡ Good m) where
+  abbrev runAs : RunAnswer
+  runAs = runAnswer (lentOf m (x .memory) (x .beats) (x .out)) (worldOf m (x .memory) (x .beats) (x .out)) (x .budget)
+
+  pub runs-as : runCall (x .image) (x .memory) (x .beats) (x .out) (x .budget) (x .report) ≡ runAs
+  unfolding runCall
+  runs-as =
+      sizes-right _ _ 14 (x .image) (x .report) size report-size
+      ∙ ap (λ (y : LoadedMachine). runIn y (x .memory) (x .beats) (x .out) (x .budget)) e
+
+  has-run : (y : RunLeft) → Promised x y → HasRun m (x .memory) (x .beats) (x .out) (x .budget) runAs (y .memory) (y .out)
+  has-run y p =
+      record {
+        answer = refl;
+        window-after = p .window-after ∙ sizes-right _ _ 14 (x .image) (x .report) size report-size
+            ∙ ap (λ (y : LoadedMachine). windowIn y (x .memory) (x .beats) (x .out) (x .budget)) e;
+        out-after = p .out-after ∙ sizes-right _ _ 14 (x .image) (x .report) size report-size
+            ∙ ap (λ (y : LoadedMachine). outIn y (x .memory) (x .beats) (x .out) (x .budget)) e;
+      }
+
+-- ---- the machine between the calls
+
+module _ {l : Lends} (w : WellLent l) where
+  abbrev m0 : Machine
+  m0 = fresh StreamToMemory (l .window)
+
+  abbrev m1 : Machine
+  m1 = withPointer (l .pointer) m0
+
+  abbrev m2 : Machine
+  m2 = controlWritten (l .control) m1
+
+  pointed-as : writeOf m0 8 (l .pointer) ≡ wrote.Done m1
+  pointed-as = pointer-done (l .window) (w .limits) (l .pointer) (record { answer = refl })
+
+  started-as : writeOf m1 4 (l .control) ≡ wrote.Done m2
+  started-as = control-done (l .window) (w .limits) (l .pointer) (l .control) (record { answer = refl })
+
+  met0 : Met m0
+  met0 = met.fresh StreamToMemory (l .window) (w .limits)
+
+  met1 : Met m1
+  met1 = met.written met0 (w .pointer-bits) (record { answer = sym pointed-as })
+
+  met2 : Met m2
+  met2 = met.written met1 (w .control-bits) (record { answer = sym started-as })
+
+  module _ {created pointed started : ℕ} {left : RunLeft} (c : Called l created pointed started left) where
+    creates : createNumber (l .image) 2 (l .window .base) (l .window .length) ≡ 0
+    creates = rw (eq-eqb (length (l .image)) 44 (w .image-size), w .limits)
+
+    x1-is : c .x1 ≡ imageOf m0
+    x1-is = c .create .image-after ∙ ap (λ (n : ℕ). ifDone n (imageOf m0) (l .image)) creates
+
+    x2-is : (pointed ≡ 0) × (c .x2 ≡ imageOf m1)
+    x2-is = written-over (ap loadOf x1-is ∙ loads-as met0) pointed-as (c .point)
+
+    x3-is : (started ≡ 0) × (c .x3 ≡ imageOf m2)
+    x3-is = written-over (ap loadOf (x2-is .1) ∙ loads-as met1) started-as (c .start)
+
+    pub run-is : Promised (runLent l (imageOf m2)) left
+    run-is = subst (λ (x : List ℕ). Promised (runLent l x) left) (x3-is .1) (c .run)
+
+-- ---- the run, over the image of the machine that was started
+
+module _ {l : Lends} {left : RunLeft} (k : ℕ) (w : WellLent l) (h : Premises (givenIn l k)) (p : Promised (runLent l (imageOf (machineFor (givenIn l k)))) left) where
+  abbrev g : Given
+  g = givenIn l k
+
+  loaded : loadOf (imageOf (machineFor g)) ≡ Good (machineFor g)
+  loaded = loads-as (met2 w)
+
+  abbrev answer : RunAnswer
+  answer = runAnswer (lentOf (machineFor g) (l .memory) (l .beats) (l .out)) (worldFor g) (l .budget)
+
+  -- the same by the methods
+  abbrev by-methods : methods.Called (l .window) (l .pointer) (l .control) (l .memory) (l .beats) (l .out) (l .budget) answer (left .memory) (left .out)
+  by-methods =
+      record {
+        m0 = m0 w;
+        m1 = m1 w;
+        m2 = m2 w;
+        made = record { value = refl };
+        pointed = record { answer = sym (pointed-as w) };
+        started = record { answer = sym (started-as w) };
+        even-beats = w .even-beats;
+        even-out = w .even-out;
+        ran = has-run (runLent l (imageOf (machineFor g))) (length-image (fieldsOf (machineFor g))) (w .report-size) loaded left p;
+      }
+
+  abbrev ran : Ran
+  ran = ranAs (worldFor g) (run (l .budget) (worldFor g))
+
+  -- whatever the budget it is not refused
+  done : answer ≡ many.Done ran
+  done = ap (λ (x : Lent). runAnswer x (worldFor g) (l .budget)) (served k by-methods h)
+
+  called : runCall (imageOf (machineFor g)) (l .memory) (l .beats) (l .out) (l .budget) (l .report) ≡ many.Done ran
+  called = runs-as (runLent l (imageOf (machineFor g))) (length-image (fieldsOf (machineFor g))) (w .report-size) loaded ∙ done
+
+  pub run-not-refused : left .number ≡ 0
+  run-not-refused = p .number ∙ ap runNumber called
+
+  -- what it leaves is what the step rule makes of the machine and the window, and the report tells of it
+  pub run-memory : left .memory ≡ run (l .budget) (worldFor g) .world .memory
+  run-memory = ends-as k by-methods h
+
+  pub run-image : left .image ≡ imageOf (ran .machine)
+  run-image = p .image-after ∙ ap (λ (a : RunAnswer). ranOver a (imageOf (machineFor g))) called
+
+  run-report : left .report
+      ≡ rowBytes MostFirst (2 ∷ 4 ∷ 4 ∷ 4 ∷ []) (reasonNumber (ran .reason) ∷ ran .steps ∷ ran .taken ∷ ran .made ∷ [])
+  run-report = p .report-after ∙ ap (λ (a : RunAnswer). reportOver a (l .report)) called
+
+  run-loads : loadOf (left .image) ≡ Good (ran .machine)
+  run-loads =
+      let r = by-methods .ran in
+      let made : HasRun (machineFor g) (l .memory) (l .beats) (l .out) (l .budget) (many.Done ran) (left .memory) (left .out) =
+      record { answer = sym done; window-after = r .window-after; out-after = r .out-after } in
+      ap loadOf run-image ∙ loads-as (met.ran (met2 w) (are-all-bytes (l .memory) (h .bytes)) (w .beat-bytes) made)
+
+  pub run-finds : 2 + cost (shares g) ≤ l .budget → Found g l left
+  run-finds b =
+      let f : Finished g answer (left .memory) (l .out) (left .out) = chain-of-run k by-methods h b in
+      let same : many.Done (f .told) ≡ many.Done ran = sym (f .answer) ∙ done in
+      let o : Outcome g ran (left .memory) = subst (λ (r : Ran). Outcome g r (left .memory)) (cc) (f .outcome) in
+      let reason : reasonNumber (ran .reason) ≡ 1 = ap reasonNumber (o .reason) in
+      let row : _≡_ {A = List ℕ} (reasonNumber (ran .reason) ∷ ran .steps ∷ ran .taken ∷ ran .made ∷ []) (1 ∷ (2 + cost (shares g)) ∷ given (shares g) ∷ 0 ∷ []) =
+      cc (o .steps, o .taken, o .made) in
+      record {
+        told = ran;
+        outcome = o;
+        report = run-report ∙ ap (rowBytes MostFirst (2 ∷ 4 ∷ 4 ∷ 4 ∷ [])) row;
+        image = run-image;
+        loads = run-loads;
+        output = f .output;
+      }
+
+  pub run-finds-at-every-step : FoundAtEveryStep g l left
+  run-finds-at-every-step =
+      record { first-few = chain-of-run-at-every-step k by-methods h; image = run-image; loads = run-loads; spent = spent }
+    where
+      spent : l .budget < 2 + cost (shares g) → take 6 (left .report) ≡ rowBytes MostFirst (2 ∷ 4 ∷ []) (6 ∷ l .budget ∷ [])
+      spent b =
+          let s = chain-at-every-step g h .spent (l .budget) b in
+          let reason : reasonNumber (ran .reason) ≡ 6 = ap reasonNumber (s .1) in
+          let row : _≡_ {A = List ℕ} (reasonNumber (ran .reason) ∷ ran .steps ∷ []) (6 ∷ l .budget ∷ []) = cc (s .0) in
+          ap (take 6) run-report ∙ ap (rowBytes MostFirst (2 ∷ 4 ∷ [])) row
+
+-- ---- the calls
+
+module _ {l : Lends} {created pointed started : ℕ} {left : RunLeft} (k : ℕ)
+    (c : Called l created pointed started left) (w : WellLent l) (h : Premises (givenIn l k)) where
+  -- No call is refused.
+  pub none-refused : NoneRefused created pointed started left
+  none-refused =
+      record {
+        create = c .create .number ∙ creates w c;
+        point = x2-is w c .0;
+        start = x3-is w c .0;
+        run = run-not-refused k w h (run-is w c);
+      }
+
+  -- With budget enough the window, the report, the image and the output are left so.
+  pub chain-of-calls : 2 + cost (shares (givenIn l k)) ≤ l .budget → Found (givenIn l k) l left
+  chain-of-calls b = run-finds k w h (run-is w c) b
+
+  -- With any budget those marked done are the first few.
+  pub chain-of-calls-at-every-step : FoundAtEveryStep (givenIn l k) l left
+  chain-of-calls-at-every-step = run-finds-at-every-step k w h (run-is w c)

@@ -1,0 +1,127 @@
+-- Demand 3 of the C calls, by what they promise: an image is created in lent bytes, two registers are written in it, and one run is
+-- made over it. What the caller lends, the calls, what is found after them. The theorems are `none-refused`, `chain-of-calls` and
+-- `chain-of-calls-at-every-step`.
+-- Assumes nothing.
+use Prim.Native.Nat.{ℕ, _+_, _^_, _<_}
+use mathlib.Core.Path.{_≡_}
+use mathlib.Core.Bool.{true}
+use mathlib.Core.List.{List, [], _∷_}
+use lib.ListN.{length, take}
+use Rattle.words.specs.declared.Order.the-variants.{MostFirst}
+use Rattle.words.specs.Orders.{rowBytes}
+use Rattle.words.proofs.Bytes.{AllBytes}
+use Rattle.bus.specs.declared.Window.{Window}
+use Rattle.bus.specs.Window.{keepsLimits}
+use Rattle.machine.specs.declared.Ran.{Ran}
+use Rattle.machine.specs.declared.LoadedMachine.the-variants.{Good}
+use Rattle.machine.specs.Saved.{loadOf}
+use Rattle.machine.specs.Run.{run, even}
+use Rattle.sgdma.specs.Calls.{imageOf, Created, RegisterWritten, RunMade}
+use Rattle.chain.specs.Chain.{Given, worldFor, shares, cost, given, FirstFew, Outcome}
+use Rattle.chain.specs.Calls.{givenBy}
+
+-- ---- one call of sgdma_run
+
+-- what it is lent, and the budget
+pub record RunLent : Type 0 where
+  pub image : List ℕ
+  pub memory : List ℕ
+  pub beats : List ℕ
+  pub out : List ℕ
+  pub budget : ℕ
+  pub report : List ℕ
+
+-- the number that it gives back, and what is left in the lent bytes
+pub record RunLeft : Type 0 where
+  pub number : ℕ
+  pub image : List ℕ
+  pub memory : List ℕ
+  pub out : List ℕ
+  pub report : List ℕ
+
+-- what it promises of them
+abbrev pub Promised : RunLent → RunLeft → Type 0
+Promised x y =
+    RunMade (x .image) (x .memory) (x .beats) (x .out) (x .budget) (x .report) (y .number) (y .image) (y .memory) (y .out) (y .report)
+
+-- ---- what the caller lends
+
+-- bytes for the image; the window, what is written to pointer and control; and what the run is lent
+pub record Lends : Type 0 where
+  pub image : List ℕ
+  pub window : Window
+  pub pointer : ℕ
+  pub control : ℕ
+  pub memory : List ℕ
+  pub beats : List ℕ
+  pub out : List ℕ
+  pub budget : ℕ
+  pub report : List ℕ
+
+-- lent as it should be, whatever the bytes for the image hold
+pub record WellLent (l : Lends) : Type 0 where
+  -- the sizes that the header asks for: 44 bytes for the image, 14 for the report, whole beats in and out
+  pub image-size : length (l .image) ≡ 44
+  pub report-size : length (l .report) ≡ 14
+  pub even-beats : even (l .beats) ≡ true
+  pub even-out : even (l .out) ≡ true
+  -- a window within the limits
+  pub limits : keepsLimits (l .window .base) (l .window .length) ≡ true
+  -- as the types in C have it: beats are bytes, a register is 32 bits
+  pub beat-bytes : AllBytes (l .beats)
+  pub pointer-bits : l .pointer < 2 ^ 32
+  pub control-bits : l .control < 2 ^ 32
+
+-- what the chain theorem is told of it, for a chain of k
+abbrev pub givenIn : Lends → (k : ℕ) → Given
+givenIn l k = givenBy (l .window) (l .pointer) (l .control) k (l .memory) (l .beats) (l .out)
+
+-- what the run is lent of it, with this image
+abbrev pub runLent : Lends → (image : List ℕ) → RunLent
+runLent l image =
+    record { image = image; memory = l .memory; beats = l .beats; out = l .out; budget = l .budget; report = l .report }
+
+-- ---- the calls
+
+-- sgdma_create in mode 2, sgdma_write_register at 8, next_descriptor_pointer, and at 4, control, and sgdma_run: each with the
+-- number that it gave back, over the image that the one before it left
+pub record Called (l : Lends) (created pointed started : ℕ) (left : RunLeft) : Type 0 where
+  pub x1 : List ℕ
+  pub x2 : List ℕ
+  pub x3 : List ℕ
+  pub create : Created (l .image) 2 (l .window .base) (l .window .length) created x1
+  pub point : RegisterWritten x1 8 (l .pointer) pointed x2
+  pub start : RegisterWritten x2 4 (l .control) started x3
+  pub run : Promised (runLent l x3) left
+
+-- ---- what is found after them
+
+-- every call gives back 0
+pub record NoneRefused (created pointed started : ℕ) (left : RunLeft) : Type 0 where
+  pub create : created ≡ 0
+  pub point : pointed ≡ 0
+  pub start : started ≡ 0
+  pub run : left .number ≡ 0
+
+-- with budget enough
+pub record Found (g : Given) (l : Lends) (left : RunLeft) : Type 0 where
+  -- the outcome of demand 3, in the window's bytes
+  pub told : Ran
+  pub outcome : Outcome g told (left .memory)
+  -- the report: reason 1, Ended; 2 steps and for each of the k its bytes and 2 more; the beats given, all taken; none made
+  pub report : left .report
+      ≡ rowBytes MostFirst (2 ∷ 4 ∷ 4 ∷ 4 ∷ []) (1 ∷ (2 + cost (shares g)) ∷ given (shares g) ∷ 0 ∷ [])
+  -- the image is that of the machine after the run, and loads back as it
+  pub image : left .image ≡ imageOf (told .machine)
+  pub loads : loadOf (left .image) ≡ Good (told .machine)
+  -- the lent output is as it was
+  pub output : left .out ≡ l .out
+
+-- with any budget: after every step
+pub record FoundAtEveryStep (g : Given) (l : Lends) (left : RunLeft) : Type 0 where
+  pub first-few : FirstFew (l .window) (l .memory) (shares g) (left .memory)
+  -- the image is that of the machine after so many steps of the run, and loads back as it
+  pub image : left .image ≡ imageOf (run (l .budget) (worldFor g) .world .machine)
+  pub loads : loadOf (left .image) ≡ Good (run (l .budget) (worldFor g) .world .machine)
+  -- one that is not enough is spent: the report begins with reason 6, Budget, and as many steps
+  pub spent : l .budget < 2 + cost (shares g) → take 6 (left .report) ≡ rowBytes MostFirst (2 ∷ 4 ∷ []) (6 ∷ l .budget ∷ [])

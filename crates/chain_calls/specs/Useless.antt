@@ -1,0 +1,80 @@
+-- The paper's useless models, as models of sgdma_run. That none of them keeps the promise of sgdma_run is `refuser-fails`,
+-- `fixed-fails`, `never-moving-fails`, `marker-fails` and `made-up-fails`.
+-- Assumes nothing.
+use Prim.Native.Nat.{ℕ, _+_, _^_, _<_}
+use mathlib.Core.Path.{_≡_}
+use mathlib.Core.Logic.{_≢_}
+use mathlib.Core.List.{List}
+use lib.ListN.{length, getD, take}
+use Rattle.words.specs.declared.Order.the-variants.{MostFirst}
+use Rattle.words.specs.Orders.{numberOf}
+use Rattle.words.specs.Slices.{part}
+use Rattle.words.proofs.Bytes.{AllBytes}
+use Rattle.machine.specs.declared.Machine.{Machine}
+use Rattle.machine.specs.declared.LoadedMachine.the-variants.{Good}
+use Rattle.machine.specs.Saved.{loadOf}
+use Rattle.machine.specs.Run.{run, serves, lentOf, worldOf}
+use Rattle.sgdma.specs.Calls.{imageOf}
+use Rattle.chain.specs.Chain.{All, machineFor, links, Share, shares, Sent, sentByAll, Premises}
+use Rattle.chain_calls.specs.InC.{RunLent, RunLeft, Promised, Lends, WellLent, givenIn, runLent}
+
+-- a model: what it leaves of whatever it is lent
+abbrev pub Model : Type 0
+Model = RunLent → RunLeft
+
+-- what a caller in C can lend
+pub record InBytes (x : RunLent) : Type 0 where
+  pub image : AllBytes (x .image)
+  pub memory : AllBytes (x .memory)
+  pub beats : AllBytes (x .beats)
+  pub out : AllBytes (x .out)
+  pub budget : x .budget < 2 ^ 32
+  pub report : AllBytes (x .report)
+
+-- the model keeps the promise of sgdma_run
+abbrev pub Keeps : Model → Type 0
+Keeps f = (x : RunLent) → InBytes x → Promised x (f x)
+
+-- ---- "the one that refuses everything"
+
+abbrev pub RefusesEverything : Model → Type 0
+RefusesEverything f = (x : RunLent) → f x .number ≢ 0
+
+-- ---- "the one with one fixed answer"
+
+abbrev pub OneFixedAnswer : Model → Type 0
+OneFixedAnswer f = (x y : RunLent) → f x ≡ f y
+
+-- ---- "the one that never moves"
+
+abbrev pub NeverMoves : Model → Type 0
+NeverMoves f = (x : RunLent) → f x .memory ≡ x .memory
+
+-- ---- "the one that does the first descriptor honestly and only marks the others"
+
+-- the bytes that are sent by the first descriptor
+abbrev pub sentByFirst : List Share → List Sent
+sentByFirst ss = sentByAll (take 1 ss)
+
+-- whatever it makes of the places where these land and of every descriptor's last four bytes: no other byte of the window differs
+abbrev pub OnlyMarksTheOthers : Model → Type 0
+OnlyMarksTheOthers f = (l : Lends) (k : ℕ) → WellLent l → Premises (givenIn l k) → (place : ℕ)
+    → All (λ s. s .to ≢ l .window .base + place) (sentByFirst (shares (givenIn l k)))
+    → All (λ d. (j : ℕ) → j < 4 → l .window .base + place ≢ d .at + (28 + j)) (links (givenIn l k))
+    → getD (f (runLent l (imageOf (machineFor (givenIn l k)))) .memory) place 0 ≡ getD (l .memory) place 0
+
+-- ---- "A made-up step count"
+
+-- the steps that a report tells: 32 bits behind the reason's 16
+abbrev pub stepsTold : List ℕ → ℕ
+stepsTold report = numberOf MostFirst (part report 2 4)
+
+-- of some run that is not refused it tells another number than that of the applications of the step rule
+pub record MakesUpSteps (f : Model) : Type 0 where
+  pub lent : RunLent
+  pub bytes : InBytes lent
+  pub machine : Machine
+  pub loads : loadOf (lent .image) ≡ Good machine
+  pub report-size : length (lent .report) ≡ 14
+  pub not-refused : lentOf machine (lent .memory) (lent .beats) (lent .out) ≡ serves
+  pub made-up : stepsTold (f lent .report) ≢ run (lent .budget) (worldOf machine (lent .memory) (lent .beats) (lent .out)) .steps
