@@ -1,6 +1,7 @@
 // The saved image of a machine: 44 bytes, its fields as numbers, and the rule that each field keeps.
 ghost use mathlib.Core.Path.{_≡_};
 ghost use mathlib.Core.List.{[], _∷_};
+ghost use lib.Dec.{eqb};
 ghost use lib.ListN.{length};
 ghost use Rattle.words.specs.Numbers.{join, Fit};
 ghost use Rattle.words.specs.Promise.{Gives, Leaves};
@@ -9,8 +10,8 @@ ghost use Rattle.words.specs.declared.Order.the-variants.{MostFirst};
 ghost use Rattle.bus.specs.Window.{keepsLimits, inWindow};
 ghost use Rattle.image.specs.Layout.{flag, values, widths, image, fields};
 ghost use Rattle.image.specs.InWords.{headWidths, sizesWidths, doneWidths, ofWords};
-ghost use Rattle.image.specs.Rules.{zeroOutside, phaseKept, faultKept, statusKept, controlKept, addressKept, sizeKept, dcontrolKept, errorsKept, asked, movedKept, eopKept, rules, firstFalse, lowestBroken};
-ghost use Rattle.image.specs.Promise.{WasRead, Wrote};
+ghost use Rattle.image.specs.Rules.{zeroOutside, phaseKept, faultKept, statusKept, controlKept, addressKept, sizeKept, dcontrolKept, errorsKept, asked, movedKept, eopKept, rules, firstFalse, lowestBroken, keepsRules};
+ghost use Rattle.image.specs.Promise.{fits, imagePut, WasRead, Wrote};
 use bus::BusAddress;
 use bus::CheckedWindow;
 use bus::Located;
@@ -259,6 +260,26 @@ pub fn broken(f: Fields) -> u32
     first_false(kept(f))
 }
 
+// Whether all are true. Each is looked at, whatever the one before, so that the compiler makes no branch and keeps no array.
+fn all(kept: [bool; 22]) -> bool
+    ensures { λ r. ⌜ r ≡ eqb (firstFalse 1 kept) 0 ⌝ }
+{
+    let mut all = true;
+    let mut i: usize = 0;
+    while i < 22 {
+        all = all & kept[i];
+        i += 1;
+    }
+    all
+}
+
+// Whether the fields keep the rules.
+pub fn keeps(f: Fields) -> bool
+    ensures { λ r. ⌜ Gives (keepsRules f) r ⌝ }
+{
+    all(kept(f))
+}
+
 // A bool as its bit.
 fn bit(b: bool) -> u8
     ensures { λ r. ⌜ r ≡ flag b ⌝ }
@@ -418,7 +439,7 @@ pub fn read(from: &[u8]) -> ReadImage
         return ReadImage::Refused(Refusal::BadSize);
     }
     let f = unpack(from);
-    if broken(f) != 0 {
+    if !keeps(f) {
         return ReadImage::Refused(Refusal::BadImage);
     }
     ReadImage::Good(f)
@@ -431,9 +452,30 @@ pub fn write(f: Fields, to: &mut [u8]) -> WroteImage
     if to.len() != SIZE {
         return WroteImage::Refused(Refusal::BadSize);
     }
-    if broken(f) != 0 {
+    if !keeps(f) {
         return WroteImage::Refused(Refusal::BadImage);
     }
     pack(f, to);
     WroteImage::Done
+}
+
+// Whether each number fits its width. Where the type has no more bits than the width it does.
+fn fit(f: Fields) -> bool
+    ensures { λ r. ⌜ r ≡ fits f ⌝ }
+{
+    (f.edition < 16) & (f.mode < 4) & (f.phase < 8) & (f.fault < 32) & (f.rest < 0x8000)
+}
+
+// Writes the image of fields, whether they keep the rules or not: for a caller that knows that they do. Where the size is wrong or
+// a number does not fit its width nothing is written.
+pub fn put(f: Fields, to: &mut [u8])
+    ensures { λ _. ⌜ Leaves (imagePut f (now (to .entry))) (now (to .exit)) ⌝ }
+{
+    if to.len() != SIZE {
+        return;
+    }
+    if !fit(f) {
+        return;
+    }
+    pack(f, to);
 }
