@@ -84,7 +84,8 @@ const SW_RESET: u32 = 0x1_0000;
 const OWNED_BY_HW: u8 = 128;
 
 // A function for each rule of several parts. The definition that it ensures has the paper's sentence. `hand` is true in Move and
-// WriteBack, where a descriptor is in hand; `reads` in the modes 0 and 1, which read memory; `writes` in 0 and 2.
+// WriteBack, where a descriptor is in hand; `reads` in the modes 0 and 1, which read memory; `writes` in 0 and 2. Where a phase
+// needs much of a rule and the others little, the phase is branched on: from call to call it is nearly always the same.
 fn phase_kept(mode: u8, phase: u8) -> bool
     ensures { λ r. ⌜ r ≡ phaseKept mode phase ⌝ }
 {
@@ -94,13 +95,14 @@ fn phase_kept(mode: u8, phase: u8) -> bool
 fn fault_kept(mode: u8, phase: u8, fault: u8) -> bool
     ensures { λ r. ⌜ r ≡ faultKept mode phase fault ⌝ }
 {
-    let faulted = phase == FAULTED;
+    if phase != FAULTED {
+        return fault == 0;
+    }
     let reads = (mode == 0) | (mode == 1);
     let writes = (mode == 0) | (mode == 2);
-    let code = ((10 <= fault) & (fault <= 14))
+    ((10 <= fault) & (fault <= 14))
         & (!((fault == 12) | (fault == 13)) | reads)
-        & (!(fault == 14) | writes);
-    (!faulted | code) & (faulted | (fault == 0))
+        & (!(fault == 14) | writes)
 }
 
 fn status_kept(mode: u8, phase: u8, status: u8) -> bool
@@ -147,8 +149,11 @@ fn in_window(base: u32, window: u32, address: u32) -> bool
 fn address_kept(hand: bool, base: u32, window: u32, address: u32) -> bool
     ensures { λ r. ⌜ r ≡ addressKept hand base window address ⌝ }
 {
+    if !hand {
+        return address == 0;
+    }
     let inside = in_window(base, window, address);
-    (hand | (address == 0)) & (!hand | ((address % 4 == 0) & inside))
+    (address % 4 == 0) & inside
 }
 
 fn zero_outside(hand: bool, x: u32) -> bool
@@ -188,23 +193,23 @@ fn whole(mode: u8, size: u16) -> u16
 fn moved_kept(phase: u8, whole: u16, errors: u8, moved: u16) -> bool
     ensures { λ r. ⌜ r ≡ movedKept phase whole errors moved ⌝ }
 {
-    let moving = phase == MOVE;
-    let done = phase == WRITE_BACK;
-    ((moving | done) | (moved == 0))
-        & (!moving | ((moved < whole) & (!(moved == 0) | (errors == 0))))
-        & (!done | ((1 <= moved) & (moved <= whole)))
+    if phase == MOVE {
+        return (moved < whole) & (!(moved == 0) | (errors == 0));
+    }
+    if phase == WRITE_BACK {
+        return (1 <= moved) & (moved <= whole);
+    }
+    moved == 0
 }
 
 fn eop_kept(mode: u8, phase: u8, whole: u16, moved: u16, eop: bool) -> bool
     ensures { λ r. ⌜ r ≡ eopKept mode phase whole moved eop ⌝ }
 {
-    let moving = phase == MOVE;
-    let done = phase == WRITE_BACK;
+    if phase != WRITE_BACK {
+        return !eop;
+    }
     let reads = (mode == 0) | (mode == 1);
-    ((moving | done) | !eop)
-        & (!reads | !eop)
-        & (!moving | !eop)
-        & (!done | ((moved == whole) | eop))
+    (!reads | !eop) & ((moved == whole) | eop)
 }
 
 // Whether each field keeps its rule, in layout order.
