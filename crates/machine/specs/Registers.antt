@@ -82,8 +82,11 @@ readOf m offset = cond (keeps m) (registerAt m offset) (read.Refused BadImage)
 
 -- ---- the line is up exactly when an interrupt is pending and IE_GLOBAL is 1
 
+abbrev pub lineUp : Machine → Bool
+lineUp m = m .pending && ieGlobal (m .control)
+
 unfoldable pub lineOf : Machine → Line
-lineOf m = cond (keeps m) (cond (m .pending && ieGlobal (m .control)) line.Up line.Down) (line.Refused BadImage)
+lineOf m = cond (keeps m) (cond (lineUp m) line.Up line.Down) (line.Refused BadImage)
 
 -- ---- the paper's number of each answer
 

@@ -5,7 +5,7 @@ ghost use Prim.Native.Nat.{_≤_, _<_};
 ghost use Rattle.words.specs.Promise.{Gives};
 ghost use Rattle.image.specs.Layout.{flag as flagOf};
 ghost use Rattle.machine.specs.State.{fresh as freshOf, statusNumber, rested as restedOf};
-ghost use Rattle.machine.specs.Registers.{statusWritten, stored as storedOf, released as releasedOf, controlWritten, registerAt, writtenAt, WasRead, WasWritten, WasLine};
+ghost use Rattle.machine.specs.Registers.{statusWritten, stored as storedOf, released as releasedOf, controlWritten, registerAt, writtenAt, lineUp, WasRead, WasWritten, WasLine};
 use crate::Control;
 use crate::Machine;
 use crate::Mode;
@@ -163,7 +163,7 @@ impl Machine {
     }
 }
 
-// The three registers of a machine that is known to keep the rules, as one that was loaded is: 1 for any other offset.
+// The three registers and the line of a machine that is known to keep the rules, as one that was loaded is: 1 for any other offset.
 impl Machine {
     // Reading changes nothing.
     pub fn register(self, offset: u32) -> ReadRegister
@@ -197,6 +197,14 @@ impl Machine {
         }
         WroteRegister::Refused(Refusal::NoRegister)
     }
+
+    // Whether the interrupt line is up: exactly when an interrupt is pending and IE_GLOBAL is 1.
+    pub fn up(self) -> bool
+        ensures { λ r. ⌜ Gives (lineUp self) r ⌝ }
+    {
+        let up = self.pending & has(self.control.0, Control::IE_GLOBAL);
+        up
+    }
 }
 
 // The same of any machine: 8 for one that breaks a rule, before 1.
@@ -219,14 +227,12 @@ impl Machine {
         self.written(offset, value)
     }
 
-    // Up exactly when an interrupt is pending and IE_GLOBAL is 1.
     pub fn line(self) -> Line
         ensures { λ r. ⌜ WasLine self r ⌝ }
     {
         if !self.keeps() {
             return Line::Refused(Refusal::BadImage);
         }
-        let up = self.pending & has(self.control.0, Control::IE_GLOBAL);
-        if up { Line::Up } else { Line::Down }
+        if self.up() { Line::Up } else { Line::Down }
     }
 }

@@ -20,7 +20,8 @@ use Rattle.machine.specs.declared.LoadedMachine.the-variants.{Good, Refused}
 use Rattle.machine.specs.declared.registers.ReadRegister.{ReadRegister}
 use Rattle.machine.specs.declared.registers.WroteRegister.{WroteRegister}
 use Rattle.machine.specs.Saved.{keeps, loadedAs, loadOf, WasLoaded}
-use Rattle.machine.specs.Registers.{registerAt, readOf, writtenAt, writeOf, WasRead, WasWritten}
+use Rattle.machine.specs.declared.registers.Line.the-variants as line
+use Rattle.machine.specs.Registers.{registerAt, readOf, writtenAt, writeOf, lineUp, lineOf, WasRead, WasWritten}
 use Rattle.met.proofs.RoundTrip.{loaded-keeps}
 use Rattle.words.specs.Promise.{Gives}
 use Rattle.sgdma.specs.Calls.{isSize}
@@ -62,3 +63,7 @@ module _ (xs : List ℕ) {m : Machine} (e : loadOf xs ≡ Good m) where
   pub written-loaded : (offset v : ℕ) {a : WroteRegister} → Gives (writtenAt m offset v) a → WasWritten m offset v a
   unfolding writeOf
   written-loaded offset v g = record { answer = rw keeps-loaded (g .value) }
+
+  pub line-loaded : {up : Bool} → Gives (lineUp m) up → lineOf m ≡ cond up line.Up line.Down
+  unfolding lineOf
+  line-loaded g = rw (keeps-loaded, sym (g .value))

@@ -29,7 +29,6 @@ use machine::Mode;
 use machine::Ran;
 use machine::Reason;
 use machine::RunAnswer;
-use machine::registers::Line;
 use machine::registers::ReadRegister;
 use machine::registers::WroteRegister;
 use words::Order;
@@ -132,18 +131,12 @@ pub extern "C" fn sgdma_line(image: &[u8], value: &mut [u8]) -> u32
     let LoadedMachine::Good(m) = Machine::load(image) else {
         return Refusal::BadImage.number();
     };
-    let line = m.line();
-    match line {
-        Line::Refused(why) => why.number(),
-        Line::Up => {
-            put_u32(Order::MostFirst, value, 0, 1);
-            0
-        }
-        Line::Down => {
-            put_u32(Order::MostFirst, value, 0, 0);
-            0
-        }
+    if m.up() {
+        put_u32(Order::MostFirst, value, 0, 1);
+        return 0;
     }
+    put_u32(Order::MostFirst, value, 0, 0);
+    0
 }
 
 // The paper's number of a reason.
