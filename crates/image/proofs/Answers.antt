@@ -7,7 +7,7 @@ use mathlib.Core.List.{List}
 use mathlib.Core.Logic.{_↔_}
 use native.Mathlib.Omega.{arith}
 use lib.ListN.{length}
-use borrow.Author.Tests.{eq-eqb, ne-eqb, eqb-true}
+use borrow.Author.Tests.{eq-eqb, ne-eqb, eqb-true, lt-ltb}
 use Rattle.words.specs.Numbers.{Fit}
 use Rattle.words.proofs.Bytes.{AllBytes}
 use Rattle.bus.specs.declared.Refusal.the-variants.{BadSize, BadImage}
@@ -18,17 +18,14 @@ use Rattle.image.specs.declared.WroteImage.{WroteImage}
 use Rattle.image.specs.declared.WroteImage.the-variants as wrote
 use Rattle.image.specs.Layout.{values, widths, image, fields}
 use Rattle.image.specs.Rules.{lowestBroken, keepsRules}
-use Rattle.image.specs.Promise.{sized, readOf, wroteOf, imageOver, readNumber, wroteNumber, imageNumber, WasRead, Wrote}
+use Rattle.image.specs.Promise.{sized, readOf, wroteOf, imageOver, fits, imagePut, readNumber, wroteNumber, imageNumber, WasRead, Wrote}
+use Rattle.image.proofs.Facts.{edition-is, mode-le, phase-le, fault-le, rest-is}
 use Rattle.image.proofs.RoundTrip.{length-image, fields-image, image-fields, fields-fit}
 use Rattle.image.proofs.Fitting.{Typed, keeps-fit, fit-typed}
 
 pub keeps : (f : Fields) → lowestBroken f ≡ 0 → keepsRules f ≡ true
 unfolding keepsRules
 keeps f e = eq-eqb _ _ e
-
-pub breaks : (f : Fields) → (lowestBroken f ≡ 0 → ⊥) → keepsRules f ≡ false
-unfolding keepsRules
-breaks f e = ne-eqb _ _ e
 
 pub kept-none : (f : Fields) → keepsRules f ≡ true → lowestBroken f ≡ 0
 unfolding keepsRules
@@ -50,13 +47,13 @@ module _ (xs : List ℕ) where
   unfolding readOf
   read-size h = rw (ne-eqb (length xs) 44 h)
 
-  pub read-broken : length xs ≡ 44 → (lowestBroken (fields xs) ≡ 0 → ⊥) → readOf xs ≡ read.Refused BadImage
+  pub read-broken : length xs ≡ 44 → keepsRules (fields xs) ≡ false → readOf xs ≡ read.Refused BadImage
   unfolding readOf
-  read-broken l h = rw (eq-eqb (length xs) 44 l, breaks (fields xs) h)
+  read-broken l h = rw (eq-eqb (length xs) 44 l, h)
 
-  pub read-good : length xs ≡ 44 → lowestBroken (fields xs) ≡ 0 → readOf xs ≡ read.Good (fields xs)
+  pub read-good : length xs ≡ 44 → keepsRules (fields xs) ≡ true → readOf xs ≡ read.Good (fields xs)
   unfolding readOf
-  read-good l h = rw (eq-eqb (length xs) 44 l, keeps (fields xs) h)
+  read-good l h = rw (eq-eqb (length xs) 44 l, h)
 
 -- what a good answer tells
 good-from : (t k : Bool) (g f : Fields) → cond t (cond k (read.Good g) (read.Refused BadImage)) (read.Refused BadSize) ≡ read.Good f
@@ -92,7 +89,7 @@ module _ (xs : List ℕ) (f : Fields) (e : readOf xs ≡ read.Good f) where
 pub read-image : (f : Fields) → Typed f → lowestBroken f ≡ 0 → readOf (image f) ≡ read.Good f
 read-image f t e =
     let back : fields (image f) ≡ f = fields-image f (keeps-fit f t e) in
-    read-good (image f) (length-image f) (ap lowestBroken back ∙ e) ∙ ap read.Good back
+    read-good (image f) (length-image f) (ap keepsRules back ∙ keeps f e) ∙ ap read.Good back
 
 -- bytes are read as f exactly when they are 44, f keeps the rules and they are its image
 pub read-exactly : (xs : List ℕ) (f : Fields) → AllBytes xs → Typed f
@@ -121,13 +118,39 @@ module _ (f : Fields) (xs : List ℕ) where
   unfolding wroteOf imageOver
   wrote-size h = was-wrote (rw (ne-eqb (length xs) 44 h)) (rw (ne-eqb (length xs) 44 h))
 
-  pub wrote-broken : length xs ≡ 44 → (lowestBroken f ≡ 0 → ⊥) → Wrote f xs (wrote.Refused BadImage) xs
+  pub wrote-broken : length xs ≡ 44 → keepsRules f ≡ false → Wrote f xs (wrote.Refused BadImage) xs
   unfolding wroteOf imageOver
-  wrote-broken l h = was-wrote (rw (eq-eqb (length xs) 44 l, breaks f h)) (rw (eq-eqb (length xs) 44 l, breaks f h))
+  wrote-broken l h = was-wrote (rw (eq-eqb (length xs) 44 l, h)) (rw (eq-eqb (length xs) 44 l, h))
 
-  pub wrote-done : length xs ≡ 44 → lowestBroken f ≡ 0 → (ys : List ℕ) → ys ≡ image f → Wrote f xs wrote.Done ys
+  pub wrote-done : length xs ≡ 44 → keepsRules f ≡ true → (ys : List ℕ) → ys ≡ image f → Wrote f xs wrote.Done ys
   unfolding wroteOf imageOver
-  wrote-done l h ys e = was-wrote (rw (eq-eqb (length xs) 44 l, keeps f h)) (e ∙ rw (eq-eqb (length xs) 44 l, keeps f h))
+  wrote-done l h ys e = was-wrote (rw (eq-eqb (length xs) 44 l, h)) (e ∙ rw (eq-eqb (length xs) 44 l, h))
+
+-- ---- putting
+
+-- fields that keep the rules fit
+pub keeps-fits : (f : Fields) → lowestBroken f ≡ 0 → fits f ≡ true
+unfolding fits
+keeps-fits f e = rw (
+  edition-is f e,
+  lt-ltb (f .mode) 4 (let h = mode-le f e in omega arith),
+  lt-ltb (f .phase) 8 (let h = phase-le f e in omega arith),
+  lt-ltb (f .fault) 32 (let h = fault-le f e in omega arith),
+  rest-is f e,
+)
+
+module _ (f : Fields) (xs : List ℕ) where
+  pub put-size : (length xs ≡ 44 → ⊥) → imagePut f xs ≡ xs
+  unfolding imagePut
+  put-size h = rw (ne-eqb (length xs) 44 h)
+
+  pub put-wide : length xs ≡ 44 → fits f ≡ false → imagePut f xs ≡ xs
+  unfolding imagePut
+  put-wide l h = rw (eq-eqb (length xs) 44 l, h)
+
+  pub put-fits : length xs ≡ 44 → fits f ≡ true → imagePut f xs ≡ image f
+  unfolding imagePut
+  put-fits l h = rw (eq-eqb (length xs) 44 l, h)
 
 -- what a done answer tells
 done-from : (t k : Bool) → wrote.Done ≡ cond t (cond k wrote.Done (wrote.Refused BadImage)) (wrote.Refused BadSize) → (t ≡ true) × (k ≡ true)

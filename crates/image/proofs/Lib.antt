@@ -1,3 +1,4 @@
+pub mod Foremost
 pub mod Windows
 pub mod RoundTrip
 pub mod WordByWord

@@ -1,7 +1,7 @@
 -- What tests put together tell of their parts.
 -- Assumes nothing.
 use mathlib.Core.Path.{_≡_, refl, sym}
-use mathlib.Core.Bool.{Bool, true, false, _&&_, _||_, true≢false}
+use mathlib.Core.Bool.{Bool, true, false, not, _&&_, _||_, true≢false}
 use Rattle.image.specs.Rules.{_⇒_, _exactly_}
 
 pub and-left : (a b : Bool) → (a && b) ≡ true → a ≡ true
@@ -39,3 +39,19 @@ exactly-same true true e = refl
 exactly-same true false e = sym e
 exactly-same false true e = e
 exactly-same false false e = refl
+
+pub and-true : (a : Bool) → (a && true) ≡ a
+and-true true = refl
+and-true false = refl
+
+-- a mark that is 0 elsewhere, and 0 in the phase too, is 0
+pub no-mark : (there reads mark : Bool)
+    → ((there || false || not mark) && (not reads || not mark) && (not there || not mark) && true) ≡ not mark
+no-mark true true true = refl
+no-mark true true false = refl
+no-mark true false true = refl
+no-mark true false false = refl
+no-mark false true true = refl
+no-mark false true false = refl
+no-mark false false true = refl
+no-mark false false false = refl

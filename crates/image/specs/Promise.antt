@@ -14,7 +14,7 @@ use Rattle.image.specs.declared.ReadImage.the-variants as read
 use Rattle.image.specs.declared.WroteImage.{WroteImage}
 use Rattle.image.specs.declared.WroteImage.the-variants as wrote
 use Rattle.image.specs.Layout.{image, fields}
-use Rattle.image.specs.Rules.{keepsRules}
+use Rattle.image.specs.Rules.{zeroFrom, keepsRules}
 
 -- a lent image of the right size
 abbrev pub sized : List ℕ → Bool
@@ -32,6 +32,15 @@ wroteOf f xs = cond (sized xs) (cond (keepsRules f) wrote.Done (wrote.Refused Ba
 -- the lent bytes after: the image, or what they were where the call is refused
 unfoldable pub imageOver : Fields → List ℕ → List ℕ
 imageOver f xs = cond (sized xs && keepsRules f) (image f) xs
+
+-- each number fits its width; those that are not named do by their types
+unfoldable pub fits : Fields → Bool
+fits f = zeroFrom 4 (f .edition) && zeroFrom 2 (f .mode) && zeroFrom 3 (f .phase) && zeroFrom 5 (f .fault) && zeroFrom 15 (f .rest)
+
+-- the lent bytes after fields were put that may break a rule: the image, or what they were where the size is wrong or a number
+-- does not fit
+unfoldable pub imagePut : Fields → List ℕ → List ℕ
+imagePut f xs = cond (sized xs && fits f) (image f) xs
 
 -- the paper's number of each answer
 abbrev pub readNumber : ReadImage → ℕ

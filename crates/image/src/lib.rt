@@ -1,6 +1,7 @@
 // The saved image of a machine: 44 bytes, its fields as numbers, and the rule that each field keeps.
 ghost use mathlib.Core.Path.{_≡_};
 ghost use mathlib.Core.List.{[], _∷_};
+ghost use lib.Dec.{eqb};
 ghost use lib.ListN.{length};
 ghost use Rattle.words.specs.Numbers.{join, Fit};
 ghost use Rattle.words.specs.Promise.{Gives, Leaves};
@@ -9,8 +10,8 @@ ghost use Rattle.words.specs.declared.Order.the-variants.{MostFirst};
 ghost use Rattle.bus.specs.Window.{keepsLimits, inWindow};
 ghost use Rattle.image.specs.Layout.{flag, values, widths, image, fields};
 ghost use Rattle.image.specs.InWords.{headWidths, sizesWidths, doneWidths, ofWords};
-ghost use Rattle.image.specs.Rules.{zeroOutside, phaseKept, faultKept, statusKept, controlKept, addressKept, sizeKept, dcontrolKept, errorsKept, asked, movedKept, eopKept, rules, firstFalse, lowestBroken};
-ghost use Rattle.image.specs.Promise.{WasRead, Wrote};
+ghost use Rattle.image.specs.Rules.{zeroOutside, phaseKept, faultKept, statusKept, controlKept, addressKept, sizeKept, dcontrolKept, errorsKept, asked, movedKept, eopKept, rules, firstFalse, lowestBroken, keepsRules};
+ghost use Rattle.image.specs.Promise.{fits, imagePut, WasRead, Wrote};
 use bus::BusAddress;
 use bus::CheckedWindow;
 use bus::Located;
@@ -83,7 +84,8 @@ const SW_RESET: u32 = 0x1_0000;
 const OWNED_BY_HW: u8 = 128;
 
 // A function for each rule of several parts. The definition that it ensures has the paper's sentence. `hand` is true in Move and
-// WriteBack, where a descriptor is in hand; `reads` in the modes 0 and 1, which read memory; `writes` in 0 and 2.
+// WriteBack, where a descriptor is in hand; `reads` in the modes 0 and 1, which read memory; `writes` in 0 and 2. Where a phase
+// needs much of a rule and the others little, the phase is branched on: from call to call it is nearly always the same.
 fn phase_kept(mode: u8, phase: u8) -> bool
     ensures { λ r. ⌜ r ≡ phaseKept mode phase ⌝ }
 {
@@ -93,13 +95,14 @@ fn phase_kept(mode: u8, phase: u8) -> bool
 fn fault_kept(mode: u8, phase: u8, fault: u8) -> bool
     ensures { λ r. ⌜ r ≡ faultKept mode phase fault ⌝ }
 {
-    let faulted = phase == FAULTED;
+    if phase != FAULTED {
+        return fault == 0;
+    }
     let reads = (mode == 0) | (mode == 1);
     let writes = (mode == 0) | (mode == 2);
-    let code = ((10 <= fault) & (fault <= 14))
+    ((10 <= fault) & (fault <= 14))
         & (!((fault == 12) | (fault == 13)) | reads)
-        & (!(fault == 14) | writes);
-    (!faulted | code) & (faulted | (fault == 0))
+        & (!(fault == 14) | writes)
 }
 
 fn status_kept(mode: u8, phase: u8, status: u8) -> bool
@@ -146,8 +149,11 @@ fn in_window(base: u32, window: u32, address: u32) -> bool
 fn address_kept(hand: bool, base: u32, window: u32, address: u32) -> bool
     ensures { λ r. ⌜ r ≡ addressKept hand base window address ⌝ }
 {
+    if !hand {
+        return address == 0;
+    }
     let inside = in_window(base, window, address);
-    (hand | (address == 0)) & (!hand | ((address % 4 == 0) & inside))
+    (address % 4 == 0) & inside
 }
 
 fn zero_outside(hand: bool, x: u32) -> bool
@@ -187,23 +193,23 @@ fn whole(mode: u8, size: u16) -> u16
 fn moved_kept(phase: u8, whole: u16, errors: u8, moved: u16) -> bool
     ensures { λ r. ⌜ r ≡ movedKept phase whole errors moved ⌝ }
 {
-    let moving = phase == MOVE;
-    let done = phase == WRITE_BACK;
-    ((moving | done) | (moved == 0))
-        & (!moving | ((moved < whole) & (!(moved == 0) | (errors == 0))))
-        & (!done | ((1 <= moved) & (moved <= whole)))
+    if phase == MOVE {
+        return (moved < whole) & (!(moved == 0) | (errors == 0));
+    }
+    if phase == WRITE_BACK {
+        return (1 <= moved) & (moved <= whole);
+    }
+    moved == 0
 }
 
 fn eop_kept(mode: u8, phase: u8, whole: u16, moved: u16, eop: bool) -> bool
     ensures { λ r. ⌜ r ≡ eopKept mode phase whole moved eop ⌝ }
 {
-    let moving = phase == MOVE;
-    let done = phase == WRITE_BACK;
+    if phase != WRITE_BACK {
+        return !eop;
+    }
     let reads = (mode == 0) | (mode == 1);
-    ((moving | done) | !eop)
-        & (!reads | !eop)
-        & (!moving | !eop)
-        & (!done | ((moved == whole) | eop))
+    (!reads | !eop) & ((moved == whole) | eop)
 }
 
 // Whether each field keeps its rule, in layout order.
@@ -257,6 +263,26 @@ pub fn broken(f: Fields) -> u32
     ensures { λ r. ⌜ Gives (lowestBroken f) r ⌝ }
 {
     first_false(kept(f))
+}
+
+// Whether all are true. Each is looked at, whatever the one before, so that the compiler makes no branch and keeps no array.
+fn all(kept: [bool; 22]) -> bool
+    ensures { λ r. ⌜ r ≡ eqb (firstFalse 1 kept) 0 ⌝ }
+{
+    let mut all = true;
+    let mut i: usize = 0;
+    while i < 22 {
+        all = all & kept[i];
+        i += 1;
+    }
+    all
+}
+
+// Whether the fields keep the rules.
+pub fn keeps(f: Fields) -> bool
+    ensures { λ r. ⌜ Gives (keepsRules f) r ⌝ }
+{
+    all(kept(f))
 }
 
 // A bool as its bit.
@@ -418,7 +444,7 @@ pub fn read(from: &[u8]) -> ReadImage
         return ReadImage::Refused(Refusal::BadSize);
     }
     let f = unpack(from);
-    if broken(f) != 0 {
+    if !keeps(f) {
         return ReadImage::Refused(Refusal::BadImage);
     }
     ReadImage::Good(f)
@@ -431,9 +457,30 @@ pub fn write(f: Fields, to: &mut [u8]) -> WroteImage
     if to.len() != SIZE {
         return WroteImage::Refused(Refusal::BadSize);
     }
-    if broken(f) != 0 {
+    if !keeps(f) {
         return WroteImage::Refused(Refusal::BadImage);
     }
     pack(f, to);
     WroteImage::Done
+}
+
+// Whether each number fits its width. Where the type has no more bits than the width it does.
+fn fit(f: Fields) -> bool
+    ensures { λ r. ⌜ r ≡ fits f ⌝ }
+{
+    (f.edition < 16) & (f.mode < 4) & (f.phase < 8) & (f.fault < 32) & (f.rest < 0x8000)
+}
+
+// Writes the image of fields, whether they keep the rules or not: for a caller that knows that they do. Where the size is wrong or
+// a number does not fit its width nothing is written.
+pub fn put(f: Fields, to: &mut [u8])
+    ensures { λ _. ⌜ Leaves (imagePut f (now (to .entry))) (now (to .exit)) ⌝ }
+{
+    if to.len() != SIZE {
+        return;
+    }
+    if !fit(f) {
+        return;
+    }
+    pack(f, to);
 }

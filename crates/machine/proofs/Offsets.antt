@@ -2,19 +2,18 @@
 -- Assumes nothing.
 use Prim.Native.Nat.{ℕ}
 use mathlib.Core.Path.{_≡_}
-use mathlib.Core.Bool.{Bool, true}
 use borrow.Author.Tests.{ne-eqb}
 use Rattle.machine.specs.Registers.{chosen}
 
-module _ {A : Type 0} (status control pointer none broken : A) (keeps : Bool) (offset : ℕ) (k : keeps ≡ true) where
-  pub at-status : offset ≡ 0 → chosen keeps broken offset status control pointer none ≡ status
-  at-status e = rw (k, e)
+module _ {A : Type 0} (status control pointer none : A) (offset : ℕ) where
+  pub at-status : offset ≡ 0 → chosen offset status control pointer none ≡ status
+  at-status e = rw e
 
-  pub at-control : offset ≡ 4 → chosen keeps broken offset status control pointer none ≡ control
-  at-control e = rw (k, e)
+  pub at-control : offset ≡ 4 → chosen offset status control pointer none ≡ control
+  at-control e = rw e
 
-  pub at-pointer : offset ≡ 8 → chosen keeps broken offset status control pointer none ≡ pointer
-  at-pointer e = rw (k, e)
+  pub at-pointer : offset ≡ 8 → chosen offset status control pointer none ≡ pointer
+  at-pointer e = rw e
 
-  pub at-none : (offset ≡ 0 → ⊥) → (offset ≡ 4 → ⊥) → (offset ≡ 8 → ⊥) → chosen keeps broken offset status control pointer none ≡ none
-  at-none e f g = rw (k, ne-eqb offset 0 e, ne-eqb offset 4 f, ne-eqb offset 8 g)
+  pub at-none : (offset ≡ 0 → ⊥) → (offset ≡ 4 → ⊥) → (offset ≡ 8 → ⊥) → chosen offset status control pointer none ≡ none
+  at-none e f g = rw (ne-eqb offset 0 e, ne-eqb offset 4 f, ne-eqb offset 8 g)

@@ -20,10 +20,10 @@ use Rattle.machine.specs.declared.registers.Line.the-variants as line
 use Rattle.machine.specs.State.{statusNumber, ieGlobal, run, swReset, withStatus, withPointer, withControl, rested, fresh}
 use Rattle.machine.specs.Saved.{keeps}
 
--- offsets 0 status, 4 control, 8 next_descriptor_pointer; any other is none. A machine that breaks a rule comes before that
-abbrev pub chosen {ℓ} : {A : Type ℓ} → (keeps : Bool) (broken : A) (offset : ℕ) (status control pointer none : A) → A
-chosen keeps broken offset status control pointer none =
-    cond keeps (cond (eqb offset 0) status (cond (eqb offset 4) control (cond (eqb offset 8) pointer none))) broken
+-- offsets 0 status, 4 control, 8 next_descriptor_pointer; any other is none
+abbrev pub chosen {ℓ} : {A : Type ℓ} → (offset : ℕ) (status control pointer none : A) → A
+chosen offset status control pointer none =
+    cond (eqb offset 0) status (cond (eqb offset 4) control (cond (eqb offset 8) pointer none))
 
 -- ---- writing
 
@@ -62,22 +62,31 @@ controlWritten v m =
     cond (bit 16 v && swReset (m .control)) (fresh (m .mode) (m .window))
     (cond (bit 5 v) (stored v m) (released (m .phase) (stored v m)))
 
+abbrev pub writtenAt : Machine → (offset v : ℕ) → WroteRegister
+writtenAt m offset v =
+    chosen offset (wrote.Done (statusWritten v m)) (wrote.Done (controlWritten v m)) (wrote.Done (withPointer v m)) (wrote.Refused NoRegister)
+
+-- a machine that breaks a rule comes before an offset that is none
 unfoldable pub writeOf : Machine → (offset v : ℕ) → WroteRegister
-writeOf m offset v =
-    chosen (keeps m) (wrote.Refused BadImage) offset (wrote.Done (statusWritten v m)) (wrote.Done (controlWritten v m))
-    (wrote.Done (withPointer v m)) (wrote.Refused NoRegister)
+writeOf m offset v = cond (keeps m) (writtenAt m offset v) (wrote.Refused BadImage)
 
 -- ---- reading changes nothing
 
+abbrev pub registerAt : Machine → (offset : ℕ) → ReadRegister
+registerAt m offset =
+    chosen offset (read.Value (statusNumber (m .status))) (read.Value (m .control .0)) (read.Value (m .pointer .0)) (read.Refused NoRegister)
+
+-- a machine that breaks a rule comes before an offset that is none
 unfoldable pub readOf : Machine → (offset : ℕ) → ReadRegister
-readOf m offset =
-    chosen (keeps m) (read.Refused BadImage) offset (read.Value (statusNumber (m .status))) (read.Value (m .control .0))
-    (read.Value (m .pointer .0)) (read.Refused NoRegister)
+readOf m offset = cond (keeps m) (registerAt m offset) (read.Refused BadImage)
 
 -- ---- the line is up exactly when an interrupt is pending and IE_GLOBAL is 1
 
+abbrev pub lineUp : Machine → Bool
+lineUp m = m .pending && ieGlobal (m .control)
+
 unfoldable pub lineOf : Machine → Line
-lineOf m = cond (keeps m) (cond (m .pending && ieGlobal (m .control)) line.Up line.Down) (line.Refused BadImage)
+lineOf m = cond (keeps m) (cond (lineUp m) line.Up line.Down) (line.Refused BadImage)
 
 -- ---- the paper's number of each answer
 

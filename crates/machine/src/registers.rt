@@ -5,7 +5,7 @@ ghost use Prim.Native.Nat.{_≤_, _<_};
 ghost use Rattle.words.specs.Promise.{Gives};
 ghost use Rattle.image.specs.Layout.{flag as flagOf};
 ghost use Rattle.machine.specs.State.{fresh as freshOf, statusNumber, withPhase, withBusy, withPointer, rested as restedOf};
-ghost use Rattle.machine.specs.Registers.{statusWritten, stored as storedOf, released as releasedOf, controlWritten, WasRead, WasWritten, WasLine};
+ghost use Rattle.machine.specs.Registers.{statusWritten, stored as storedOf, released as releasedOf, controlWritten, registerAt, writtenAt, lineUp, WasRead, WasWritten, WasLine};
 use crate::Control;
 use crate::Machine;
 use crate::Mode;
@@ -178,15 +178,12 @@ impl Machine {
     }
 }
 
-// The three registers, and 8 for a machine that breaks a rule before 1 for any other offset.
+// The three registers and the line of a machine that is known to keep the rules, as one that was loaded is: 1 for any other offset.
 impl Machine {
     // Reading changes nothing.
-    pub fn read_register(self, offset: u32) -> ReadRegister
-        ensures { λ r. ⌜ WasRead self offset r ⌝ }
+    pub fn register(self, offset: u32) -> ReadRegister
+        ensures { λ r. ⌜ Gives (registerAt self offset) r ⌝ }
     {
-        if !self.keeps() {
-            return ReadRegister::Refused(Refusal::BadImage);
-        }
         if offset == Status::OFFSET {
             let status = self.status;
             return ReadRegister::Value(status.number());
@@ -200,12 +197,9 @@ impl Machine {
         ReadRegister::Refused(Refusal::NoRegister)
     }
 
-    pub fn write_register(self, offset: u32, value: u32) -> WroteRegister
-        ensures { λ r. ⌜ WasWritten self offset value r ⌝ }
+    pub fn written(self, offset: u32, value: u32) -> WroteRegister
+        ensures { λ r. ⌜ Gives (writtenAt self offset value) r ⌝ }
     {
-        if !self.keeps() {
-            return WroteRegister::Refused(Refusal::BadImage);
-        }
         if offset == Status::OFFSET {
             return WroteRegister::Done(self.status_written(value));
         }
@@ -218,14 +212,41 @@ impl Machine {
         WroteRegister::Refused(Refusal::NoRegister)
     }
 
-    // Up exactly when an interrupt is pending and IE_GLOBAL is 1.
+    // Whether the interrupt line is up: exactly when an interrupt is pending and IE_GLOBAL is 1.
+    pub fn up(self) -> bool
+        ensures { λ r. ⌜ Gives (lineUp self) r ⌝ }
+    {
+        let up = self.pending & has(self.control.0, Control::IE_GLOBAL);
+        up
+    }
+}
+
+// The same of any machine: 8 for one that breaks a rule, before 1.
+impl Machine {
+    pub fn read_register(self, offset: u32) -> ReadRegister
+        ensures { λ r. ⌜ WasRead self offset r ⌝ }
+    {
+        if !self.keeps() {
+            return ReadRegister::Refused(Refusal::BadImage);
+        }
+        self.register(offset)
+    }
+
+    pub fn write_register(self, offset: u32, value: u32) -> WroteRegister
+        ensures { λ r. ⌜ WasWritten self offset value r ⌝ }
+    {
+        if !self.keeps() {
+            return WroteRegister::Refused(Refusal::BadImage);
+        }
+        self.written(offset, value)
+    }
+
     pub fn line(self) -> Line
         ensures { λ r. ⌜ WasLine self r ⌝ }
     {
         if !self.keeps() {
             return Line::Refused(Refusal::BadImage);
         }
-        let up = self.pending & has(self.control.0, Control::IE_GLOBAL);
-        if up { Line::Up } else { Line::Down }
+        if self.up() { Line::Up } else { Line::Down }
     }
 }

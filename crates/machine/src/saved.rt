@@ -1,6 +1,7 @@
 // The machine as the fields of its image, and back; load and save.
 ghost use mathlib.Core.Path.{_≡_};
-ghost use Rattle.words.specs.Promise.{Gives};
+ghost use Rattle.words.specs.Promise.{Gives, Leaves};
+ghost use Rattle.image.specs.Promise.{imagePut};
 ghost use Rattle.machine.specs.State.{modeNumber, phaseNumber, statusNumber};
 ghost use Rattle.machine.specs.Saved.{checkedMode, inHand, faultIn, fieldsOf, keeps as keepsOf, modeOf, statusOf, workOf, phaseOf, machineOf, WasLoaded, WasSaved};
 use crate::CheckedMode;
@@ -219,7 +220,7 @@ impl Machine {
     pub(crate) fn keeps(self) -> bool
         ensures { λ r. ⌜ r ≡ keepsOf self ⌝ }
     {
-        image::broken(self.fields()) == 0
+        image::keeps(self.fields())
     }
 
     // The machine of 44 bytes that keep the rules.
@@ -242,5 +243,13 @@ impl Machine {
             WroteImage::Done => SavedMachine::Done,
             WroteImage::Refused(why) => SavedMachine::Refused(why),
         }
+    }
+
+    // Writes the 44 bytes of a machine that is known to keep the rules. It looks at the size and the widths alone: where the
+    // slice is not of 44 bytes or a number does not fit its width nothing is written.
+    pub fn put(self, to: &mut [u8])
+        ensures { λ _. ⌜ Leaves (imagePut (fieldsOf self) (now (to .entry))) (now (to .exit)) ⌝ }
+    {
+        image::put(self.fields(), to);
     }
 }

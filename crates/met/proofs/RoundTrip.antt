@@ -117,7 +117,7 @@ pub saves : {m : Machine} {ys zs : List ℕ} {r : SavedMachine} → core.keeps m
     → (r ≡ saved.Done) × (zs ≡ image (core.fieldsOf m))
 unfolding core.saveOf
 saves {m} {ys} k l s =
-    let w = wrote-done (core.fieldsOf m) ys l (kept-none (core.fieldsOf m) k) (image (core.fieldsOf m)) refl in
+    let w = wrote-done (core.fieldsOf m) ys l k (image (core.fieldsOf m)) refl in
     (s .answer ∙ ap core.savedAs (sym (w .answer)), s .lent ∙ sym (w .lent))
 
 -- the image of a machine that keeps the rules loads as it

@@ -2,11 +2,13 @@
 -- Assumes nothing.
 use Prim.Native.Nat.{ℕ}
 use mathlib.Core.Path.{_≡_, refl, sym, ap, _∙_}
+use mathlib.Core.Bool.{Bool, cond}
 use mathlib.Core.List.{List}
 use lib.ListN.{length}
 use borrow.Author.Tests.{eq-eqb, ne-eqb}
 use Rattle.words.specs.declared.Order.the-variants.{MostFirst}
 use Rattle.words.specs.Orders.{bytesOf}
+use Rattle.words.specs.Promise.{Gives}
 use Rattle.words.specs.Slices.{putAt}
 use Rattle.words.proofs.Orders.{length-bytes}
 use Rattle.descriptor.specs.declared.ReadDescriptor.{ReadDescriptor}
@@ -23,9 +25,9 @@ use Rattle.machine.specs.declared.registers.ReadRegister.the-variants as regist
 use Rattle.machine.specs.declared.registers.Line.{Line}
 use Rattle.machine.specs.declared.registers.Line.the-variants as line
 use Rattle.machine.specs.Saved.{loadOf}
-use Rattle.machine.specs.Registers.{readNumber, lineNumber, WasRead, WasLine}
+use Rattle.machine.specs.Registers.{registerAt, lineUp, readNumber, lineNumber}
 use Rattle.sgdma.specs.Calls.{registerOf, readCall, valueOver, RegisterRead, lineIn, lineCall, lineOver, LineRead, descriptorCall, answerOver, DescriptorRead}
-use Rattle.sgdma.proofs.Opened.{first-wrong, second-wrong, sizes-right, not-loaded}
+use Rattle.sgdma.proofs.Opened.{first-wrong, second-wrong, sizes-right, not-loaded, register-loaded, line-loaded}
 
 -- a value that fills the lent bytes
 pub value-put : (v : ℕ) (xs : List ℕ) → length xs ≡ 4 → putAt xs 0 (bytesOf MostFirst 4 v) ≡ bytesOf MostFirst 4 v
@@ -54,11 +56,11 @@ module _ {xs value ys : List ℕ} {offset r : ℕ} where
           answers (register.Refused BadImage)
           (sizes-right _ _ 4 xs value l k ∙ ap (λ (x : LoadedMachine). registerOf x offset) (not-loaded xs why l e)) p q
 
-      pub register-answers : {m : Machine} {a b : ReadRegister} → loadOf xs ≡ loaded.Good m → WasRead m offset a → a ≡ b
+      pub register-answers : {m : Machine} {a b : ReadRegister} → loadOf xs ≡ loaded.Good m → Gives (registerAt m offset) a → a ≡ b
           → r ≡ readNumber b → ys ≡ valueOver b value → RegisterRead xs offset value r ys
       unfolding readCall
       register-answers {m} {a} {b} e w f p q =
-          answers b (sizes-right _ _ 4 xs value l k ∙ ap (λ (x : LoadedMachine). registerOf x offset) e ∙ sym (w .answer) ∙ f) p q
+          answers b (sizes-right _ _ 4 xs value l k ∙ ap (λ (x : LoadedMachine). registerOf x offset) e ∙ sym (register-loaded xs e offset w .answer) ∙ f) p q
 
 -- ---- sgdma_line
 
@@ -81,11 +83,11 @@ module _ {xs value ys : List ℕ} {r : ℕ} where
       line-spoiled {why} e p q =
           line-says (line.Refused BadImage) (sizes-right _ _ 4 xs value l k ∙ ap lineIn (not-loaded xs why l e)) p q
 
-      pub line-answers : {m : Machine} {a b : Line} → loadOf xs ≡ loaded.Good m → WasLine m a → a ≡ b
+      pub line-answers : {m : Machine} {up : Bool} (b : Line) → loadOf xs ≡ loaded.Good m → Gives (lineUp m) up → cond up line.Up line.Down ≡ b
           → r ≡ lineNumber b → ys ≡ lineOver b value → LineRead xs value r ys
       unfolding lineCall
-      line-answers {m} {a} {b} e w f p q =
-          line-says b (sizes-right _ _ 4 xs value l k ∙ ap lineIn e ∙ sym (w .answer) ∙ f) p q
+      line-answers b e g f p q =
+          line-says b (sizes-right _ _ 4 xs value l k ∙ ap lineIn e ∙ line-loaded xs e g ∙ f) p q
 
 -- ---- sgdma_read_descriptor
 

@@ -8,6 +8,7 @@ use native.Mathlib.Omega.{arith}
 use lib.Dec.{leb}
 use lib.ListN.{length}
 use borrow.Author.Tests.{eq-eqb, ne-eqb}
+use Rattle.words.specs.Promise.{Gives}
 use Rattle.bus.specs.declared.Refusal.{Refusal}
 use Rattle.bus.specs.declared.Refusal.the-variants.{BadMode, BadWindow, BadSize, BadImage}
 use Rattle.bus.specs.declared.Window.{Window}
@@ -25,12 +26,12 @@ use Rattle.machine.specs.declared.registers.WroteRegister.{WroteRegister}
 use Rattle.machine.specs.declared.registers.WroteRegister.the-variants as wrote
 use Rattle.machine.specs.State.{fresh}
 use Rattle.machine.specs.Saved.{keeps, modeOf, checkedMode, loadedAs, loadOf, WasLoaded}
-use Rattle.machine.specs.Registers.{wroteNumber, WasWritten}
+use Rattle.machine.specs.Registers.{writtenAt, wroteNumber}
 use Rattle.met.specs.Sound.{Sound}
 use Rattle.met.proofs.RoundTrip.{loaded-keeps, loaded-typed}
 use Rattle.met.proofs.Writes.{fresh-keeps, write-keeps}
 use Rattle.sgdma.specs.Calls.{imageOf, createNumber, Created, writtenIn, writtenOver, RegisterWritten}
-use Rattle.sgdma.proofs.Opened.{not-loaded}
+use Rattle.sgdma.proofs.Opened.{not-loaded, written-loaded}
 
 -- ---- sgdma_write_register
 
@@ -40,9 +41,9 @@ sound-loaded xs {m} e =
     let l : WasLoaded xs (Good m) = record { answer = sym e } in
     record { rules = loaded-keeps l; typed = loaded-typed l }
 
-pub written-keeps : (xs : List ℕ) {m n : Machine} {offset v : ℕ} {a : WroteRegister}
-    → loadOf xs ≡ Good m → v < 2 ^ 32 → WasWritten m offset v a → a ≡ wrote.Done n → keeps n ≡ true
-written-keeps xs e h w f = write-keeps (sound-loaded xs e) h (record { answer = sym f ∙ w .answer }) .rules
+pub written-keeps : (xs : List ℕ) {m n : Machine} (offset v : ℕ) {a : WroteRegister}
+    → loadOf xs ≡ Good m → v < 2 ^ 32 → Gives (writtenAt m offset v) a → a ≡ wrote.Done n → keeps n ≡ true
+written-keeps xs offset v e h w f = write-keeps (sound-loaded xs e) h (record { answer = sym f ∙ written-loaded xs e offset v w .answer }) .rules
 
 module _ {xs ys : List ℕ} {offset v r : ℕ} where
   says : (a : WroteRegister) → writtenIn (loadOf xs) offset v ≡ a → r ≡ wroteNumber a → ys ≡ writtenOver a xs → RegisterWritten xs offset v r ys
@@ -57,9 +58,9 @@ module _ {xs ys : List ℕ} {offset v r : ℕ} where
   image-spoiled {why} l e p q =
       says (wrote.Refused BadImage) (ap (λ (x : LoadedMachine). writtenIn x offset v) (not-loaded xs why l e)) p q
 
-  pub write-answers : {m : Machine} {a b : WroteRegister} → loadOf xs ≡ Good m → WasWritten m offset v a → a ≡ b
+  pub write-answers : {m : Machine} {a b : WroteRegister} → loadOf xs ≡ Good m → Gives (writtenAt m offset v) a → a ≡ b
       → r ≡ wroteNumber b → ys ≡ writtenOver b xs → RegisterWritten xs offset v r ys
-  write-answers {m} {a} {b} e w f p q = says b (ap (λ (x : LoadedMachine). writtenIn x offset v) e ∙ sym (w .answer) ∙ f) p q
+  write-answers {m} {a} {b} e w f p q = says b (ap (λ (x : LoadedMachine). writtenIn x offset v) e ∙ sym (written-loaded xs e offset v w .answer) ∙ f) p q
 
 -- ---- sgdma_create
 

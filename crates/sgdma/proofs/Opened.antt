@@ -1,4 +1,4 @@
--- The sizes of what is lent, and an image that does not load.
+-- The sizes of what is lent, an image that does not load, and the registers of one that does.
 -- Assumes nothing.
 use Prim.Native.Nat.{ℕ}
 use mathlib.Core.Path.{_≡_, refl, sym, ap, _∙_}
@@ -13,9 +13,17 @@ use Rattle.image.specs.declared.Fields.{Fields}
 use Rattle.image.specs.declared.ReadImage.the-variants as read
 use Rattle.image.specs.Layout.{fields}
 use Rattle.image.specs.Rules.{keepsRules}
-use Rattle.image.specs.Promise.{sized, readOf}
+use Rattle.image.specs.Promise.{sized}
+use Rattle.image.specs.Promise as image
+use Rattle.machine.specs.declared.Machine.{Machine}
 use Rattle.machine.specs.declared.LoadedMachine.the-variants.{Good, Refused}
-use Rattle.machine.specs.Saved.{loadedAs, loadOf}
+use Rattle.machine.specs.declared.registers.ReadRegister.{ReadRegister}
+use Rattle.machine.specs.declared.registers.WroteRegister.{WroteRegister}
+use Rattle.machine.specs.Saved.{keeps, loadedAs, loadOf, WasLoaded}
+use Rattle.machine.specs.declared.registers.Line.the-variants as line
+use Rattle.machine.specs.Registers.{registerAt, readOf, writtenAt, writeOf, lineUp, lineOf, WasRead, WasWritten}
+use Rattle.met.proofs.RoundTrip.{loaded-keeps}
+use Rattle.words.specs.Promise.{Gives}
 use Rattle.sgdma.specs.Calls.{isSize}
 
 -- a call that looks at two sizes
@@ -35,7 +43,27 @@ refused-by false f why e = cc
 
 -- an image of the right size that does not load breaks a rule
 pub not-loaded : (xs : List ℕ) (why : Refusal) → length xs ≡ 44 → loadOf xs ≡ Refused why → loadOf xs ≡ Refused BadImage
-unfolding loadOf readOf
+unfolding loadOf image.readOf
 not-loaded xs why l e =
     let h : loadOf xs ≡ loadedAs (cond (keepsRules (fields xs)) (read.Good (fields xs)) (read.Refused BadImage)) = rw (eq-eqb (length xs) 44 l) in
     e ∙ ap Refused (refused-by (keepsRules (fields xs)) (fields xs) why (sym h ∙ e))
+
+-- ---- a loaded machine keeps the rules, so that its registers are those of any machine
+
+module _ (xs : List ℕ) {m : Machine} (e : loadOf xs ≡ Good m) where
+  pub keeps-loaded : keeps m ≡ true
+  keeps-loaded =
+      let l : WasLoaded xs (Good m) = record { answer = sym e } in
+      loaded-keeps l
+
+  pub register-loaded : (offset : ℕ) {a : ReadRegister} → Gives (registerAt m offset) a → WasRead m offset a
+  unfolding readOf
+  register-loaded offset g = record { answer = rw keeps-loaded (g .value) }
+
+  pub written-loaded : (offset v : ℕ) {a : WroteRegister} → Gives (writtenAt m offset v) a → WasWritten m offset v a
+  unfolding writeOf
+  written-loaded offset v g = record { answer = rw keeps-loaded (g .value) }
+
+  pub line-loaded : {up : Bool} → Gives (lineUp m) up → lineOf m ≡ cond up line.Up line.Down
+  unfolding lineOf
+  line-loaded g = rw (keeps-loaded, sym (g .value))

@@ -29,7 +29,6 @@ use machine::Mode;
 use machine::Ran;
 use machine::Reason;
 use machine::RunAnswer;
-use machine::registers::Line;
 use machine::registers::ReadRegister;
 use machine::registers::WroteRegister;
 use words::Order;
@@ -52,7 +51,7 @@ fn put_image(m: Machine, image: &mut [u8])
     requires { ⌜ length (now image) ≡ 44 ⌝ }
     ensures { λ _. ⌜ Leaves (imageOf m) (now (image .exit)) ⌝ }
 {
-    m.save(image);
+    m.put(image);
 }
 
 // Makes the image of a fresh core.
@@ -84,8 +83,8 @@ pub extern "C" fn sgdma_write_register(image: &mut [u8], offset: u32, value: u32
     let LoadedMachine::Good(m) = Machine::load(image) else {
         return Refusal::BadImage.number();
     };
-    let written = m.write_register(offset, value);
-    match written {
+    let answer = m.written(offset, value);
+    match answer {
         WroteRegister::Refused(why) => why.number(),
         WroteRegister::Done(n) => {
             put_image(n, image);
@@ -108,7 +107,7 @@ pub extern "C" fn sgdma_read_register(image: &[u8], offset: u32, value: &mut [u8
     let LoadedMachine::Good(m) = Machine::load(image) else {
         return Refusal::BadImage.number();
     };
-    let answer = m.read_register(offset);
+    let answer = m.register(offset);
     match answer {
         ReadRegister::Refused(why) => why.number(),
         ReadRegister::Value(v) => {
@@ -132,18 +131,12 @@ pub extern "C" fn sgdma_line(image: &[u8], value: &mut [u8]) -> u32
     let LoadedMachine::Good(m) = Machine::load(image) else {
         return Refusal::BadImage.number();
     };
-    let line = m.line();
-    match line {
-        Line::Refused(why) => why.number(),
-        Line::Up => {
-            put_u32(Order::MostFirst, value, 0, 1);
-            0
-        }
-        Line::Down => {
-            put_u32(Order::MostFirst, value, 0, 0);
-            0
-        }
+    if m.up() {
+        put_u32(Order::MostFirst, value, 0, 1);
+        return 0;
     }
+    put_u32(Order::MostFirst, value, 0, 0);
+    0
 }
 
 // The paper's number of a reason.

@@ -4,7 +4,7 @@
 use Prim.Native.Nat.{ℕ, suc, _+_, _*_, _%_, _^_}
 use mathlib.Core.Path.{_≡_, refl, sym, ap, subst, _∙_}
 use mathlib.Core.List.{List, [], _∷_, _++_, append-assoc, reverse, reverse-reverse}
-use native.Mathlib.Nat.{mod-eq-of-lt, suc-ne-zero, suc-inj}
+use native.Mathlib.Nat.{mod-lt, mod-eq-of-lt, suc-ne-zero, suc-inj}
 use native.Mathlib.Omega.{arith}
 use lib.ListN.{length, take, drop, length-append, length-replicate, length-reverse, length-drop, take-append-drop}
 use lib.Seq.{take-at, drop-at, length-take-le}
@@ -41,6 +41,21 @@ bytes-number order xs g =
     let fit : Fit (bytes (length xs)) (inOrder order xs) =
     subst (λ (n : ℕ). Fit (bytes n) (inOrder order xs)) (length-order order xs) (bytes-fit (inOrder order xs) (order-bytes order xs g)) in
     rw (split-join (bytes (length xs)) (inOrder order xs) fit) (order-back order xs)
+
+-- four bytes that are taken least first and then turned are taken in the order asked for
+pub turn-number : (order : Order) (a b c d : ℕ) → AllBytes (a ∷ b ∷ c ∷ d ∷ [])
+    → join (bytes 4) (inOrder order (bytesOf LeastFirst 4 (join (bytes 4) (d ∷ c ∷ b ∷ a ∷ [])))) ≡ join (bytes 4) (inOrder order (a ∷ b ∷ c ∷ d ∷ []))
+turn-number order a b c d g = ap (λ (xs : List ℕ). join (bytes 4) (inOrder order xs)) (bytes-number LeastFirst (a ∷ b ∷ c ∷ d ∷ []) g)
+
+split-bytes : (v : ℕ) → AllBytes (split (bytes 4) v)
+split-bytes v =
+    (mod-lt _ (omega arith), (mod-lt _ (omega arith), (mod-lt _ (omega arith), (mod-lt _ (omega arith), tt))))
+
+-- a number that is turned and then put least first stands in the order asked for
+pub turn-bytes : (order : Order) (v : ℕ) → bytesOf LeastFirst 4 (join (bytes 4) (inOrder order (bytesOf LeastFirst 4 v))) ≡ bytesOf order 4 v
+turn-bytes MostFirst v = bytes-number LeastFirst (split (bytes 4) v) (split-bytes v)
+turn-bytes LeastFirst v =
+    bytes-number LeastFirst (reverse (split (bytes 4) v)) (order-bytes LeastFirst (split (bytes 4) v) (split-bytes v))
 
 -- the widths in bits of numbers of so many bytes
 abbrev pub bitWidths : List ℕ → List ℕ

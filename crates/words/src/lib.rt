@@ -4,10 +4,12 @@
 // never summed, so that it cannot wrap.
 ghost use mathlib.Core.List.{[], _∷_};
 ghost use mathlib.Core.Path.{_≡_};
+ghost use Prim.Native.Nat.{_/_, _%_, _<_};
 ghost use Rattle.words.specs.Numbers.{join, bytes};
 ghost use Rattle.words.specs.Orders.{inOrder, bytesOf, wordBytes};
 ghost use Rattle.words.specs.Slices.{putAt, numberAt};
 ghost use Rattle.words.specs.Promise.{Gives, Leaves};
+ghost use Rattle.words.specs.declared.Order.the-variants.{LeastFirst};
 
 // Which byte of a number stands first.
 pub enum Order {
@@ -38,12 +40,27 @@ fn half_in(order: Order, a: u8, b: u8) -> u16
     }
 }
 
-fn word_in(order: Order, a: u8, b: u8, c: u8, d: u8) -> u32
-    ensures { λ r. ⌜ r ≡ join (bytes 4) (inOrder order (a ∷ b ∷ c ∷ d ∷ [])) ⌝ }
+// The byte of this weight.
+fn byte(v: u32, weight: u32) -> u8
+    requires { ⌜ 0 < weight ⌝ }
+    ensures { λ r. ⌜ r ≡ v / weight % 256 ⌝ }
+{
+    (v / weight % 256) as u8
+}
+
+// A number that was taken least significant byte first, in the order asked for; and back. Bytes that are all taken in this one
+// order are moved four at a time by the compiler, and the turn is one instruction of the machine.
+fn turned(order: Order, v: u32) -> u32
+    ensures { λ r. ⌜ r ≡ join (bytes 4) (inOrder order (bytesOf LeastFirst 4 v)) ⌝ }
 {
     match order {
-        Order::MostFirst => word(a, b, c, d),
-        Order::LeastFirst => word(d, c, b, a),
+        Order::MostFirst => word(
+            byte(v, 1),
+            byte(v, 256),
+            byte(v, 0x1_0000),
+            byte(v, 0x100_0000),
+        ),
+        Order::LeastFirst => v,
     }
 }
 
@@ -70,7 +87,8 @@ pub fn get_u32(order: Order, from: &[u8], at: usize) -> u32
     if from.len() - 4 < at {
         return 0;
     }
-    word_in(order, from[at], from[at + 1], from[at + 2], from[at + 3])
+    let v = word(from[at + 3], from[at + 2], from[at + 1], from[at]);
+    turned(order, v)
 }
 
 fn put_two(to: &mut [u8], at: usize, a: u8, b: u8)
@@ -117,14 +135,15 @@ pub fn put_u16(order: Order, to: &mut [u8], at: usize, v: u16)
 pub fn put_u32(order: Order, to: &mut [u8], at: usize, v: u32)
     ensures { λ _. ⌜ Leaves (putAt (now (to .entry)) at (bytesOf order 4 v)) (now (to .exit)) ⌝ }
 {
-    let a = (v / 0x100_0000 % 256) as u8;
-    let b = (v / 0x1_0000 % 256) as u8;
-    let c = (v / 256 % 256) as u8;
-    let d = (v % 256) as u8;
-    match order {
-        Order::MostFirst => put_four(to, at, a, b, c, d),
-        Order::LeastFirst => put_four(to, at, d, c, b, a),
-    }
+    let w = turned(order, v);
+    put_four(
+        to,
+        at,
+        byte(w, 1),
+        byte(w, 256),
+        byte(w, 0x1_0000),
+        byte(w, 0x100_0000),
+    );
 }
 
 // Writes 32-bit numbers one after the other from a place on.

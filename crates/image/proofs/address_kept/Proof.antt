@@ -1,12 +1,23 @@
+use mathlib.Core.Bool.{true, false}
+use mathlib.Core.Path.{_≡_, sym}
 use borrow.Author.Needs.{needs}
+use borrow.Author.Tests.{not-true, not-false}
+use Rattle.image.proofs.Tests.{and-true}
 use Rattle.image.proofs.address_kept.Statement.{statement}
 use Rattle.image.proofs.address_kept.Tie as tie
+
+returns : tie.Need-returns
+returns c =
+    let h : c .before .args .hand ≡ false = not-true _ (c .if1 .taken) in
+    rw h (sym (and-true _))
 
 in-window-requires : tie.Need-in-window-requires
 in-window-requires c κs = search needs
 
-returns : tie.Need-returns
-returns c = rw (c .in-window .ensures)
+returns-2 : tie.Need-returns-2
+returns-2 c =
+    let h : c .before .before .args .hand ≡ true = not-false _ (c .before .if1 .left) in
+    rw (h, c .in-window .ensures)
 
 pub address-kept-spec : {M : Type 1} → statement M
-address-kept-spec = tie.close (tie.spec in-window-requires returns)
+address-kept-spec = tie.close (tie.spec returns in-window-requires returns-2)

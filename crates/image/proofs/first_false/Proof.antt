@@ -1,26 +1,13 @@
-use Prim.Native.Nat.{ℕ, _≤_, _<_, _+_, _-_}
+use Prim.Native.Nat.{_≤_, _<_, _+_, _-_}
 use mathlib.Core.Path.{_≡_, refl, sym, _∙_}
-use mathlib.Core.Bool.{Bool, true, false}
-use mathlib.Core.List.{List}
 use native.Mathlib.Omega.{arith}
-use native.Mathlib.Numerals.{add-one}
 use borrow.Author.Needs.{needs}
 use borrow.Author.Tests.{not-true, not-false}
-use lib.ListN.{length, getD, drop, drop-of-length-le}
-use lib.Seq.{drop-cons}
+use lib.ListN.{length, drop}
 use Rattle.image.specs.Rules.{firstFalse}
+use Rattle.image.proofs.Foremost.{past, found, none}
 use Rattle.image.proofs.first_false.Statement.{statement}
 use Rattle.image.proofs.first_false.Tie as tie
-
--- the first that fails is past those that hold
-past : (bs : List Bool) (i : ℕ) (d : Bool) → i < length bs → getD bs i d ≡ true → firstFalse (i + 1) (drop i bs) ≡ firstFalse (i + 1 + 1) (drop (i + 1) bs)
-past bs i d h e = rw (drop-cons bs i d h, e, add-one (i + 1), add-one i)
-
-found : (bs : List Bool) (i : ℕ) (d : Bool) → i < length bs → getD bs i d ≡ false → firstFalse (i + 1) (drop i bs) ≡ i + 1
-found bs i d h e = rw (drop-cons bs i d h, e)
-
-none : (bs : List Bool) (i : ℕ) → length bs ≤ i → firstFalse (i + 1) (drop i bs) ≡ 0
-none bs i h = rw (drop-of-length-le bs h)
 
 abbrev Inv-loop : tie.InvT-loop
 Inv-loop kept i₀ i = (i ≤ 22) × (firstFalse 1 kept ≡ firstFalse (i + 1) (drop i kept))

@@ -1,5 +1,6 @@
 use Rattle.image.proofs.Fitting.{Typed, keeps-fit}
-use Rattle.image.proofs.Answers.{wrote-size, wrote-broken, wrote-done}
+use Rattle.image.proofs.Answers.{kept-none, wrote-size, wrote-broken, wrote-done}
+use borrow.Author.Tests.{not-true, not-false}
 use mathlib.Core.Path.{sym, _∙_}
 use borrow.Author.Needs.{needs}
 use Rattle.image.proofs.write.Statement.{statement}
@@ -8,24 +9,24 @@ use Rattle.image.proofs.write.Tie as tie
 returns : tie.Need-returns
 returns c = wrote-size _ _ (c .if1 .taken)
 
-broken-requires : tie.Need-broken-requires
-broken-requires c κs = search needs
+keeps-requires : tie.Need-keeps-requires
+keeps-requires c κs = search needs
 
 returns-2 : tie.Need-returns-2
-returns-2 c = wrote-broken _ _ (c .before .before .if1 .left) (λ z. c .if2 .taken (c .before .broken .ensures .value ∙ z))
+returns-2 c = wrote-broken _ _ (c .before .before .if1 .left) (sym (c .before .keeps .ensures .value) ∙ not-true _ (c .if2 .taken))
 
 typed : (c : tie.Start) → Typed (c .args .f)
 typed c = search needs
 
 pack-requires : tie.Need-pack-requires
-pack-requires c κs = (c .before .before .before .if1 .left, keeps-fit _ (typed (c .before .before .before .before .before)) (sym (c .before .before .broken .ensures .value) ∙ c .before .if2 .left))
+pack-requires c κs = (c .before .before .before .if1 .left, keeps-fit _ (typed (c .before .before .before .before .before)) (kept-none _ (sym (c .before .before .keeps .ensures .value) ∙ not-false _ (c .before .if2 .left))))
 
 same-length : tie.Need-same-length
 same-length c = search needs
 
 returns-3 : tie.Need-returns-3
-returns-3 c = wrote-done _ _ (c .before .before .before .before .before .before .if1 .left) (sym (c .before .before .before .before .before .broken .ensures .value) ∙ c .before .before .before .before .if2 .left) _ (c .before .before .pack .ensures .lent)
+returns-3 c = wrote-done _ _ (c .before .before .before .before .before .before .if1 .left) (sym (c .before .before .before .before .before .keeps .ensures .value) ∙ not-false _ (c .before .before .before .before .if2 .left)) _ (c .before .before .pack .ensures .lent)
 
 pub write-spec : {M : Type 1} → statement M
 write-spec =
-    tie.close (tie.spec returns broken-requires returns-2 pack-requires same-length returns-3)
+    tie.close (tie.spec returns keeps-requires returns-2 pack-requires same-length returns-3)

@@ -1,16 +1,24 @@
-use Rattle.met.proofs.RoundTrip.{saves}
+use Rattle.machine.specs.Saved.{fieldsOf}
+use Rattle.image.proofs.Answers.{kept-none, keeps-fits, put-fits}
+use mathlib.Core.Path.{_∙_}
 use borrow.Author.Needs.{needs}
 use Rattle.sgdma.proofs.put_image.Statement.{statement}
 use Rattle.sgdma.proofs.put_image.Tie as tie
 
-save-requires : tie.Need-save-requires
-save-requires c κs = search needs
+put-requires : tie.Need-put-requires
+put-requires c κs = search needs
 
 same-length : tie.Need-same-length
 same-length c = search needs
 
 returns : tie.Need-returns
-returns c = let a = c .before .before .before .before .before in record { lent = saves (a .pre .0) (a .pre .1) (c .before .before .save .ensures) .1 }
+returns c =
+    let start = c .before .before .before .before .before in
+    let f = fieldsOf (start .args .m) in
+    record {
+      lent = c .before .before .put .ensures .lent
+          ∙ put-fits f (start .args .image .now) (start .pre .1) (keeps-fits f (kept-none f (start .pre .0)));
+    }
 
 pub put-image-spec : {M : Type 1} → statement M
-put-image-spec = tie.close (tie.spec save-requires same-length returns)
+put-image-spec = tie.close (tie.spec put-requires same-length returns)

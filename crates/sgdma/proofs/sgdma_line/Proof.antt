@@ -1,5 +1,7 @@
+use mathlib.Core.Path.{refl, sym, ap, _∙_}
+use mathlib.Core.Bool.{Bool, cond}
+use Rattle.machine.specs.declared.registers.Line.the-variants.{Up, Down}
 use Rattle.sgdma.proofs.Answered.{value-put, line-short, line-value-short, line-spoiled, line-answers}
-use mathlib.Core.Path.{_≡_, refl, sym, _∙_}
 use borrow.Author.Needs.{needs}
 use Rattle.sgdma.proofs.sgdma_line.Statement.{statement}
 use Rattle.sgdma.proofs.sgdma_line.Tie as tie
@@ -31,41 +33,40 @@ number-requires-3 c κs = search needs
 returns-3 : tie.Need-returns-3
 returns-3 c = line-spoiled (c .before .before .before .before .before .if1 .left) (c .before .before .before .before .if2 .left) (sym (c .before .before .before .load .ensures .answer) ∙ c .before .enum-told .given .1) (c .number3 .ensures .value) refl
 
-line-requires : tie.Need-line-requires
-line-requires c κs = search needs
-
-enum-known-line : tie.Need-enum-known-line
-enum-known-line c = search needs
-
-number-requires-4 : tie.Need-number-requires-4
-number-requires-4 c κs = search needs
-
-enum-told-2 : tie.Need-enum-told-2
-enum-told-2 c = search needs
+up-requires : tie.Need-up-requires
+up-requires c κs = search needs
 
 put-u32-requires : tie.Need-put-u32-requires
 put-u32-requires c κs = search needs
 
-enum-told-3 : tie.Need-enum-told-3
-enum-told-3 c = search needs
+same-length : tie.Need-same-length
+same-length c = search needs
+
+returns-4 : tie.Need-returns-4
+returns-4 c =
+    let put = c .before .before in
+    let up = put .before .before .before in
+    let sizes = up .before .before .before .before .before in
+    line-answers (sizes .before .if1 .left) (sizes .if2 .left) Up
+    (sym (up .before .before .before .before .load .ensures .answer) ∙ up .before .before .m .given .1) (up .up .ensures)
+    (ap (λ (b : Bool). cond b Up Down) (put .before .before .if3 .taken)) refl
+    (put .put-u32 .ensures .lent ∙ value-put 1 _ (sizes .if2 .left))
 
 put-u32-requires-2 : tie.Need-put-u32-requires-2
 put-u32-requires-2 c κs = search needs
 
-returns-4 : tie.Need-returns-4
-returns-4 c = line-answers (c .before .before .before .before .before .before .before .before .before .before .if1 .left) (c .before .before .before .before .before .before .before .before .before .if2 .left) (sym (c .before .before .before .before .before .before .before .before .load .ensures .answer) ∙ c .before .before .before .before .before .before .m .given .1) (c .before .before .before .before .line .ensures) (c .before .before .line2 .given .1) (c .number4 .ensures .value) refl
-
-same-length : tie.Need-same-length
-same-length c = search needs
-
-returns-5 : tie.Need-returns-5
-returns-5 c = line-answers (c .before .before .before .before .before .before .before .before .before .before .before .before .if1 .left) (c .before .before .before .before .before .before .before .before .before .before .before .if2 .left) (sym (c .before .before .before .before .before .before .before .before .before .before .load .ensures .answer) ∙ c .before .before .before .before .before .before .before .before .m .given .1) (c .before .before .before .before .before .before .line .ensures) (c .before .before .before .before .enum-told2 .given .1) refl (c .before .before .put-u32 .ensures .lent ∙ value-put 1 _ (c .before .before .before .before .before .before .before .before .before .before .before .if2 .left))
-
 same-length-2 : tie.Need-same-length-2
 same-length-2 c = search needs
 
-returns-6 : tie.Need-returns-6
-returns-6 c = line-answers (c .before .before .before .before .before .before .before .before .before .before .before .before .if1 .left) (c .before .before .before .before .before .before .before .before .before .before .before .if2 .left) (sym (c .before .before .before .before .before .before .before .before .before .before .load .ensures .answer) ∙ c .before .before .before .before .before .before .before .before .m .given .1) (c .before .before .before .before .before .before .line .ensures) (c .before .before .before .before .enum-told3 .given .1) refl (c .before .before .put-u322 .ensures .lent ∙ value-put 0 _ (c .before .before .before .before .before .before .before .before .before .before .before .if2 .left))
+returns-5 : tie.Need-returns-5
+returns-5 c =
+    let put = c .before .before in
+    let up = put .before .before .before in
+    let sizes = up .before .before .before .before .before in
+    line-answers (sizes .before .if1 .left) (sizes .if2 .left) Down
+    (sym (up .before .before .before .before .load .ensures .answer) ∙ up .before .before .m .given .1) (up .up .ensures)
+    (ap (λ (b : Bool). cond b Up Down) (put .before .before .if3 .left)) refl
+    (put .put-u322 .ensures .lent ∙ value-put 0 _ (sizes .if2 .left))
 
 pub sgdma-line-spec : {M : Type 1} → statement M
 sgdma-line-spec =
@@ -80,15 +81,10 @@ sgdma-line-spec =
     enum-told
     number-requires-3
     returns-3
-    line-requires
-    enum-known-line
-    number-requires-4
-    enum-told-2
+    up-requires
     put-u32-requires
-    enum-told-3
-    put-u32-requires-2
-    returns-4
     same-length
-    returns-5
+    returns-4
+    put-u32-requires-2
     same-length-2
-    returns-6)
+    returns-5)

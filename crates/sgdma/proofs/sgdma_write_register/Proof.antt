@@ -28,32 +28,39 @@ same-length c = search needs
 returns-2 : tie.Need-returns-2
 returns-2 c = image-spoiled (c .before .before .before .before .before .if1 .left) (sym (c .before .before .before .load .ensures .answer) ∙ c .before .enum-told .given .1) (c .number2 .ensures .value) refl
 
-write-register-requires : tie.Need-write-register-requires
-write-register-requires c κs = search needs
+written-requires : tie.Need-written-requires
+written-requires c κs = search needs
 
-enum-known-written : tie.Need-enum-known-written
-enum-known-written c = search needs
+enum-known-answer : tie.Need-enum-known-answer
+enum-known-answer c = search needs
 
 number-requires-3 : tie.Need-number-requires-3
 number-requires-3 c κs = search needs
 
-enum-known-written-2 : tie.Need-enum-known-written-2
-enum-known-written-2 c = search needs
+enum-known-answer-2 : tie.Need-enum-known-answer-2
+enum-known-answer-2 c = search needs
 
 put-image-requires : tie.Need-put-image-requires
-put-image-requires c κs = (written-keeps _ (sym (c .before .before .before .before .before .before .before .before .load .ensures .answer) ∙ c .before .before .before .before .before .before .m .given .1) (c .before .before .before .before .before .before .before .before .before .before .before .before .fits .value .fits) (c .before .before .before .before .write-register .ensures) (c .before .before .written2 .given .1), search needs)
+put-image-requires c κs =
+    let load = c .before .before .before .before .before .before .before .before in
+    let start = load .before .before .before .before in (
+      written-keeps _ (start .args .offset) (start .args .value)
+          (sym (load .load .ensures .answer) ∙ c .before .before .before .before .before .before .m .given .1) (start .fits .value .fits)
+          (c .before .before .before .before .written .ensures) (c .before .before .answer2 .given .1),
+      search needs,
+    )
 
 same-length-2 : tie.Need-same-length-2
 same-length-2 c = search needs
 
 returns-3 : tie.Need-returns-3
-returns-3 c = write-answers (sym (c .before .before .before .before .before .before .before .before .load .ensures .answer) ∙ c .before .before .before .before .before .before .m .given .1) (c .before .before .before .before .write-register .ensures) (c .before .before .written .given .1) (c .number3 .ensures .value) refl
+returns-3 c = write-answers (sym (c .before .before .before .before .before .before .before .before .load .ensures .answer) ∙ c .before .before .before .before .before .before .m .given .1) (c .before .before .before .before .written .ensures) (c .before .before .answer .given .1) (c .number3 .ensures .value) refl
 
 same-length-3 : tie.Need-same-length-3
 same-length-3 c = search needs
 
 returns-4 : tie.Need-returns-4
-returns-4 c = write-answers (sym (c .before .before .before .before .before .before .before .before .before .before .before .load .ensures .answer) ∙ c .before .before .before .before .before .before .before .before .before .m .given .1) (c .before .before .before .before .before .before .before .write-register .ensures) (c .before .before .before .before .before .written2 .given .1) refl (c .before .before .put-image .ensures .lent)
+returns-4 c = write-answers (sym (c .before .before .before .before .before .before .before .before .before .before .before .load .ensures .answer) ∙ c .before .before .before .before .before .before .before .before .before .m .given .1) (c .before .before .before .before .before .before .before .written .ensures) (c .before .before .before .before .before .answer2 .given .1) refl (c .before .before .put-image .ensures .lent)
 
 pub sgdma-write-register-spec : {M : Type 1} → statement M
 sgdma-write-register-spec =
@@ -67,10 +74,10 @@ sgdma-write-register-spec =
     number-requires-2
     same-length
     returns-2
-    write-register-requires
-    enum-known-written
+    written-requires
+    enum-known-answer
     number-requires-3
-    enum-known-written-2
+    enum-known-answer-2
     put-image-requires
     same-length-2
     returns-3

@@ -1,58 +1,59 @@
-use mathlib.Core.Path.{_∙_}
-use native.Mathlib.Nat.{div-one}
+use Rattle.words.proofs.Orders.{turn-bytes}
+use Rattle.words.specs.declared.Order.the-variants.{LeastFirst}
+use Rattle.words.specs.Slices.{putAt}
+use Rattle.words.specs.Orders.{bytesOf}
+use mathlib.Core.Path.{ap, _∙_}
+use Prim.Native.Nat.{ℕ}
 use borrow.Author.Needs.{needs}
 use Rattle.words.proofs.put_u32.Statement.{statement}
 use Rattle.words.proofs.put_u32.Tie as tie
 
-cast-a : tie.Need-cast-a
-cast-a c = search needs
+turned-requires : tie.Need-turned-requires
+turned-requires c κs = search needs
 
-cast-b : tie.Need-cast-b
-cast-b c = search needs
+byte-requires : tie.Need-byte-requires
+byte-requires c κs = search needs
 
-cast-c : tie.Need-cast-c
-cast-c c = search needs
+byte-requires-2 : tie.Need-byte-requires-2
+byte-requires-2 c κs = search needs
 
-cast-d : tie.Need-cast-d
-cast-d c = search needs
+byte-requires-3 : tie.Need-byte-requires-3
+byte-requires-3 c κs = search needs
 
-enum-told : tie.Need-enum-told
-enum-told c = search needs
+byte-requires-4 : tie.Need-byte-requires-4
+byte-requires-4 c κs = search needs
 
 put-four-requires : tie.Need-put-four-requires
 put-four-requires c κs = search needs
-
-enum-told-2 : tie.Need-enum-told-2
-enum-told-2 c = search needs
-
-put-four-requires-2 : tie.Need-put-four-requires-2
-put-four-requires-2 c κs = search needs
 
 same-length : tie.Need-same-length
 same-length c = search needs
 
 returns : tie.Need-returns
-returns c = record { lent = c .before .before .put-four .ensures .lent ∙ simp (c .before .before .before .before .enum-told .given .1, div-one) }
-
-same-length-2 : tie.Need-same-length-2
-same-length-2 c = search needs
-
-returns-2 : tie.Need-returns-2
-returns-2 c = record { lent = c .before .before .put-four2 .ensures .lent ∙ simp (c .before .before .before .before .enum-told2 .given .1, div-one) }
+returns c =
+    let four = c .before .before in
+    let turn = four .before .before .before .before .before .before in
+    let a = turn .before .before .args in
+    record {
+      lent = four .put-four .ensures .lent
+          ∙ rw (
+            four .before .before .before .before .byte .ensures,
+            four .before .before .before .byte2 .ensures,
+            four .before .before .byte3 .ensures,
+            four .before .byte4 .ensures,
+          ) (ap (λ (w : ℕ). putAt (a .to .now) (a .at) (bytesOf LeastFirst 4 w)) (turn .turned .ensures)
+          ∙ ap (putAt (a .to .now) (a .at)) (turn-bytes (a .order) (a .v)));
+    }
 
 pub put-u32-spec : {M : Type 1} → statement M
 put-u32-spec =
     tie.close
     (tie.spec
-    cast-a
-    cast-b
-    cast-c
-    cast-d
-    enum-told
+    turned-requires
+    byte-requires
+    byte-requires-2
+    byte-requires-3
+    byte-requires-4
     put-four-requires
-    enum-told-2
-    put-four-requires-2
     same-length
-    returns
-    same-length-2
-    returns-2)
+    returns)

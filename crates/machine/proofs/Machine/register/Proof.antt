@@ -1,0 +1,24 @@
+use Rattle.machine.specs.declared.registers.ReadRegister.the-variants.{Value}
+use Rattle.machine.proofs.Offsets.{at-status, at-control, at-pointer, at-none}
+use mathlib.Core.Path.{sym, ap, _∙_}
+use borrow.Author.Needs.{needs}
+use Rattle.machine.proofs.Machine.register.Statement.{statement}
+use Rattle.machine.proofs.Machine.register.Tie as tie
+
+number-requires : tie.Need-number-requires
+number-requires c κs = search needs
+
+returns : tie.Need-returns
+returns c = record { value = ap Value (c .number .ensures .0) ∙ sym (at-status _ _ _ _ _ (c .before .before .if1 .taken)) }
+
+returns-2 : tie.Need-returns-2
+returns-2 c = record { value = sym (at-control _ _ _ _ _ (c .if2 .taken)) }
+
+returns-3 : tie.Need-returns-3
+returns-3 c = record { value = sym (at-pointer _ _ _ _ _ (c .if3 .taken)) }
+
+returns-4 : tie.Need-returns-4
+returns-4 c = record { value = sym (at-none _ _ _ _ _ (c .before .before .if1 .left) (c .before .if2 .left) (c .if3 .left)) }
+
+pub register-spec : {M : Type 1} → statement M
+register-spec = tie.close (tie.spec number-requires returns returns-2 returns-3 returns-4)
