@@ -1,7 +1,7 @@
 -- What a step and a run promise, from what the code found.
 -- Assumes nothing.
 use Prim.Native.Nat.{ℕ, _+_, _-_, _*_, _/_, _≤_}
-use mathlib.Core.Path.{_≡_, refl, sym, ap, _∙_}
+use mathlib.Core.Path.{_≡_, refl, sym, ap, subst, subst⁻¹, _∙_}
 use mathlib.Core.Bool.{Bool, true, false, cond, _&&_}
 use mathlib.Core.List.{List, [], _++_}
 use native.Mathlib.Nat.{zero-add, sub-zero}
@@ -17,14 +17,15 @@ use Rattle.machine.specs.declared.Progress.{Progress}
 use Rattle.machine.specs.declared.Reason.{Reason}
 use Rattle.machine.specs.declared.StepAnswer.{StepAnswer}
 use Rattle.machine.specs.declared.StepAnswer.the-variants as one
+use Rattle.machine.specs.declared.RunAnswer.{RunAnswer}
 use Rattle.machine.specs.declared.steps.Wait.the-variants.{Stop}
 use Rattle.machine.specs.Saved.{keeps}
 use Rattle.flow.specs.Beats.{beatsIn, beatBytes}
 use Rattle.machine.specs.Step.{Answer, taken, stopped, step}
-use Rattle.machine.specs.Run.{Lent, serves, refused, even, lentOf, worldOf, outputOver, steppedAs, worldAfter, stepAnswer, windowAfter, outAfter, Stepped}
+use Rattle.machine.specs.Run.{Lent, serves, refused, even, lentIf, lentOf, worldOf, outputOver, steppedAs, worldAfter, stepAnswer, windowAfter, outAfter, Stepped, Runs, HasRun, readyOf, Resumed}
 use Rattle.machine.specs.Turns.{worldAt, waitOf, Within, Went, Ready}
 use Rattle.flow.proofs.Streams.{length-beats, length-beat-bytes}
-use Rattle.machine.proofs.Readiness.{keeps-ready}
+use Rattle.machine.proofs.Readiness.{keeps-ready, keeps-tested}
 
 -- ---- what is lent
 
@@ -35,12 +36,24 @@ serves-by true true false e = absurd (let z : _≡_ {A = ℕ} 0 1 = cc in omega 
 serves-by true false c e = absurd (let z : _≡_ {A = ℕ} 0 1 = cc in omega arith)
 serves-by false b c e = absurd (let z : _≡_ {A = ℕ} 0 1 = cc in omega arith)
 
--- a machine that is served is ready
+-- what serves is a good machine and its window
+pub serves-good : (good : Bool) (m : Machine) (window beats out : List ℕ) → lentIf good m window beats out ≡ serves
+    → (good ≡ true) × (length window ≡ m .window .length)
+serves-good good m window beats out e =
+    let both = serves-by good (even beats && even out) (eqb (length window) (m .window .length)) e in
+    (both .0, eqb-true _ _ (both .1))
+
+-- a good machine that is served is ready, if the good ones are
+pub good-ready : (good : Bool) (m : Machine) (window beats out : List ℕ) → (good ≡ true → Ready m (m .window .length))
+    → lentIf good m window beats out ≡ serves → Ready m (length window)
+good-ready good m window beats out h e =
+    let s = serves-good good m window beats out e in
+    subst⁻¹ (λ (n : ℕ). Ready m n) (s .1) (h (s .0))
+
+-- as are those that keep the rules
 pub serves-ready : (m : Machine) (window beats out : List ℕ) → lentOf m window beats out ≡ serves → Ready m (length window)
 unfolding lentOf
-serves-ready m window beats out e =
-    let both = serves-by (keeps m) (even beats && even out) (eqb (length window) (m .window .length)) e in
-    keeps-ready m (length window) (both .0) (eqb-true _ _ (both .1))
+serves-ready m window beats out e = good-ready (keeps m) m window beats out (λ k. keeps-ready m (m .window .length) k refl) e
 
 -- ---- where it stands
 
@@ -94,3 +107,17 @@ module _ {m : Machine} {window beats out : List ℕ} where
         let made : r .made ≡ length (g .new) = g .counted ∙ zero-add (length (g .new)) in
         served (taken v) (ap (λ (n : ℕ). step (worldAt m window beats 0 [] n)) (sym (sub-zero (length out / 2))) ∙ g .goes [])
         (rw (took, ← made)) refl (g .wrote ∙ over out (g .new))
+
+-- ---- a run by another test for the same good machines
+
+pub runs-as : (good good' : Bool) → good ≡ good' → {m : Machine} {window beats out window' out' : List ℕ} {budget : ℕ} {r : RunAnswer}
+    → Runs (lentIf good m window beats out) m window beats out budget r window' out'
+    → Runs (lentIf good' m window beats out) m window beats out budget r window' out'
+runs-as good good' e {m} {window} {beats} {out} {window'} {out'} {budget} {r} h =
+    subst (λ (b : Bool). Runs (lentIf b m window beats out) m window beats out budget r window' out') e h
+
+-- one that keeps the rules is resumed as it is run
+pub resumed-runs : {m : Machine} {window beats out window' out' : List ℕ} {budget : ℕ} {r : RunAnswer} → keeps m ≡ true
+    → Resumed m window beats out budget r window' out' → HasRun m window beats out budget r window' out'
+unfolding lentOf
+resumed-runs {m} k h = runs-as (readyOf m) (keeps m) (keeps-tested m k ∙ sym k) h

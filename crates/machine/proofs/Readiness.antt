@@ -5,15 +5,16 @@ use mathlib.Core.Path.{_≡_, refl, sym, ap, subst}
 use mathlib.Core.Bool.{Bool, true, false, not, cond, _&&_, _||_, true≢false}
 use mathlib.Core.List.{List, [], _∷_}
 use native.Mathlib.Omega.{arith}
-use lib.Dec.{eqb}
+use lib.Dec.{eqb, ltb}
 use lib.ListN.{length}
-use borrow.Author.Tests.{eqb-true, eqb-false}
+use borrow.Author.Tests.{eqb-true, eqb-false, ltb-true, lt-ltb, not-true}
 use Rattle.bus.specs.Window.{inWindow}
 use Rattle.descriptor.specs.declared.Descriptor.{Descriptor}
 use Rattle.descriptor.specs.Layout.{owned}
 use Rattle.image.specs.Rules.{asked, keepsRules, lowestBroken}
 use Rattle.image.specs.Rules as rules
 use Rattle.image.proofs.Facts.{move-lt, move-eop, address-inside}
+use Rattle.image.proofs.Tests.{and-left, and-right}
 use Rattle.machine.specs.declared.Machine.{Machine}
 use Rattle.machine.specs.declared.Mode.{Mode}
 use Rattle.machine.specs.declared.Mode.the-variants.{MemoryToMemory, MemoryToStream, StreamToMemory}
@@ -25,6 +26,7 @@ use Rattle.machine.specs.State.{modeNumber, phaseNumber, run, stopDmaEr,
 use Rattle.machine.specs.Saved.{inHand, fieldsOf, keeps}
 use Rattle.flow.specs.Beats.{beatError, beatEop}
 use Rattle.machine.specs.Step.{World, Answer, taken, stopped, step, stepIn, restStep, fetchStep, fetched, wantsLength, moveStep, copyStep, sendStep, sendTo, receiveFrom, writeBackStep, completed, afterBack, onward, withByte, whole, sourceOf, destinationOf}
+use Rattle.machine.specs.Run.{readyIn, readyOf}
 use Rattle.machine.specs.Turns.{Left, Placed, Ready, stepsOn, steps}
 
 -- what a step leads to is ready
@@ -206,3 +208,44 @@ unfolding keepsRules
 keeps-ready m n e s =
     let z : lowestBroken (fieldsOf m) ≡ 0 = eqb-true _ _ e in
     record { size = sym s; left = left-by m z (m .phase) refl; placed = placed-by m z (m .phase) refl }
+
+-- ---- what a step needs, as a test
+
+module _ (m : Machine) where
+  ready-left : (p : Phase) → readyIn m p ≡ true → Left m p
+  ready-left Rest e = tt
+  ready-left Fetch e = tt
+  ready-left (Move k) e =
+      let both = and-left (ltb (k .moved) (whole m k) && not (k .eop)) _ e in
+      (ltb-true _ _ (and-left _ _ both), not-true _ (and-right (ltb (k .moved) (whole m k)) _ both))
+  ready-left (WriteBack k) e = tt
+  ready-left Ended e = tt
+  ready-left Halted e = tt
+  ready-left (Faulted f) e = tt
+
+  ready-placed : (p : Phase) → readyIn m p ≡ true → Placed m p
+  ready-placed Rest e = tt
+  ready-placed Fetch e = tt
+  ready-placed (Move k) e = and-right (ltb (k .moved) (whole m k) && not (k .eop)) _ e
+  ready-placed (WriteBack k) e = e
+  ready-placed Ended e = tt
+  ready-placed Halted e = tt
+  ready-placed (Faulted f) e = tt
+
+  pub tested-ready : readyOf m ≡ true → Ready m (m .window .length)
+  unfolding readyOf
+  tested-ready e = record { size = refl; left = ready-left (m .phase) e; placed = ready-placed (m .phase) e }
+
+  ready-by : (p : Phase) → Left m p → Placed m p → readyIn m p ≡ true
+  ready-by Rest l h = refl
+  ready-by Fetch l h = refl
+  ready-by (Move k) l h = rw (lt-ltb (k .moved) (whole m k) (l .0), l .1, h)
+  ready-by (WriteBack k) l h = h
+  ready-by Ended l h = refl
+  ready-by Halted l h = refl
+  ready-by (Faulted f) l h = refl
+
+  -- a machine that keeps the rules has it
+  pub keeps-tested : keeps m ≡ true → readyOf m ≡ true
+  unfolding readyOf
+  keeps-tested k = let r = keeps-ready m (m .window .length) k refl in ready-by (m .phase) (r .left) (r .placed)

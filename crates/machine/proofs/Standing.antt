@@ -16,13 +16,13 @@ use Rattle.machine.specs.declared.RunAnswer.the-variants as many
 use Rattle.machine.specs.declared.steps.Wait.the-variants.{Go, Stop}
 use Rattle.flow.specs.Beats.{beatsIn, beatBytes}
 use Rattle.machine.specs.Step.{World, taken, step}
-use Rattle.machine.specs.Run.{Report, run, Lent, serves, refused, lentOf, worldOf, outputOver, ranAs, runAnswer, windowAfter, outAfter, HasRun}
+use Rattle.machine.specs.Run.{Report, run, Lent, serves, refused, worldOf, outputOver, ranAs, runAnswer, windowAfter, outAfter, Runs}
 use Rattle.machine.specs.Turns.{worldAt, progress, waitOf, steps, Within, Went, Ready}
 use Rattle.flow.proofs.Streams.{length-beat-bytes}
 use Rattle.machine.proofs.Streams.{beat-bytes-append, none-made}
 use Rattle.machine.proofs.Readiness.{steps-ready}
 use Rattle.machine.proofs.LoopLaws.{report, moreBy, run-stops, run-out, run-steps, more-none, more-more}
-use Rattle.machine.proofs.Outcomes.{serves-ready, took-since, over}
+use Rattle.machine.proofs.Outcomes.{took-since, over}
 
 -- so many steps led here, and the run goes on from here as it would have gone on
 pub record Stands (m₀ : Machine) (window₀ beats out₀ : List ℕ) (budget : ℕ) (window out : List ℕ) (m : Machine) (took made count : ℕ) : Type 0 where
@@ -38,14 +38,14 @@ pub record Stands (m₀ : Machine) (window₀ beats out₀ : List ℕ) (budget :
       ≡ moreBy count (run (budget - count) (worldAt m window beats took output (length out / 2 - made)))
 
 module _ (m₀ : Machine) (window₀ beats out₀ : List ℕ) (budget : ℕ) where
-  pub stands-first : lentOf m₀ window₀ beats out₀ ≡ serves → Stands m₀ window₀ beats out₀ budget window₀ out₀ m₀ 0 0 0
-  stands-first e =
+  pub stands-first : Ready m₀ (length window₀) → Stands m₀ window₀ beats out₀ budget window₀ out₀ m₀ 0 0 0
+  stands-first r =
       record {
         window-length = refl;
         out-length = refl;
         spent = omega arith;
         within = record { taken-in = omega arith; made-in = omega arith };
-        ready = serves-ready m₀ window₀ beats out₀ e;
+        ready = r;
         output = [];
         counted = refl;
         wrote = none-made out₀ 0;
@@ -82,8 +82,8 @@ module _ (m₀ : Machine) (window₀ beats out₀ : List ℕ) (budget : ℕ) whe
               ∙ ap (λ (l : ℕ). moreBy (count + n) (run (budget - (count + n)) (worldAt m' window' beats took' (s .output ++ g .new) (l / 2 - made')))) (sym ol);
         }
 
-    ends : (r : Reason) → run (budget - count) here ≡ report here 0 r → lentOf m₀ window₀ beats out₀ ≡ serves
-        → HasRun m₀ window₀ beats out₀ budget
+    ends : {lent : Lent} (r : Reason) → run (budget - count) here ≡ report here 0 r → lent ≡ serves
+        → Runs lent m₀ window₀ beats out₀ budget
         (many.Done (record { machine = m; reason = r; steps = count; taken = took; made = made })) window out
     ends r f e =
         let w = worldOf m₀ window₀ beats out₀ in
@@ -99,22 +99,22 @@ module _ (m₀ : Machine) (window₀ beats out₀ : List ℕ) (budget : ℕ) whe
         }
 
     -- where no step can be taken
-    pub stands-stopped : (r : Reason) → waitOf (step here) ≡ Stop r → lentOf m₀ window₀ beats out₀ ≡ serves
-        → HasRun m₀ window₀ beats out₀ budget
+    pub stands-stopped : {lent : Lent} (r : Reason) → waitOf (step here) ≡ Stop r → lent ≡ serves
+        → Runs lent m₀ window₀ beats out₀ budget
         (many.Done (record { machine = m; reason = r; steps = count; taken = took; made = made })) window out
     stands-stopped r f e = ends r (run-stops (budget - count) here r f) e
 
     -- where the budget is spent, and one can
-    pub stands-out : waitOf (step here) ≡ Go → budget ≡ count → lentOf m₀ window₀ beats out₀ ≡ serves
-        → HasRun m₀ window₀ beats out₀ budget
+    pub stands-out : {lent : Lent} → waitOf (step here) ≡ Go → budget ≡ count → lent ≡ serves
+        → Runs lent m₀ window₀ beats out₀ budget
         (many.Done (record { machine = m; reason = reason.Budget; steps = count; taken = took; made = made })) window out
     stands-out f b e =
         let none : budget - count ≡ 0 = omega arith in
         ends reason.Budget (ap (λ (k : ℕ). run k here) none ∙ run-out here f) e
 
-pub run-refused : {m : Machine} {window beats out : List ℕ} {budget : ℕ} {why : Refusal} → lentOf m window beats out ≡ refused why
-    → HasRun m window beats out budget (many.Refused why) window out
-run-refused {m} {window} {beats} {out} {budget} e =
+pub run-refused : {lent : Lent} {m : Machine} {window beats out : List ℕ} {budget : ℕ} {why : Refusal} → lent ≡ refused why
+    → Runs lent m window beats out budget (many.Refused why) window out
+run-refused {m = m} {window = window} {beats = beats} {out = out} {budget = budget} e =
     let w = worldOf m window beats out in
     record {
       answer = sym (ap (λ (l : Lent). runAnswer l w budget) e);

@@ -2,14 +2,17 @@
 -- Assumes nothing.
 use Prim.Native.Nat.{ℕ, zero, suc, _+_, _-_, _*_, _/_, _%_}
 use mathlib.Core.Path.{_≡_, sym, _∙_}
-use mathlib.Core.Bool.{Bool, cond, _&&_}
+use mathlib.Core.Bool.{Bool, true, not, cond, _&&_}
 use mathlib.Core.List.{List, [], _++_}
-use lib.Dec.{eqb}
+use lib.Dec.{eqb, ltb}
 use lib.ListN.{length, drop}
 use Rattle.bus.specs.Refusal.{refusalNumber}
+use Rattle.bus.specs.Window.{inWindow}
 use Rattle.bus.specs.declared.Refusal.{Refusal}
 use Rattle.bus.specs.declared.Refusal.the-variants.{BadImage, OddStream, OtherWindow}
 use Rattle.machine.specs.declared.Machine.{Machine}
+use Rattle.machine.specs.declared.Phase.{Phase}
+use Rattle.machine.specs.declared.Phase.the-variants as phase
 use Rattle.machine.specs.declared.Reason.{Reason}
 use Rattle.machine.specs.declared.Reason.the-variants.{Rest, Ended, Halted, Faulted, NeedsInput, OutputFull, Budget}
 use Rattle.machine.specs.declared.Progress.{Progress}
@@ -20,7 +23,7 @@ use Rattle.machine.specs.declared.RunAnswer.{RunAnswer}
 use Rattle.machine.specs.declared.RunAnswer.the-variants as many
 use Rattle.machine.specs.Saved.{keeps}
 use Rattle.flow.specs.Beats.{beatsIn, beatBytes}
-use Rattle.machine.specs.Step.{World, Answer, taken, stopped, step}
+use Rattle.machine.specs.Step.{World, Answer, taken, stopped, whole, step}
 
 -- ---- the run
 
@@ -63,13 +66,17 @@ pub data Lent : Type 0 where
 abbrev pub even : List ℕ → Bool
 even xs = eqb (length xs % 2) 0
 
--- 8 where the machine breaks a rule; 9 where beats, in or out, have an odd number of bytes; 4 where the window's length is
--- not the machine's
-unfoldable pub lentOf : Machine → (window beats out : List ℕ) → Lent
-lentOf m window beats out =
-    cond (keeps m)
+-- 8 where the machine is not good; 9 where beats, in or out, have an odd number of bytes; 4 where the window's length is not the
+-- machine's
+abbrev pub lentIf : (good : Bool) → Machine → (window beats out : List ℕ) → Lent
+lentIf good m window beats out =
+    cond good
     (cond (even beats && even out) (cond (eqb (length window) (m .window .length)) serves (refused OtherWindow)) (refused OddStream))
     (refused BadImage)
+
+-- good is a machine that keeps the rules
+unfoldable pub lentOf : Machine → (window beats out : List ℕ) → Lent
+lentOf m window beats out = lentIf (keeps m) m window beats out
 
 -- the world that a machine and what it is lent make
 abbrev pub worldOf : Machine → (window beats out : List ℕ) → World
@@ -144,17 +151,41 @@ pub record Stepped (m : Machine) (window beats out : List ℕ) (r : StepAnswer) 
       ≡ windowAfter (lentOf m window beats out) (worldAfter (worldOf m window beats out) (step (worldOf m window beats out))) window
   pub out-after : out' ≡ outAfter (lentOf m window beats out) (worldAfter (worldOf m window beats out) (step (worldOf m window beats out))) out
 
-pub record HasRun (m : Machine) (window beats out : List ℕ) (budget : ℕ) (r : RunAnswer) (window' out' : List ℕ) : Type 0 where
-  pub answer : r ≡ runAnswer (lentOf m window beats out) (worldOf m window beats out) budget
-  pub window-after : window' ≡ windowAfter (lentOf m window beats out) (run budget (worldOf m window beats out) .world) window
-  pub out-after : out' ≡ outAfter (lentOf m window beats out) (run budget (worldOf m window beats out) .world) out
+-- a run, by whether what is lent serves
+pub record Runs (lent : Lent) (m : Machine) (window beats out : List ℕ) (budget : ℕ) (r : RunAnswer) (window' out' : List ℕ) : Type 0 where
+  pub answer : r ≡ runAnswer lent (worldOf m window beats out) budget
+  pub window-after : window' ≡ windowAfter lent (run budget (worldOf m window beats out) .world) window
+  pub out-after : out' ≡ outAfter lent (run budget (worldOf m window beats out) .world) out
+
+-- run
+abbrev pub HasRun : Machine → (window beats out : List ℕ) (budget : ℕ) → RunAnswer → (window' out' : List ℕ) → Type 0
+HasRun m window beats out budget r window' out' = Runs (lentOf m window beats out) m window beats out budget r window' out'
+
+-- what a step needs of a machine: in Move a byte is left to move and no EOP was seen, and the descriptor in hand is in the window.
+-- One that keeps the rules has it
+abbrev pub readyIn : Machine → Phase → Bool
+readyIn m phase.Rest = true
+readyIn m phase.Fetch = true
+readyIn m (phase.Move k) = ltb (k .moved) (whole m k) && not (k .eop) && inWindow (m .window) (k .at) 32
+readyIn m (phase.WriteBack k) = inWindow (m .window) (k .at) 32
+readyIn m phase.Ended = true
+readyIn m phase.Halted = true
+readyIn m (phase.Faulted f) = true
+
+unfoldable pub readyOf : Machine → Bool
+readyOf m = readyIn m (m .phase)
+
+-- resume: good is a machine that has what a step needs
+abbrev pub Resumed : Machine → (window beats out : List ℕ) (budget : ℕ) → RunAnswer → (window' out' : List ℕ) → Type 0
+Resumed m window beats out budget r window' out' = Runs (lentIf (readyOf m) m window beats out) m window beats out budget r window' out'
 
 pub stepped-unique : {m : Machine} {window beats out w1 o1 w2 o2 : List ℕ} {r s : StepAnswer}
     → Stepped m window beats out r w1 o1 → Stepped m window beats out s w2 o2 → (r ≡ s) × (w1 ≡ w2) × (o1 ≡ o2)
 stepped-unique p q =
     (p .answer ∙ sym (q .answer), p .window-after ∙ sym (q .window-after), p .out-after ∙ sym (q .out-after))
 
-pub run-unique : {m : Machine} {window beats out w1 o1 w2 o2 : List ℕ} {budget : ℕ} {r s : RunAnswer}
-    → HasRun m window beats out budget r w1 o1 → HasRun m window beats out budget s w2 o2 → (r ≡ s) × (w1 ≡ w2) × (o1 ≡ o2)
+-- of both
+pub run-unique : {lent : Lent} {m : Machine} {window beats out w1 o1 w2 o2 : List ℕ} {budget : ℕ} {r s : RunAnswer}
+    → Runs lent m window beats out budget r w1 o1 → Runs lent m window beats out budget s w2 o2 → (r ≡ s) × (w1 ≡ w2) × (o1 ≡ o2)
 run-unique p q =
     (p .answer ∙ sym (q .answer), p .window-after ∙ sym (q .window-after), p .out-after ∙ sym (q .out-after))

@@ -1,11 +1,11 @@
 // A run: steps until one cannot be taken or the budget is spent.
 ghost use mathlib.Core.Path.{_≡_};
-ghost use mathlib.Core.Bool.{false};
+ghost use mathlib.Core.Bool.{true, false};
 ghost use Prim.Native.Nat.{_+_, _≤_, _<_};
 ghost use lib.ListN.{length};
 ghost use Rattle.machine.specs.declared.Phase.the-variants.{Move};
 ghost use Rattle.machine.specs.Step.{World, whole as wholeOf, onward as onwardOf, step as stepOf};
-ghost use Rattle.machine.specs.Run.{HasRun};
+ghost use Rattle.machine.specs.Run.{lentIf, Runs, HasRun, Resumed};
 ghost use Rattle.machine.specs.Turns.{progress, steps as stepsOf, Goes, Within, Went, Ready, movedBy};
 use crate::Machine;
 use crate::Mode;
@@ -149,11 +149,19 @@ impl Machine {
         }
     }
 
-    // Its answer is the reason found where it ended.
-    pub fn run(self, window: &mut [u8], beats: &[u8], out: &mut [u8], budget: u32) -> RunAnswer
-        ensures { λ r. ⌜ HasRun self (now (window .entry)) (now (beats .entry)) (now (out .entry)) budget r (now (window .exit)) (now (out .exit)) ⌝ }
+    // A run of a machine that is good, or not. Its answer is the reason found where it ended.
+    fn run_if(
+        self,
+        good: bool,
+        window: &mut [u8],
+        beats: &[u8],
+        out: &mut [u8],
+        budget: u32,
+    ) -> RunAnswer
+        requires { ⌜ (good ≡ true → Ready self (self .window .length)) ⌝ }
+        ensures { λ r. ⌜ Runs (lentIf good self (now (window .entry)) (now (beats .entry)) (now (out .entry))) self (now (window .entry)) (now (beats .entry)) (now (out .entry)) budget r (now (window .exit)) (now (out .exit)) ⌝ }
     {
-        let lent = self.checked(window, beats, out);
+        let lent = self.served(good, window, beats, out);
         if let Lent::Refused(why) = lent {
             return RunAnswer::Refused(why);
         }
@@ -182,5 +190,18 @@ impl Machine {
             taken,
             made,
         })
+    }
+
+    pub fn run(self, window: &mut [u8], beats: &[u8], out: &mut [u8], budget: u32) -> RunAnswer
+        ensures { λ r. ⌜ HasRun self (now (window .entry)) (now (beats .entry)) (now (out .entry)) budget r (now (window .exit)) (now (out .exit)) ⌝ }
+    {
+        self.run_if(self.keeps(), window, beats, out, budget)
+    }
+
+    // The same of a machine that is known to keep the rules, as one that was loaded is: it looks only at what a step needs.
+    pub fn resume(self, window: &mut [u8], beats: &[u8], out: &mut [u8], budget: u32) -> RunAnswer
+        ensures { λ r. ⌜ Resumed self (now (window .entry)) (now (beats .entry)) (now (out .entry)) budget r (now (window .exit)) (now (out .exit)) ⌝ }
+    {
+        self.run_if(self.ready(), window, beats, out, budget)
     }
 }

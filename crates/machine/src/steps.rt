@@ -13,7 +13,7 @@ ghost use Rattle.machine.specs.State.{modeNumber, withPhase, withPointer
 ghost use Rattle.flow.specs.Beats.{outputBeat};
 ghost use Rattle.machine.specs.Step.{World, wantsLength, begun as begunOf, ended as endedOf, byteAddress, sourceOf, destinationOf, withByte, onward as onwardOf, beatFor, writtenControl, writtenBack, counted as countedOf, pends as pendsOf, afterBack, statusBack, completed as completedOf};
 ghost use Rattle.machine.specs.Step.{fetched as fetchedOf, fetchStep, copyStep, sendStep, receiveFrom, moveStep, writeBackStep, step as stepOf};
-ghost use Rattle.machine.specs.Run.{lentOf, Stepped};
+ghost use Rattle.machine.specs.Run.{lentIf, lentOf, readyOf, Stepped};
 ghost use Rattle.machine.specs.declared.Phase.the-variants.{Move, WriteBack};
 ghost use Rattle.machine.specs.Turns.{world, progress, inFault, Waits, Goes, lentAs, Within, Still, Went, Ready};
 use crate::Control;
@@ -489,6 +489,38 @@ impl Machine {
     }
 }
 
+// What a step needs of the machine.
+impl Machine {
+    // Whether the descriptor in hand is in the window.
+    fn holds(self, k: Work) -> bool
+        ensures { λ r. ⌜ r ≡ inWindow (self .window) (k .at) 32 ⌝ }
+    {
+        match self.window.locate(BusAddress(k.at as u64), 32) {
+            Located::At(_) => true,
+            Located::Outside => false,
+        }
+    }
+
+    // In Move a byte is left to move and no EOP was seen.
+    pub(crate) fn ready(self) -> bool
+        ensures { λ r. ⌜ r ≡ readyOf self ⌝ }
+    {
+        let phase = self.phase;
+        match phase {
+            Phase::Rest => true,
+            Phase::Fetch => true,
+            Phase::Move(k) => {
+                let mode = self.mode;
+                (k.moved < asked(mode, k.length)) & !k.eop & self.holds(k)
+            }
+            Phase::WriteBack(k) => self.holds(k),
+            Phase::Ended => true,
+            Phase::Halted => true,
+            Phase::Faulted(_) => true,
+        }
+    }
+}
+
 // Whether a step can be taken.
 impl Machine {
     // Move: no room, no step, but 13 comes before that; no beat, no step.
@@ -591,12 +623,12 @@ impl Machine {
         }
     }
 
-    // 8 where the machine breaks a rule; 9 where beats, in or out, have an odd number of bytes; 4 where the window's length is
-    // not the machine's.
-    pub(crate) fn checked(self, window: &[u8], beats: &[u8], out: &[u8]) -> Lent
-        ensures { λ r. ⌜ lentAs r ≡ lentOf self (now (window .entry)) (now (beats .entry)) (now (out .entry)) ⌝ }
+    // 8 where the machine is not good; 9 where beats, in or out, have an odd number of bytes; 4 where the window's length is not
+    // the machine's.
+    pub(crate) fn served(self, good: bool, window: &[u8], beats: &[u8], out: &[u8]) -> Lent
+        ensures { λ r. ⌜ lentAs r ≡ lentIf good self (now (window .entry)) (now (beats .entry)) (now (out .entry)) ⌝ }
     {
-        if !self.keeps() {
+        if !good {
             return Lent::Refused(Refusal::BadImage);
         }
         let even = (beats.len() % 2 == 0) & (out.len() % 2 == 0);
@@ -607,6 +639,13 @@ impl Machine {
             return Lent::Refused(Refusal::OtherWindow);
         }
         Lent::Serves
+    }
+
+    // Good is one that keeps the rules.
+    fn checked(self, window: &[u8], beats: &[u8], out: &[u8]) -> Lent
+        ensures { λ r. ⌜ lentAs r ≡ lentOf self (now (window .entry)) (now (beats .entry)) (now (out .entry)) ⌝ }
+    {
+        self.served(self.keeps(), window, beats, out)
     }
 
     // One step, or why it cannot be taken.

@@ -17,14 +17,15 @@ use Rattle.machine.specs.declared.LoadedMachine.{LoadedMachine}
 use Rattle.machine.specs.declared.LoadedMachine.the-variants.{Good, Refused}
 use Rattle.machine.specs.Saved.{keeps, loadOf, WasLoaded}
 use Rattle.machine.specs.Step.{World}
-use Rattle.machine.specs.Run.{run, Lent, serves, refused, lentOf, worldOf, takenSince, ranAs, runAnswer, runNumber, HasRun}
+use Rattle.machine.specs.Run.{run, Lent, serves, refused, lentIf, worldOf, takenSince, ranAs, runAnswer, runNumber, HasRun, readyOf, Resumed}
 use Rattle.machine.proofs.StepLaws.{took-since}
 use Rattle.machine.proofs.RunLaws.{run-tells}
+use Rattle.machine.proofs.Outcomes.{resumed-runs}
 use Rattle.met.specs.Met as met
 use Rattle.met.proofs.InUse.{met-keeps}
 use Rattle.image.specs.Promise.{sized}
 use Rattle.sgdma.specs.Calls.{isSize, runIn, runCall, ranOver, reportOver, windowIn, outIn, RunMade}
-use Rattle.sgdma.proofs.Opened.{first-wrong, second-wrong, sizes-right, not-loaded}
+use Rattle.sgdma.proofs.Opened.{first-wrong, second-wrong, sizes-right, not-loaded, keeps-loaded}
 
 -- ---- what a run's answer is known to be
 
@@ -41,11 +42,11 @@ done-is serves w budget r e = cc
 done-is (refused why) w budget r e = absurd (let z : _≡_ {A = ℕ} 0 1 = cc in omega arith)
 
 module _ {m : Machine} {window beats out window' out' : List ℕ} {budget : ℕ} {a : RunAnswer} {r : Ran}
-    (h : HasRun m window beats out budget a window' out') (e : a ≡ ran.Done r) where
+    (h : Resumed m window beats out budget a window' out') (e : a ≡ ran.Done r) where
   pub ran-fits : budget < 4294967296 → (r .taken < 4294967296) × (r .made < 4294967296)
   ran-fits b =
       let w = worldOf m window beats out in
-      let is : r ≡ ranAs w (run budget w) = done-is (lentOf m window beats out) w budget r (sym e ∙ h .answer) in
+      let is : r ≡ ranAs w (run budget w) = done-is (lentIf (readyOf m) m window beats out) w budget r (sym e ∙ h .answer) in
       let c = counts budget w refl in
       let taken : r .taken ≡ ranAs w (run budget w) .taken = ap (λ (x : Ran). x .taken) is in
       let made : r .made ≡ ranAs w (run budget w) .made = ap (λ (x : Ran). x .made) is in
@@ -54,7 +55,8 @@ module _ {m : Machine} {window beats out window' out' : List ℕ} {budget : ℕ}
   pub ran-keeps : (xs : List ℕ) → loadOf xs ≡ Good m → AllBytes window → AllBytes beats → keeps (r .machine) ≡ true
   ran-keeps xs l g i =
       let loaded : WasLoaded xs (Good m) = record { answer = sym l } in
-      let done : HasRun m window beats out budget (ran.Done r) window' out' = subst (λ (x : RunAnswer). HasRun m window beats out budget x window' out') e h in
+      let done : HasRun m window beats out budget (ran.Done r) window' out' =
+      subst (λ (x : RunAnswer). HasRun m window beats out budget x window' out') e (resumed-runs (keeps-loaded xs l) h) in
       met-keeps (met.ran (met.loaded loaded) g i done)
 
 -- ---- sgdma_run
@@ -99,11 +101,12 @@ module _ {xs window beats out report xs' window' out' report' : List ℕ} {budge
           (sizes-right _ _ 14 xs report l k ∙ ap (λ (m : LoadedMachine). windowIn m window beats out budget) bad)
           (sizes-right _ _ 14 xs report l k ∙ ap (λ (m : LoadedMachine). outIn m window beats out budget) bad) p x w o q
 
-      pub run-answers : {m : Machine} {a b : RunAnswer} {v u : List ℕ} → loadOf xs ≡ Good m → HasRun m window beats out budget a v u → a ≡ b
+      pub run-answers : {m : Machine} {a b : RunAnswer} {v u : List ℕ} → loadOf xs ≡ Good m → Resumed m window beats out budget a v u → a ≡ b
           → r ≡ runNumber b → xs' ≡ ranOver b xs → window' ≡ v → out' ≡ u → report' ≡ reportOver b report
           → RunMade xs window beats out budget report r xs' window' out' report'
       unfolding runCall
-      run-answers {m} {a} {b} {v} {u} e h f p x w o q =
+      run-answers {m} {a} {b} {v} {u} e resumed f p x w o q =
+          let h : HasRun m window beats out budget a v u = resumed-runs (keeps-loaded xs e) resumed in
           made b
           (sizes-right _ _ 14 xs report l k ∙ ap (λ (n : LoadedMachine). runIn n window beats out budget) e ∙ sym (h .answer) ∙ f)
           (sizes-right _ _ 14 xs report l k ∙ ap (λ (n : LoadedMachine). windowIn n window beats out budget) e ∙ sym (h .window-after))

@@ -202,7 +202,7 @@ pub extern "C" fn sgdma_run(
     let LoadedMachine::Good(m) = Machine::load(image) else {
         return Refusal::BadImage.number();
     };
-    let answer = m.run(window, beats, out, budget);
+    let answer = m.resume(window, beats, out, budget);
     match answer {
         RunAnswer::Refused(why) => why.number(),
         RunAnswer::Done(r) => {

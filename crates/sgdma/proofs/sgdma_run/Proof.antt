@@ -35,8 +35,8 @@ same-length c = search needs
 returns-3 : tie.Need-returns-3
 returns-3 c = run-spoiled (c .before .before .before .before .before .before .if1 .left) (c .before .before .before .before .before .if2 .left) (sym (c .before .before .before .load .ensures .answer) ∙ c .before .enum-told .given .1) (c .number3 .ensures .value) refl refl refl refl
 
-run-requires : tie.Need-run-requires
-run-requires c κs = search needs
+resume-requires : tie.Need-resume-requires
+resume-requires c κs = search needs
 
 enum-known-answer : tie.Need-enum-known-answer
 enum-known-answer c = search needs
@@ -48,7 +48,7 @@ enum-known-answer-2 : tie.Need-enum-known-answer-2
 enum-known-answer-2 c = search needs
 
 put-run-requires : tie.Need-put-run-requires
-put-run-requires c κs = let s = c .before .before .before .before .before .before .before .before .before .before .before .before .before .before .before .before .before .before .before .before .before .before .before .before in (ran-keeps (c .before .before .before .before .before .before .before .before .before .run .ensures) (c .before .before .before .answer2 .given .1) (s .args .image .now) (sym (c .before .before .before .before .before .before .before .before .before .before .before .before .before .before .before .load .ensures .answer) ∙ c .before .before .before .before .before .before .before .before .before .before .before .before .before .m .given .1) (all-bytes (s .args .window .now) (λ i. c .before .before .before .before .before .before .before .before .before .before .before .before .before .before .before .before .before .before .before .before .before .before .slice-known2 .given i .fits)) (all-bytes (s .args .beats .now) (λ i. c .before .before .before .before .before .before .before .before .before .before .before .before .before .before .before .before .before .before .before .before .before .shared-slice-known .given i .fits)), (ran-fits (c .before .before .before .before .before .before .before .before .before .run .ensures) (c .before .before .before .answer2 .given .1) (s .fits .budget .fits), (c .before .before .before .before .before .before .before .before .before .before .before .before .before .before .before .before .before .before .if1 .left, c .before .before .before .before .before .before .before .before .before .before .before .before .before .before .before .before .before .if2 .left)))
+put-run-requires c κs = let s = c .before .before .before .before .before .before .before .before .before .before .before .before .before .before .before .before .before .before .before .before .before .before .before .before in (ran-keeps (c .before .before .before .before .before .before .before .before .before .resume .ensures) (c .before .before .before .answer2 .given .1) (s .args .image .now) (sym (c .before .before .before .before .before .before .before .before .before .before .before .before .before .before .before .load .ensures .answer) ∙ c .before .before .before .before .before .before .before .before .before .before .before .before .before .m .given .1) (all-bytes (s .args .window .now) (λ i. c .before .before .before .before .before .before .before .before .before .before .before .before .before .before .before .before .before .before .before .before .before .before .slice-known2 .given i .fits)) (all-bytes (s .args .beats .now) (λ i. c .before .before .before .before .before .before .before .before .before .before .before .before .before .before .before .before .before .before .before .before .before .shared-slice-known .given i .fits)), (ran-fits (c .before .before .before .before .before .before .before .before .before .resume .ensures) (c .before .before .before .answer2 .given .1) (s .fits .budget .fits), (c .before .before .before .before .before .before .before .before .before .before .before .before .before .before .before .before .before .before .if1 .left, c .before .before .before .before .before .before .before .before .before .before .before .before .before .before .before .before .before .if2 .left)))
 
 same-length-2 : tie.Need-same-length-2
 same-length-2 c = search needs
@@ -60,7 +60,7 @@ same-length-4 : tie.Need-same-length-4
 same-length-4 c = search needs
 
 returns-4 : tie.Need-returns-4
-returns-4 c = run-answers (c .before .before .before .before .before .before .before .before .before .before .before .before .before .before .before .before .before .if1 .left) (c .before .before .before .before .before .before .before .before .before .before .before .before .before .before .before .before .if2 .left) (sym (c .before .before .before .before .before .before .before .before .before .before .before .before .before .before .load .ensures .answer) ∙ c .before .before .before .before .before .before .before .before .before .before .before .before .m .given .1) (c .before .before .before .before .before .before .before .before .run .ensures) (c .before .before .answer .given .1) (c .number4 .ensures .value) refl refl refl refl
+returns-4 c = run-answers (c .before .before .before .before .before .before .before .before .before .before .before .before .before .before .before .before .before .if1 .left) (c .before .before .before .before .before .before .before .before .before .before .before .before .before .before .before .before .if2 .left) (sym (c .before .before .before .before .before .before .before .before .before .before .before .before .before .before .load .ensures .answer) ∙ c .before .before .before .before .before .before .before .before .before .before .before .before .m .given .1) (c .before .before .before .before .before .before .before .before .resume .ensures) (c .before .before .answer .given .1) (c .number4 .ensures .value) refl refl refl refl
 
 same-length-5 : tie.Need-same-length-5
 same-length-5 c = search needs
@@ -75,7 +75,7 @@ same-length-8 : tie.Need-same-length-8
 same-length-8 c = search needs
 
 returns-5 : tie.Need-returns-5
-returns-5 c = run-answers (c .before .before .before .before .before .before .before .before .before .before .before .before .before .before .before .before .before .before .before .before .before .before .before .if1 .left) (c .before .before .before .before .before .before .before .before .before .before .before .before .before .before .before .before .before .before .before .before .before .before .if2 .left) (sym (c .before .before .before .before .before .before .before .before .before .before .before .before .before .before .before .before .before .before .before .before .load .ensures .answer) ∙ c .before .before .before .before .before .before .before .before .before .before .before .before .before .before .before .before .before .before .m .given .1) (c .before .before .before .before .before .before .before .before .before .before .before .before .before .before .run .ensures) (c .before .before .before .before .before .before .before .before .answer2 .given .1) refl (c .before .before .before .before .put-run .ensures .0 .lent) refl refl (c .before .before .before .before .put-run .ensures .1 .lent)
+returns-5 c = run-answers (c .before .before .before .before .before .before .before .before .before .before .before .before .before .before .before .before .before .before .before .before .before .before .before .if1 .left) (c .before .before .before .before .before .before .before .before .before .before .before .before .before .before .before .before .before .before .before .before .before .before .if2 .left) (sym (c .before .before .before .before .before .before .before .before .before .before .before .before .before .before .before .before .before .before .before .before .load .ensures .answer) ∙ c .before .before .before .before .before .before .before .before .before .before .before .before .before .before .before .before .before .before .m .given .1) (c .before .before .before .before .before .before .before .before .before .before .before .before .before .before .resume .ensures) (c .before .before .before .before .before .before .before .before .answer2 .given .1) refl (c .before .before .before .before .put-run .ensures .0 .lent) refl refl (c .before .before .before .before .put-run .ensures .1 .lent)
 
 pub sgdma-run-spec : {M : Type 1} → statement M
 sgdma-run-spec =
@@ -91,7 +91,7 @@ sgdma-run-spec =
     number-requires-3
     same-length
     returns-3
-    run-requires
+    resume-requires
     enum-known-answer
     number-requires-4
     enum-known-answer-2
