@@ -2,7 +2,7 @@
 -- Assumes nothing.
 use Prim.Native.Nat.{ℕ, _%_, _^_}
 use mathlib.Core.Path.{_≡_, sym, _∙_}
-use mathlib.Core.Bool.{Bool, true, false, not, cond, _&&_}
+use mathlib.Core.Bool.{Bool, true, false, not, cond, _&&_, _||_}
 use lib.Dec.{eqb}
 use Rattle.words.specs.Bits.{bit}
 use Rattle.bus.specs.Refusal.{refusalNumber}
@@ -24,6 +24,9 @@ use Rattle.machine.specs.Saved.{keeps}
 abbrev pub chosen {ℓ} : {A : Type ℓ} → (offset : ℕ) (status control pointer none : A) → A
 chosen offset status control pointer none =
     cond (eqb offset 0) status (cond (eqb offset 4) control (cond (eqb offset 8) pointer none))
+
+abbrev pub isRegister : ℕ → Bool
+isRegister offset = eqb offset 0 || eqb offset 4 || eqb offset 8
 
 -- ---- writing
 
@@ -62,13 +65,14 @@ controlWritten v m =
     cond (bit 16 v && swReset (m .control)) (fresh (m .mode) (m .window))
     (cond (bit 5 v) (stored v m) (released (m .phase) (stored v m)))
 
-abbrev pub writtenAt : Machine → (offset v : ℕ) → WroteRegister
-writtenAt m offset v =
-    chosen offset (wrote.Done (statusWritten v m)) (wrote.Done (controlWritten v m)) (wrote.Done (withPointer v m)) (wrote.Refused NoRegister)
+-- at an offset that is none nothing is written
+abbrev pub writtenTo : Machine → (offset v : ℕ) → Machine
+writtenTo m offset v = chosen offset (statusWritten v m) (controlWritten v m) (withPointer v m) m
 
 -- a machine that breaks a rule comes before an offset that is none
 unfoldable pub writeOf : Machine → (offset v : ℕ) → WroteRegister
-writeOf m offset v = cond (keeps m) (writtenAt m offset v) (wrote.Refused BadImage)
+writeOf m offset v =
+    cond (keeps m) (cond (isRegister offset) (wrote.Done (writtenTo m offset v)) (wrote.Refused NoRegister)) (wrote.Refused BadImage)
 
 -- ---- reading changes nothing
 

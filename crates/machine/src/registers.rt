@@ -5,7 +5,7 @@ ghost use Prim.Native.Nat.{_≤_, _<_};
 ghost use Rattle.words.specs.Promise.{Gives};
 ghost use Rattle.image.specs.Layout.{flag as flagOf};
 ghost use Rattle.machine.specs.State.{fresh as freshOf, statusNumber, withPhase, withBusy, withPointer, rested as restedOf};
-ghost use Rattle.machine.specs.Registers.{statusWritten, stored as storedOf, released as releasedOf, controlWritten, registerAt, writtenAt, lineUp, WasRead, WasWritten, WasLine};
+ghost use Rattle.machine.specs.Registers.{statusWritten, stored as storedOf, released as releasedOf, controlWritten, isRegister, registerAt, writtenTo, lineUp, WasRead, WasWritten, WasLine};
 use crate::Control;
 use crate::Machine;
 use crate::Mode;
@@ -178,7 +178,17 @@ impl Machine {
     }
 }
 
-// The three registers and the line of a machine that is known to keep the rules, as one that was loaded is: 1 for any other offset.
+// Whether there is a register at the offset.
+pub fn is_register(offset: u32) -> bool
+    ensures { λ r. ⌜ Gives (isRegister offset) r ⌝ }
+{
+    let known = (offset == Status::OFFSET)
+        | (offset == Control::OFFSET)
+        | (offset == Pointer::OFFSET);
+    known
+}
+
+// The three registers and the line of a machine that is known to keep the rules, as one that was loaded is.
 impl Machine {
     // Reading changes nothing.
     pub fn register(self, offset: u32) -> ReadRegister
@@ -197,19 +207,20 @@ impl Machine {
         ReadRegister::Refused(Refusal::NoRegister)
     }
 
-    pub fn written(self, offset: u32, value: u32) -> WroteRegister
-        ensures { λ r. ⌜ Gives (writtenAt self offset value) r ⌝ }
+    // An offset that is none changes nothing.
+    pub fn written(self, offset: u32, value: u32) -> Machine
+        ensures { λ r. ⌜ Gives (writtenTo self offset value) r ⌝ }
     {
         if offset == Status::OFFSET {
-            return WroteRegister::Done(self.status_written(value));
+            return self.status_written(value);
         }
         if offset == Control::OFFSET {
-            return WroteRegister::Done(self.control_written(value));
+            return self.control_written(value);
         }
         if offset == Pointer::OFFSET {
-            return WroteRegister::Done(self.pointer_written(value));
+            return self.pointer_written(value);
         }
-        WroteRegister::Refused(Refusal::NoRegister)
+        self
     }
 
     // Whether the interrupt line is up: exactly when an interrupt is pending and IE_GLOBAL is 1.
@@ -238,7 +249,11 @@ impl Machine {
         if !self.keeps() {
             return WroteRegister::Refused(Refusal::BadImage);
         }
-        self.written(offset, value)
+        if is_register(offset) {
+            WroteRegister::Done(self.written(offset, value))
+        } else {
+            WroteRegister::Refused(Refusal::NoRegister)
+        }
     }
 
     pub fn line(self) -> Line

@@ -17,7 +17,7 @@ use Rattle.machine.specs.declared.registers.WroteRegister.{WroteRegister}
 use Rattle.machine.specs.declared.registers.WroteRegister.the-variants.{Done, Refused}
 use Rattle.machine.specs.State.{run, swReset, withPointer, withPhase, withBusy, fresh}
 use Rattle.machine.specs.Saved.{keeps}
-use Rattle.machine.specs.Registers.{statusWritten, stored, released, controlWritten, writeOf, WasWritten}
+use Rattle.machine.specs.Registers.{statusWritten, stored, released, controlWritten, writeOf, WasWritten, isRegister}
 use Rattle.met.specs.Sound.{Sound}
 use Rattle.met.proofs.Kept.{InPhase, Suits, Kept, on, neither}
 use Rattle.met.proofs.ByParts.{kept-sound, sound-kept}
@@ -111,9 +111,9 @@ module _ (v : ℕ) {m : Machine} (k : Kept m) where
   unfolding writeOf
   write-after h offset =
       on AfterWrite (keeps m)
-      (λ e. on AfterWrite (eqb offset 0) (λ a. status-kept)
-      (λ a. on AfterWrite (eqb offset 4) (λ b. control-kept)
-      (λ b. on AfterWrite (eqb offset 8) (λ c. pointer-kept h) (λ c. tt))))
+      (λ e. on AfterWrite (isRegister offset)
+      (λ r. on Kept (eqb offset 0) (λ a. status-kept) (λ a. on Kept (eqb offset 4) (λ b. control-kept) (λ b. on Kept (eqb offset 8) (λ c. pointer-kept h) (λ c. k))))
+      (λ r. tt))
       (λ e. tt)
 
 -- Every register write takes a machine that keeps the rules to one that keeps them.

@@ -8,9 +8,8 @@ use native.Mathlib.Omega.{arith}
 use lib.Dec.{leb}
 use lib.ListN.{length}
 use borrow.Author.Tests.{eq-eqb, ne-eqb}
-use Rattle.words.specs.Promise.{Gives}
 use Rattle.bus.specs.declared.Refusal.{Refusal}
-use Rattle.bus.specs.declared.Refusal.the-variants.{BadMode, BadWindow, BadSize, BadImage}
+use Rattle.bus.specs.declared.Refusal.the-variants.{NoRegister, BadMode, BadWindow, BadSize, BadImage}
 use Rattle.bus.specs.declared.Window.{Window}
 use Rattle.bus.specs.declared.CheckedWindow.the-variants as window
 use Rattle.bus.specs.Window.{keepsLimits, checkedOf}
@@ -26,12 +25,12 @@ use Rattle.machine.specs.declared.registers.WroteRegister.{WroteRegister}
 use Rattle.machine.specs.declared.registers.WroteRegister.the-variants as wrote
 use Rattle.machine.specs.State.{fresh}
 use Rattle.machine.specs.Saved.{keeps, modeOf, checkedMode, loadedAs, loadOf, WasLoaded}
-use Rattle.machine.specs.Registers.{writtenAt, wroteNumber}
+use Rattle.machine.specs.Registers.{isRegister, writtenTo, wroteNumber}
 use Rattle.met.specs.Sound.{Sound}
 use Rattle.met.proofs.RoundTrip.{loaded-keeps, loaded-typed}
 use Rattle.met.proofs.Writes.{fresh-keeps, write-keeps}
 use Rattle.sgdma.specs.Calls.{imageOf, createNumber, Created, writtenIn, writtenOver, RegisterWritten}
-use Rattle.sgdma.proofs.Opened.{not-loaded, written-loaded}
+use Rattle.sgdma.proofs.Opened.{not-loaded, write-loaded}
 
 -- ---- sgdma_write_register
 
@@ -41,9 +40,10 @@ sound-loaded xs {m} e =
     let l : WasLoaded xs (Good m) = record { answer = sym e } in
     record { rules = loaded-keeps l; typed = loaded-typed l }
 
-pub written-keeps : (xs : List ℕ) {m n : Machine} (offset v : ℕ) {a : WroteRegister}
-    → loadOf xs ≡ Good m → v < 2 ^ 32 → Gives (writtenAt m offset v) a → a ≡ wrote.Done n → keeps n ≡ true
-written-keeps xs offset v e h w f = write-keeps (sound-loaded xs e) h (record { answer = sym f ∙ written-loaded xs e offset v w .answer }) .rules
+pub written-keeps : (xs : List ℕ) {m n : Machine} (offset v : ℕ) → loadOf xs ≡ Good m → v < 2 ^ 32 → isRegister offset ≡ true
+    → n ≡ writtenTo m offset v → keeps n ≡ true
+written-keeps xs offset v e h r f =
+    write-keeps (sound-loaded xs e) h (record { answer = ap wrote.Done f ∙ sym (write-loaded xs e offset v r) }) .rules
 
 module _ {xs ys : List ℕ} {offset v r : ℕ} where
   says : (a : WroteRegister) → writtenIn (loadOf xs) offset v ≡ a → r ≡ wroteNumber a → ys ≡ writtenOver a xs → RegisterWritten xs offset v r ys
@@ -58,9 +58,14 @@ module _ {xs ys : List ℕ} {offset v r : ℕ} where
   image-spoiled {why} l e p q =
       says (wrote.Refused BadImage) (ap (λ (x : LoadedMachine). writtenIn x offset v) (not-loaded xs why l e)) p q
 
-  pub write-answers : {m : Machine} {a b : WroteRegister} → loadOf xs ≡ Good m → Gives (writtenAt m offset v) a → a ≡ b
-      → r ≡ wroteNumber b → ys ≡ writtenOver b xs → RegisterWritten xs offset v r ys
-  write-answers {m} {a} {b} e w f p q = says b (ap (λ (x : LoadedMachine). writtenIn x offset v) e ∙ sym (written-loaded xs e offset v w .answer) ∙ f) p q
+  pub no-register : {m : Machine} → loadOf xs ≡ Good m → isRegister offset ≡ false → r ≡ 1 → ys ≡ xs → RegisterWritten xs offset v r ys
+  no-register {m} e n p q =
+      says (wrote.Refused NoRegister) (ap (λ (x : LoadedMachine). writtenIn x offset v) e ∙ write-loaded xs e offset v n) p q
+
+  pub written-done : {m n : Machine} → loadOf xs ≡ Good m → isRegister offset ≡ true → n ≡ writtenTo m offset v → r ≡ 0 → ys ≡ imageOf n
+      → RegisterWritten xs offset v r ys
+  written-done {m} {n} e k f p q =
+      says (wrote.Done n) (ap (λ (x : LoadedMachine). writtenIn x offset v) e ∙ write-loaded xs e offset v k ∙ ap wrote.Done (sym f)) p q
 
 -- ---- sgdma_create
 

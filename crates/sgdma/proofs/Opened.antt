@@ -8,7 +8,7 @@ use native.Mathlib.Omega.{arith}
 use lib.ListN.{length}
 use borrow.Author.Tests.{eq-eqb, ne-eqb}
 use Rattle.bus.specs.declared.Refusal.{Refusal}
-use Rattle.bus.specs.declared.Refusal.the-variants.{BadSize, BadImage}
+use Rattle.bus.specs.declared.Refusal.the-variants.{NoRegister, BadSize, BadImage}
 use Rattle.image.specs.declared.Fields.{Fields}
 use Rattle.image.specs.declared.ReadImage.the-variants as read
 use Rattle.image.specs.Layout.{fields}
@@ -18,10 +18,10 @@ use Rattle.image.specs.Promise as image
 use Rattle.machine.specs.declared.Machine.{Machine}
 use Rattle.machine.specs.declared.LoadedMachine.the-variants.{Good, Refused}
 use Rattle.machine.specs.declared.registers.ReadRegister.{ReadRegister}
-use Rattle.machine.specs.declared.registers.WroteRegister.{WroteRegister}
+use Rattle.machine.specs.declared.registers.WroteRegister.the-variants as wrote
 use Rattle.machine.specs.Saved.{keeps, loadedAs, loadOf, WasLoaded}
 use Rattle.machine.specs.declared.registers.Line.the-variants as line
-use Rattle.machine.specs.Registers.{registerAt, readOf, writtenAt, writeOf, lineUp, lineOf, WasRead, WasWritten}
+use Rattle.machine.specs.Registers.{isRegister, registerAt, readOf, writtenTo, writeOf, lineUp, lineOf, WasRead}
 use Rattle.met.proofs.RoundTrip.{loaded-keeps}
 use Rattle.words.specs.Promise.{Gives}
 use Rattle.sgdma.specs.Calls.{isSize}
@@ -60,9 +60,10 @@ module _ (xs : List ℕ) {m : Machine} (e : loadOf xs ≡ Good m) where
   unfolding readOf
   register-loaded offset g = record { answer = rw keeps-loaded (g .value) }
 
-  pub written-loaded : (offset v : ℕ) {a : WroteRegister} → Gives (writtenAt m offset v) a → WasWritten m offset v a
+  pub write-loaded : (offset v : ℕ) {b : Bool} → isRegister offset ≡ b
+      → writeOf m offset v ≡ cond b (wrote.Done (writtenTo m offset v)) (wrote.Refused NoRegister)
   unfolding writeOf
-  written-loaded offset v g = record { answer = rw keeps-loaded (g .value) }
+  write-loaded offset v e = rw (keeps-loaded, e)
 
   pub line-loaded : {up : Bool} → Gives (lineUp m) up → lineOf m ≡ cond up line.Up line.Down
   unfolding lineOf

@@ -30,7 +30,7 @@ use machine::Ran;
 use machine::Reason;
 use machine::RunAnswer;
 use machine::registers::ReadRegister;
-use machine::registers::WroteRegister;
+use machine::registers::is_register;
 use words::Order;
 use words::put_u16;
 use words::put_u32;
@@ -83,14 +83,11 @@ pub extern "C" fn sgdma_write_register(image: &mut [u8], offset: u32, value: u32
     let LoadedMachine::Good(m) = Machine::load(image) else {
         return Refusal::BadImage.number();
     };
-    let answer = m.written(offset, value);
-    match answer {
-        WroteRegister::Refused(why) => why.number(),
-        WroteRegister::Done(n) => {
-            put_image(n, image);
-            0
-        }
+    if !is_register(offset) {
+        return Refusal::NoRegister.number();
     }
+    put_image(m.written(offset, value), image);
+    0
 }
 
 // Reads the register at `offset` into the four bytes of `value`.

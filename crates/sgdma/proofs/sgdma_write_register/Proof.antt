@@ -1,5 +1,6 @@
-use Rattle.sgdma.proofs.Changed.{written-keeps, image-short, image-spoiled, write-answers}
 use mathlib.Core.Path.{_≡_, refl, sym, _∙_}
+use borrow.Author.Tests.{not-true, not-false}
+use Rattle.sgdma.proofs.Changed.{written-keeps, image-short, image-spoiled, no-register, written-done}
 use borrow.Author.Needs.{needs}
 use Rattle.sgdma.proofs.sgdma_write_register.Statement.{statement}
 use Rattle.sgdma.proofs.sgdma_write_register.Tie as tie
@@ -28,39 +29,42 @@ same-length c = search needs
 returns-2 : tie.Need-returns-2
 returns-2 c = image-spoiled (c .before .before .before .before .before .if1 .left) (sym (c .before .before .before .load .ensures .answer) ∙ c .before .enum-told .given .1) (c .number2 .ensures .value) refl
 
-written-requires : tie.Need-written-requires
-written-requires c κs = search needs
-
-enum-known-answer : tie.Need-enum-known-answer
-enum-known-answer c = search needs
+is-register-requires : tie.Need-is-register-requires
+is-register-requires c κs = search needs
 
 number-requires-3 : tie.Need-number-requires-3
 number-requires-3 c κs = search needs
-
-enum-known-answer-2 : tie.Need-enum-known-answer-2
-enum-known-answer-2 c = search needs
-
-put-image-requires : tie.Need-put-image-requires
-put-image-requires c κs =
-    let load = c .before .before .before .before .before .before .before .before in
-    let start = load .before .before .before .before in (
-      written-keeps _ (start .args .offset) (start .args .value)
-          (sym (load .load .ensures .answer) ∙ c .before .before .before .before .before .before .m .given .1) (start .fits .value .fits)
-          (c .before .before .before .before .written .ensures) (c .before .before .answer2 .given .1),
-      search needs,
-    )
 
 same-length-2 : tie.Need-same-length-2
 same-length-2 c = search needs
 
 returns-3 : tie.Need-returns-3
-returns-3 c = write-answers (sym (c .before .before .before .before .before .before .before .before .load .ensures .answer) ∙ c .before .before .before .before .before .before .m .given .1) (c .before .before .before .before .written .ensures) (c .before .before .answer .given .1) (c .number3 .ensures .value) refl
+returns-3 c =
+    let load = c .before .before .before .before .before .before in
+    no-register (sym (load .load .ensures .answer) ∙ c .before .before .before .before .m .given .1) (sym (c .before .before .is-register .ensures .value) ∙ not-true _ (c .before .if2 .taken))
+    (c .number3 .ensures .value) refl
+
+written-requires : tie.Need-written-requires
+written-requires c κs = search needs
+
+put-image-requires : tie.Need-put-image-requires
+put-image-requires c κs =
+    let load = c .before .before .before .before .before .before .before in
+    let start = load .before .before .before .before in
+    (
+      written-keeps _ (start .args .offset) (start .args .value) (sym (load .load .ensures .answer) ∙ c .before .before .before .before .before .m .given .1) (start .fits .value .fits)
+          (sym (c .before .before .before .is-register .ensures .value) ∙ not-false _ (c .before .before .if2 .left)) (c .before .written .ensures .value),
+      search needs,
+    )
 
 same-length-3 : tie.Need-same-length-3
 same-length-3 c = search needs
 
 returns-4 : tie.Need-returns-4
-returns-4 c = write-answers (sym (c .before .before .before .before .before .before .before .before .before .before .before .load .ensures .answer) ∙ c .before .before .before .before .before .before .before .before .before .m .given .1) (c .before .before .before .before .before .before .before .written .ensures) (c .before .before .before .before .before .answer2 .given .1) refl (c .before .before .put-image .ensures .lent)
+returns-4 c =
+    let load = c .before .before .before .before .before .before .before .before .before .before in
+    written-done (sym (load .load .ensures .answer) ∙ c .before .before .before .before .before .before .before .before .m .given .1) (sym (c .before .before .before .before .before .before .is-register .ensures .value) ∙ not-false _ (c .before .before .before .before .before .if2 .left))
+    (c .before .before .before .before .written .ensures .value) refl (c .before .before .put-image .ensures .lent)
 
 pub sgdma-write-register-spec : {M : Type 1} → statement M
 sgdma-write-register-spec =
@@ -74,12 +78,11 @@ sgdma-write-register-spec =
     number-requires-2
     same-length
     returns-2
-    written-requires
-    enum-known-answer
+    is-register-requires
     number-requires-3
-    enum-known-answer-2
-    put-image-requires
     same-length-2
     returns-3
+    written-requires
+    put-image-requires
     same-length-3
     returns-4)
