@@ -20,7 +20,7 @@ use Rattle.machine.proofs.RunLaws.{run-tells}
 use Rattle.met.proofs.RoundTrip.{loaded-typed, loads-exactly}
 use Rattle.sgdma.specs.Calls.{isSize, runCall, ranOver, reportOver, windowIn, outIn}
 use Rattle.chain.proofs.Instances.{known, known-run-1, three, chain-of-three, landed-nth}
-use Rattle.chain_calls.specs.InC.{RunLeft, Found}
+use Rattle.chain_calls.specs.InC.{Found}
 use Rattle.chain_calls.specs.Useless.{Model, Keeps, RefusesEverything, OneFixedAnswer, NeverMoves, OnlyMarksTheOthers, stepsTold, MakesUpSteps}
 use Rattle.chain_calls.proofs.OfCalls.{runs-as, run-not-refused, run-finds}
 use Rattle.chain_calls.proofs.Instances.{lends, lentTo, in-bytes, known-lent, three-lent}
@@ -63,7 +63,7 @@ refuser-fails f r k = r (lentTo known) (run-not-refused 1 known-lent (known-run-
 pub fixed-fails : (f : Model) → OneFixedAnswer f → Keeps f → ⊥
 unfolding descriptorAt bytesFor
 fixed-fails f e k =
-    let same : f (lentTo known) .report ≡ f (lentTo three) .report = ap (λ (y : RunLeft). y .report) (e (lentTo known) (lentTo three)) in
+    let same = e (lentTo known) (lentTo three) in
     let z : _≡_ {A = ℕ} 8 16 = ap (λ (r : List ℕ). getD r 5 0) (sym (known-found f k .report) ∙ same ∙ three-found f k .report) in
     omega arith
 

@@ -42,8 +42,9 @@ RefusesEverything f = (x : RunLent) → f x .number ≢ 0
 
 -- ---- "the one with one fixed answer"
 
+-- already in the report
 abbrev pub OneFixedAnswer : Model → Type 0
-OneFixedAnswer f = (x y : RunLent) → f x ≡ f y
+OneFixedAnswer f = (x y : RunLent) → f x .report ≡ f y .report
 
 -- ---- "the one that never moves"
 

@@ -38,6 +38,7 @@ slotIn (checked.Good w) a = cond (eqb (a % 4) 0) (placed (locatedOf w a 32)) (Re
 unfoldable pub slotOf : (length base a : ℕ) → Slot
 slotOf length base a = slotIn (checkedOf base length) a
 
+-- what the look at a slot gives: its 32 bytes stand within the slice
 abbrev pub Fits : Slot → ℕ → Type 0
 Fits (At p) length = p .0 + 32 ≤ length
 Fits (Refused why) length = Unit {0}

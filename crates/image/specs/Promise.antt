@@ -51,7 +51,7 @@ abbrev pub wroteNumber : WroteImage → ℕ
 wroteNumber wrote.Done = 0
 wroteNumber (wrote.Refused r) = refusalNumber r
 
--- 7 BadSize, then 8 BadImage, else 0
+-- 7 BadSize, then 8 BadImage, else 0: the paper's numbers written out, so that `refusalNumber` is held to them
 abbrev pub imageNumber : (right keeps : Bool) → ℕ
 imageNumber right keeps = cond right (cond keeps 0 8) 7
 

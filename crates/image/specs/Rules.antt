@@ -18,6 +18,7 @@ infix 25 _outside_
 abbrev pub _⇒_ : Bool → Bool → Bool
 b ⇒ a = not b || a
 
+-- a where b, and nowhere else
 abbrev pub _exactly_ : Bool → Bool → Bool
 a exactly b = Bool·beq a b
 

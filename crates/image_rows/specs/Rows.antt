@@ -1,6 +1,6 @@
--- The image's rules held against the paper: for each sentence of "Image rules", and for each way to break it, fields that break
--- it, the numbers of the fields that this counts against, and a twin with the break mended. The rows were worked out from the
--- paper by hand.
+-- The image's rules held against the paper: for each sentence of "Image rules" fields that break it, in each of its parts, the
+-- numbers of the fields that this counts against, and a twin with the break mended. Where a part speaks of many bits or phases some
+-- of them stand for all. The rows were worked out from the paper by hand.
 -- Assumes nothing.
 use Prim.Native.Nat.{ℕ, suc, _-_}
 use mathlib.Core.Path.{_≡_, refl}

@@ -21,6 +21,7 @@ received first beats acts facts =
 
 abbrev pub known : List Scene
 known =
+    -- 1.
     received D four (once 4096 0x20 100)
     (reason 1 ∷ steps 8 ∷ taken 4 ∷ status 0x1C ∷ pointer 4128 ∷ bytes 28 (0x04 ∷ 0x00 ∷ 0x00 ∷ 0x00 ∷ []) ∷ bytes 128 (0x11 ∷ 0x22 ∷ 0x33 ∷ 0x44 ∷ []) ∷ [])
     -- 2. second beat 0x0122

@@ -28,7 +28,8 @@ three = desc 0 4224 4128 1 0x80 ++ desc 0 4224 4160 1 0x80 ++ desc 0 4224 4192 1
 abbrev pub single : List ℕ
 single = desc 0 4224 4128 1 0x80
 
--- reset: armed by the first write, which leaves RUN as it is, and done by the second
+-- reset: armed by the first write, whose RUN and STOP_DMA_ER are stored as any other's, and done by the second, which is ignored
+-- but for bit 16
 abbrev pub resets : List Act → List Act
 resets before = before ++ write 4 0x10060 ∷ write 4 0x10000 ∷ []
 

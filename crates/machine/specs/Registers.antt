@@ -48,7 +48,7 @@ abbrev pub stored : ℕ → Machine → Machine
 stored v m =
     withControl (v % 2 ^ 18) (m .pending && not (bit 31 v)) (cond (not (run (m .control)) && bit 5 v) 0 (m .count)) m
 
--- Ended or Halted goes to Rest with BUSY 0
+-- RUN 0: Ended or Halted goes to Rest with BUSY 0. Faulted stays: only reset leaves it
 abbrev pub released : Phase → Machine → Machine
 released Rest m = m
 released Fetch m = m

@@ -103,6 +103,7 @@ keeps m = keepsRules (fieldsOf m)
 
 -- ---- the machine that fields are
 
+-- a number above 2 is no mode: the rules, and `checkedMode`, leave none
 abbrev pub modeOf : ℕ → Mode
 modeOf n = getD (MemoryToMemory ∷ MemoryToStream ∷ []) n StreamToMemory
 
@@ -126,6 +127,7 @@ workOf f =
       eop = f .eop;
     }
 
+-- a number above 6 is no phase: the rules leave none
 abbrev pub phaseOf : Fields → Phase
 phaseOf f =
     getD (Rest ∷ Fetch ∷ Move (workOf f) ∷ WriteBack (workOf f) ∷ Ended ∷ Halted ∷ []) (f .phase)

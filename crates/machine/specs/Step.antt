@@ -42,7 +42,7 @@ pub data Answer : Type 0 where
 abbrev pub became : World → Machine → World
 became w m = record { machine = m; memory = w .memory; input = w .input; output = w .output; room = w .room }
 
--- a fault sets BUSY 0, keeps code and address, and writes nothing
+-- a fault counts as a step: it sets BUSY 0, keeps code and address, drops the descriptor in hand, and writes nothing
 abbrev pub faulted : World → (code address : ℕ) → Answer
 faulted w code address =
     taken (became w (withPhase (Faulted (record { code = code; address = address })) (withBusy false (w .machine))))
@@ -100,7 +100,8 @@ fetched w d =
     (taken (became w (withPhase (Move (begun a d)) (withPointer (d .next) m)))))
     (taken (became w (ended m)))
 
--- RUN 0: Rest, BUSY 0. Otherwise read 32 bytes at the pointer: misaligned, fault 10; not wholly in the window, fault 11
+-- RUN 0: Rest, BUSY 0. Otherwise read 32 bytes at the pointer: misaligned, fault 10; not wholly in the window, fault 11. A
+-- descriptor is read here and nowhere else
 unfoldable pub fetchStep : World → Answer
 fetchStep w =
     let m = w .machine in
@@ -127,7 +128,7 @@ sourceOf k = byteAddress (readFixed (k .control .0)) (k .source) (k .moved)
 unfoldable pub destinationOf : Work → ℕ
 destinationOf k = byteAddress (writeFixed (k .control .0)) (k .destination) (k .moved)
 
--- one byte more, its errors gathered by OR
+-- one byte more, its errors gathered by OR; and whether its beat had EOP
 abbrev pub withByte : (errors : ℕ) (eop : Bool) → Work → Work
 withByte errors eop k =
     record {
@@ -183,7 +184,7 @@ sendTo w k (suc left) =
 unfoldable pub sendStep : World → Work → Answer
 sendStep w k = cond (inWindow (w .machine .window) (sourceOf k) 1) (sendTo w k (w .room)) (faulted w 13 (sourceOf k % 2 ^ 32))
 
--- mode 2: no beat, no step; then 14, beat not taken
+-- mode 2: no beat, no step; then 14, beat not taken; otherwise the byte is moved and counted, with an error or without
 abbrev pub receiveFrom : World → Work → (input : List ℕ) → Answer
 receiveFrom w k [] = stopped reason.NeedsInput
 receiveFrom w k (b ∷ bs) =
@@ -209,12 +210,13 @@ moveStep StreamToMemory w k = receiveFrom w k (w .input)
 unfoldable pub writtenControl : Machine → Work → ℕ
 writtenControl m k = cond (park (m .control)) (k .control .0) (k .control .0 % 128)
 
--- write the last four descriptor bytes only: actual, errors, control
+-- write the last four descriptor bytes only: actual, errors, control. The 32 bytes are in the window: the address rule of the image
+-- says so of every machine that is served, so nothing is written past its end
 unfoldable pub writtenBack : World → Work → List ℕ
 writtenBack w k =
     putAt (w .memory) (placeOf (w .machine .window) (k .at) + 28) (lastFour (k .moved) (k .errors) (writtenControl (w .machine) k))
 
--- if MAX is 0 it becomes 0; else add 1, and on reaching MAX or more it becomes 0 and IE_MAX pends
+-- if MAX is 0 it becomes 0; else add 1, and on reaching MAX or more it becomes 0 and is full, for which IE_MAX pends
 unfoldable pub counted : (count max : ℕ) → Count
 counted count max =
     cond (eqb max 0) (record { count = 0; full = false })
@@ -233,6 +235,7 @@ statusBack s eop failed busy =
 abbrev pub pends : Control → (eop failed full : Bool) → Bool
 pends c eop failed full = ieDescriptor c || (ieEop c && eop) || (ieError c && failed) || (ieMax c && full)
 
+-- the registers after a descriptor
 unfoldable pub completed : Machine → Work → Machine
 completed m k =
     let c = m .control in
@@ -262,6 +265,7 @@ writeBackStep w k =
 
 -- ---- the step
 
+-- Ended, Halted, Faulted: no step
 abbrev pub stepIn : Phase → World → Answer
 stepIn Rest w = restStep w
 stepIn Fetch w = fetchStep w

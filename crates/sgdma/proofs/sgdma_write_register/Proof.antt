@@ -50,8 +50,7 @@ written-requires c κs = search needs
 put-image-requires : tie.Need-put-image-requires
 put-image-requires c κs =
     let load = c .before .before .before .before .before .before .before in
-    let start = load .before .before .before .before in
-    (
+    let start = load .before .before .before .before in (
       written-keeps _ (start .args .offset) (start .args .value) (sym (load .load .ensures .answer) ∙ c .before .before .before .before .before .m .given .1) (start .fits .value .fits)
           (sym (c .before .before .before .is-register .ensures .value) ∙ not-false _ (c .before .before .if2 .left)) (c .before .written .ensures .value),
       search needs,
