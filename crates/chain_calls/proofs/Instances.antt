@@ -22,26 +22,12 @@ use Rattle.machine.specs.Step.{restStep, fetched, fetchStep, sourceOf, destinat
 use Rattle.machine.specs.Run.{run, even}
 use Rattle.sgdma.specs.Calls.{imageOf}
 use Rattle.chain.specs.Chain.{Given, machineFor, worldFor, Premises}
-use Rattle.chain.proofs.Instances.{known, known-run-1, three}
+use Rattle.chain.specs.Known.{known, three}
+use Rattle.chain.proofs.Instances.{known-run-1}
 use Rattle.chain_calls.specs.InC.{RunLent, RunLeft, Lends, WellLent, runLent, Called, NoneRefused}
+use Rattle.chain_calls.specs.Known.{lends, lentTo, knownLeft}
 use Rattle.chain_calls.specs.Useless.{InBytes}
 use Rattle.chain_calls.proofs.OfCalls.{are-all-bytes, run-is, run-memory, run-image, none-refused, chain-of-calls}
-
--- ---- what is lent: zeros where nothing is said, budget 100
-
-abbrev pub lends : Given → Lends
-lends g =
-    record {
-      image = replicate 44 0;
-      window = g .window;
-      pointer = g .pointer;
-      control = g .control;
-      memory = g .memory;
-      beats = beatBytes (g .beats);
-      out = replicate (2 * g .room) 0;
-      budget = 100;
-      report = replicate 14 0;
-    }
 
 -- zeros and the bytes of beats are bytes, and whole beats
 zero-bytes : (n : ℕ) → AllBytes (replicate n 0)
@@ -71,9 +57,6 @@ well-lent g limits pointer control =
     }
 
 -- what the run is lent then is bytes
-abbrev pub lentTo : Given → RunLent
-lentTo g = runLent (lends g) (imageOf (machineFor g))
-
 pub in-bytes : (g : Given) → Premises g → InBytes (lentTo g)
 in-bytes g h =
     record {
@@ -94,29 +77,6 @@ unfolding keepsLimits
 three-lent = well-lent three refl (omega arith) (omega arith)
 
 -- ---- known run 1
-
--- of the window: D but for its last four bytes, these, and from 4224 on the bytes of the beats
-abbrev pub knownLeft : RunLeft
-knownLeft =
-    record {
-      number = 0;
-      image =
-          0x1A ∷ 0x00 ∷  -- edition 1, mode 2, phase 4, Ended
-          0x1C ∷ 0x00 ∷  -- status, count
-          0x00 ∷ 0x00 ∷ 0x00 ∷ 0x20 ∷  -- control
-          0x00 ∷ 0x00 ∷ 0x10 ∷ 0x20 ∷  -- pointer 4128
-          0x00 ∷ 0x00 ∷ 0x10 ∷ 0x00 ∷  -- base 4096
-          0x00 ∷ 0x00 ∷ 0x01 ∷ 0x00 ∷  -- window length 256
-          replicate 24 0;
-      memory = take 28 (known .memory) ++ 0x04 ∷ 0x00 ∷ 0x00 ∷ 0x00 ∷ replicate 96 0 ++ 0x11 ∷ 0x22 ∷ 0x33 ∷ 0x44 ∷ replicate 124 0;
-      out = [];
-      report =
-          0x00 ∷ 0x01 ∷  -- Ended
-          0x00 ∷ 0x00 ∷ 0x00 ∷ 0x08 ∷  -- steps
-          0x00 ∷ 0x00 ∷ 0x00 ∷ 0x04 ∷  -- taken
-          0x00 ∷ 0x00 ∷ 0x00 ∷ 0x00 ∷  -- made
-          [];
-    }
 
 -- by computation over the step rules
 known-ends : (imageOf (run 100 (worldFor known) .world .machine) ≡ knownLeft .image) × (run 100 (worldFor known) .world .memory ≡ knownLeft .memory)

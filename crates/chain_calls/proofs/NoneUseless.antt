@@ -19,11 +19,13 @@ use Rattle.machine.specs.Run.{Lent, serves, run, worldOf, runAnswer, runNumber}
 use Rattle.machine.proofs.RunLaws.{run-tells}
 use Rattle.met.proofs.RoundTrip.{loaded-typed, loads-exactly}
 use Rattle.sgdma.specs.Calls.{isSize, runCall, ranOver, reportOver, windowIn, outIn}
-use Rattle.chain.proofs.Instances.{known, known-run-1, three, chain-of-three, landed-nth}
+use Rattle.chain.specs.Known.{known, three}
+use Rattle.chain.proofs.Instances.{known-run-1, chain-of-three, landed-nth}
 use Rattle.chain_calls.specs.InC.{Found}
 use Rattle.chain_calls.specs.Useless.{Model, Keeps, RefusesEverything, OneFixedAnswer, NeverMoves, OnlyMarksTheOthers, stepsTold, MakesUpSteps}
 use Rattle.chain_calls.proofs.OfCalls.{runs-as, run-not-refused, run-finds}
-use Rattle.chain_calls.proofs.Instances.{lends, lentTo, in-bytes, known-lent, three-lent}
+use Rattle.chain_calls.specs.Known.{lends, lentTo}
+use Rattle.chain_calls.proofs.Instances.{in-bytes, known-lent, three-lent}
 
 -- ---- the promise can be kept: the model that does what it says
 

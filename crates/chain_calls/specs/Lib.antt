@@ -1,2 +1,3 @@
 pub mod InC
+pub mod Known
 pub mod Useless

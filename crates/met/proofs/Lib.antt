@@ -10,3 +10,4 @@ pub mod AtMove
 pub mod AtWriteBack
 pub mod Steps
 pub mod InUse
+pub mod Faults
