@@ -27,8 +27,10 @@ speed: $(LIBRARY)
 test:
 	@bash .ci/run
 
-target/staticlib/libsgdma.a:
+# Built anew where the code is newer: an old archive would be tested in silence.
+target/staticlib/libsgdma.a: $(wildcard crates/*/src/*.rt)
 	rt staticlib sgdma
+	@touch $@
 
 # The C programs.
 LENT = $(INCLUDE)/sgdma.h $(LIBRARY)
