@@ -34,6 +34,10 @@ pub else : (a b : Bool) → (a || b) ≡ true → a ≡ false → b ≡ true
 else true b e h = absurd (true≢false h)
 else false b e h = e
 
+pub neither : (a b : Bool) → (a || b) ≡ false → (a ≡ false) × (b ≡ false)
+neither true b e = absurd (true≢false e)
+neither false b e = (refl, e)
+
 pub exactly-same : (a b : Bool) → (a exactly b) ≡ true → a ≡ b
 exactly-same true true e = refl
 exactly-same true false e = sym e

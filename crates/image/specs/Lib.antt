@@ -2,3 +2,4 @@ pub mod Layout
 pub mod Rules
 pub mod Promise
 pub mod InWords
+pub mod InGroups

@@ -1,4 +1,5 @@
 // The saved image of a machine: 44 bytes, its fields as numbers, and the rule that each field keeps.
+ghost use mathlib.Core.Bool.{true};
 ghost use mathlib.Core.Path.{_≡_};
 ghost use mathlib.Core.List.{[], _∷_};
 ghost use lib.Dec.{eqb};
@@ -9,6 +10,7 @@ ghost use Rattle.words.specs.Slices.{numberAt};
 ghost use Rattle.words.specs.declared.Order.the-variants.{MostFirst};
 ghost use Rattle.bus.specs.Window.{keepsLimits, inWindow};
 ghost use Rattle.image.specs.Layout.{flag, values, widths, image, fields};
+ghost use Rattle.image.specs.InGroups.{coreKept, handKept, nothingKept};
 ghost use Rattle.image.specs.InWords.{headWidths, sizesWidths, doneWidths, ofWords};
 ghost use Rattle.image.specs.Rules.{zeroOutside, phaseKept, faultKept, statusKept, controlKept, addressKept, sizeKept, dcontrolKept, errorsKept, asked, movedKept, eopKept, rules, firstFalse, lowestBroken, keepsRules};
 ghost use Rattle.image.specs.Promise.{fits, imagePut, WasRead, Wrote};
@@ -265,24 +267,62 @@ pub fn broken(f: Fields) -> u32
     first_false(kept(f))
 }
 
-// Whether all are true. Each is looked at, whatever the one before, so that the compiler makes no branch and keeps no array.
-fn all(kept: [bool; 22]) -> bool
-    ensures { λ r. ⌜ r ≡ eqb (firstFalse 1 kept) 0 ⌝ }
+// The same rules in two groups, for `keeps`, which asks whether each is kept and not which is not: it looks at the phase once.
+// Those of every phase.
+fn core_kept(f: Fields) -> bool
+    ensures { λ r. ⌜ r ≡ coreKept f ⌝ }
 {
-    let mut all = true;
-    let mut i: usize = 0;
-    while i < 22 {
-        all = all & kept[i];
-        i += 1;
-    }
-    all
+    (f.edition == 1)
+        & (f.mode <= 2)
+        & phase_kept(f.mode, f.phase)
+        & fault_kept(f.mode, f.phase, f.fault)
+        & status_kept(f.mode, f.phase, f.status)
+        & (f.count <= 254)
+        & control_kept(f.phase, f.armed, f.control)
+        & limits_kept(f.base, f.window)
+        & (f.rest == 0)
+        & ((f.phase == FAULTED) | (f.faultat == 0))
+}
+
+// Those of the descriptor in hand.
+fn work_kept(f: Fields) -> bool
+    ensures { λ r. ⌜ r ≡ handKept true f ⌝ }
+{
+    let whole = whole(f.mode, f.size);
+    address_kept(true, f.base, f.window, f.address)
+        & size_kept(f.mode, true, f.size)
+        & dcontrol_kept(true, f.dcontrol)
+        & errors_kept(f.mode, true, f.errors)
+        & moved_kept(f.phase, whole, f.errors, f.moved)
+        & eop_kept(f.mode, f.phase, whole, f.moved, f.eop)
+}
+
+// Where none is in hand, all of it is zero.
+fn nothing_kept(f: Fields) -> bool
+    ensures { λ r. ⌜ r ≡ nothingKept f ⌝ }
+{
+    (f.source == 0)
+        & (f.destination == 0)
+        & (f.address == 0)
+        & (f.size == 0)
+        & (f.dcontrol == 0)
+        & (f.errors == 0)
+        & (f.moved == 0)
+        & !f.eop
 }
 
 // Whether the fields keep the rules.
 pub fn keeps(f: Fields) -> bool
     ensures { λ r. ⌜ Gives (keepsRules f) r ⌝ }
 {
-    all(kept(f))
+    let hand = (f.phase == MOVE) | (f.phase == WRITE_BACK);
+    if !core_kept(f) {
+        return false;
+    }
+    if hand {
+        return work_kept(f);
+    }
+    nothing_kept(f)
 }
 
 // A bool as its bit.

@@ -2,7 +2,7 @@
 -- Assumes nothing.
 use Prim.Native.Nat.{ℕ, zero, suc, _%_, _≤_, _<_}
 use mathlib.Core.Path.{_≡_, refl, sym, ap, subst}
-use mathlib.Core.Bool.{Bool, true, false, not, cond, _&&_, _||_, true≢false}
+use mathlib.Core.Bool.{Bool, true, false, not, cond, _&&_, _||_}
 use mathlib.Core.List.{List, [], _∷_}
 use native.Mathlib.Omega.{arith}
 use lib.Dec.{eqb, ltb}
@@ -14,7 +14,7 @@ use Rattle.descriptor.specs.Layout.{owned}
 use Rattle.image.specs.Rules.{asked, keepsRules, lowestBroken}
 use Rattle.image.specs.Rules as rules
 use Rattle.image.proofs.Facts.{move-lt, move-eop, address-inside}
-use Rattle.image.proofs.Tests.{and-left, and-right}
+use Rattle.image.proofs.Tests.{and-left, and-right, neither}
 use Rattle.machine.specs.declared.Machine.{Machine}
 use Rattle.machine.specs.declared.Mode.{Mode}
 use Rattle.machine.specs.declared.Mode.the-variants.{MemoryToMemory, MemoryToStream, StreamToMemory}
@@ -73,10 +73,6 @@ module _ (n : ℕ) (w : World) (s : w .machine .window .length ≡ n) where
       (λ e. goes (record { size = s; left = tt; placed = tt }))
 
 -- ---- Move
-
-neither : (a b : Bool) → (a || b) ≡ false → (a ≡ false) × (b ≡ false)
-neither true b e = absurd (true≢false e)
-neither false b e = (refl, e)
 
 module _ (n : ℕ) (m : Machine) (k : Work) (s : m .window .length ≡ n) (p : inWindow (m .window) (k .at) 32 ≡ true) where
   onward-by : (b : Bool) → (k .eop || eqb (k .moved) (whole m k)) ≡ b → k .moved ≤ whole m k → Ready (withPhase (cond b (WriteBack k) (Move k)) m) n

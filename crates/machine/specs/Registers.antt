@@ -31,17 +31,18 @@ isRegister offset = eqb offset 0 || eqb offset 4 || eqb offset 8
 -- ---- writing
 
 -- writing 1 clears bits 0 to 3; other written bits do nothing
+abbrev pub clearedBy : ℕ → Status → Status
+clearedBy v s =
+    record {
+      error = s .error && not (bit 0 v);
+      eop = s .eop && not (bit 1 v);
+      descriptor = s .descriptor && not (bit 2 v);
+      chain = s .chain && not (bit 3 v);
+      busy = s .busy;
+    }
+
 abbrev pub statusWritten : ℕ → Machine → Machine
-statusWritten v m =
-    withStatus
-    (record {
-      error = m .status .error && not (bit 0 v);
-      eop = m .status .eop && not (bit 1 v);
-      descriptor = m .status .descriptor && not (bit 2 v);
-      chain = m .status .chain && not (bit 3 v);
-      busy = m .status .busy;
-    })
-    m
+statusWritten v m = withStatus (clearedBy v (m .status)) m
 
 -- bits 0..17 are stored; bit 31 clears the pending interrupt; RUN going 0 to 1 sets the descriptor count to 0
 abbrev pub stored : ℕ → Machine → Machine

@@ -39,6 +39,17 @@ worldAt m window beats took output room = world m window (drop took (beatsIn bea
 abbrev pub progress : Machine → (took made : ℕ) → Progress
 progress m took made = record { machine = m; taken = took; made = made }
 
+-- ---- the phases that stand until RUN is written 0
+
+abbrev pub stands : Phase → Bool
+stands Rest = false
+stands Fetch = false
+stands (Move k) = false
+stands (WriteBack k) = false
+stands Ended = true
+stands Halted = true
+stands (Faulted f) = false
+
 -- ---- the machine in a fault
 
 abbrev pub inFault : Machine → (code address : ℕ) → Machine

@@ -1,11 +1,13 @@
 // The registers: offsets 0 status, 4 control, 8 next_descriptor_pointer; and the interrupt line.
 ghost use mathlib.Core.Path.{_≡_};
-ghost use mathlib.Core.Bool.{cond};
+ghost use mathlib.Core.Bool.{cond, not, _&&_};
 ghost use Prim.Native.Nat.{_≤_, _<_};
+ghost use Rattle.words.specs.Bits.{bit};
 ghost use Rattle.words.specs.Promise.{Gives};
 ghost use Rattle.image.specs.Layout.{flag as flagOf};
-ghost use Rattle.machine.specs.State.{fresh as freshOf, statusNumber, withPhase, withBusy, withPointer, rested as restedOf};
-ghost use Rattle.machine.specs.Registers.{statusWritten, stored as storedOf, released as releasedOf, controlWritten, isRegister, registerAt, writtenTo, lineUp, WasRead, WasWritten, WasLine};
+ghost use Rattle.machine.specs.State.{run, swReset, fresh as freshOf, statusNumber, withPhase, withBusy, rested as restedOf};
+ghost use Rattle.machine.specs.Turns.{stands};
+ghost use Rattle.machine.specs.Registers.{clearedBy, isRegister, registerAt, writtenTo, lineUp, WasRead, WasWritten, WasLine};
 use crate::Control;
 use crate::Machine;
 use crate::Mode;
@@ -42,13 +44,6 @@ fn flag(b: bool) -> u32
     if b { 1 } else { 0 }
 }
 
-// The count of descriptors, anew where the run starts.
-fn count_from(starts: bool, count: u8) -> u8
-    ensures { λ r. ⌜ r ≡ cond starts 0 count ⌝ }
-{
-    if starts { 0 } else { count }
-}
-
 impl Status {
     // The register's number.
     pub(crate) fn number(self) -> u32
@@ -59,6 +54,53 @@ impl Status {
             + flag(self.descriptor) * Status::DESCRIPTOR_COMPLETED
             + flag(self.chain) * Status::CHAIN_COMPLETED
             + flag(self.busy) * Status::BUSY
+    }
+
+    // Writing 1 clears bits 0 to 3.
+    fn cleared(self, v: u32) -> Status
+        ensures { λ r. ⌜ r ≡ clearedBy v self ⌝ }
+    {
+        Status {
+            error: self.error & !has(v, Status::ERROR),
+            eop: self.eop & !has(v, Status::EOP_ENCOUNTERED),
+            descriptor: self.descriptor & !has(v, Status::DESCRIPTOR_COMPLETED),
+            chain: self.chain & !has(v, Status::CHAIN_COMPLETED),
+            busy: self.busy,
+        }
+    }
+}
+
+impl Control {
+    // Whether a write resets: SW_RESET is written and already reads 1.
+    fn resets(self, v: u32) -> bool
+        ensures { λ r. ⌜ r ≡ (bit 16 v && swReset self) ⌝ }
+    {
+        has(v, Control::SW_RESET) & has(self.0, Control::SW_RESET)
+    }
+
+    // The count of descriptors after a write: 0 where RUN goes 0 to 1.
+    fn count_from(self, v: u32, count: u8) -> u8
+        ensures { λ r. ⌜ r ≡ cond (not (run self) && bit 5 v) 0 count ⌝ }
+    {
+        let starts = !has(self.0, Control::RUN) & has(v, Control::RUN);
+        if starts { 0 } else { count }
+    }
+}
+
+impl Phase {
+    // Ended and Halted, which stand until RUN is written 0.
+    fn stands(self) -> bool
+        ensures { λ r. ⌜ r ≡ stands self ⌝ }
+    {
+        match self {
+            Phase::Ended => true,
+            Phase::Halted => true,
+            Phase::Rest => false,
+            Phase::Fetch => false,
+            Phase::Move(_) => false,
+            Phase::WriteBack(_) => false,
+            Phase::Faulted(_) => false,
+        }
     }
 }
 
@@ -104,78 +146,6 @@ impl Machine {
     {
         self.enters(Phase::Rest, false)
     }
-
-    // Writing 1 clears bits 0 to 3.
-    fn status_written(self, v: u32) -> Machine
-        ensures { λ r. ⌜ r ≡ statusWritten v self ⌝ }
-    {
-        let error = self.status.error & !has(v, Status::ERROR);
-        let eop = self.status.eop & !has(v, Status::EOP_ENCOUNTERED);
-        let descriptor = self.status.descriptor & !has(v, Status::DESCRIPTOR_COMPLETED);
-        let chain = self.status.chain & !has(v, Status::CHAIN_COMPLETED);
-        let mut m = self;
-        m.status.error = error;
-        m.status.eop = eop;
-        m.status.descriptor = descriptor;
-        m.status.chain = chain;
-        m
-    }
-
-    fn pointer_written(self, v: u32) -> Machine
-        ensures { λ r. ⌜ r ≡ withPointer v self ⌝ }
-    {
-        let pointer = Pointer(v);
-        Machine { pointer, ..self }
-    }
-
-    // Bits 0 to 17 are stored, bit 31 clears what pends, and RUN going 0 to 1 zeroes the count.
-    fn stored(self, v: u32) -> Machine
-        ensures { λ r. ⌜ r ≡ storedOf v self ⌝ }
-    {
-        let starts = !has(self.control.0, Control::RUN) & has(v, Control::RUN);
-        let pending = self.pending & !has(v, Control::CLEAR_INTERRUPT);
-        let count = count_from(starts, self.count);
-        let control = Control(v % Control::NOT_STORED);
-        Machine {
-            control,
-            pending,
-            count,
-            ..self
-        }
-    }
-
-    // Ended and Halted go to Rest.
-    fn released(self) -> Machine
-        ensures { λ r. ⌜ r ≡ releasedOf (self .phase) self ⌝ }
-    {
-        let phase = self.phase;
-        match phase {
-            Phase::Ended => self.rested(),
-            Phase::Halted => self.rested(),
-            Phase::Rest => self,
-            Phase::Fetch => self,
-            Phase::Move(_) => self,
-            Phase::WriteBack(_) => self,
-            Phase::Faulted(_) => self,
-        }
-    }
-
-    fn control_written(self, v: u32) -> Machine
-        ensures { λ r. ⌜ r ≡ controlWritten v self ⌝ }
-    {
-        let resets = has(v, Control::SW_RESET) & has(self.control.0, Control::SW_RESET);
-        if resets {
-            let mode = self.mode;
-            let window = self.window;
-            return Machine::fresh(mode, window);
-        }
-        let m = self.stored(v);
-        if has(v, Control::RUN) {
-            m
-        } else {
-            m.released()
-        }
-    }
 }
 
 // Whether there is a register at the offset.
@@ -207,20 +177,41 @@ impl Machine {
         ReadRegister::Refused(Refusal::NoRegister)
     }
 
-    // An offset that is none changes nothing.
+    // An offset that is none changes nothing. The fields are written in place: a machine that is handed on is copied.
     pub fn written(self, offset: u32, value: u32) -> Machine
         ensures { λ r. ⌜ Gives (writtenTo self offset value) r ⌝ }
     {
+        let mut m = self;
         if offset == Status::OFFSET {
-            return self.status_written(value);
-        }
-        if offset == Control::OFFSET {
-            return self.control_written(value);
+            let status = m.status;
+            let cleared = status.cleared(value);
+            m.status = cleared;
+            return m;
         }
         if offset == Pointer::OFFSET {
-            return self.pointer_written(value);
+            let pointer = Pointer(value);
+            m.pointer = pointer;
+            return m;
         }
-        self
+        if offset != Control::OFFSET {
+            return m;
+        }
+        let control = m.control;
+        if control.resets(value) {
+            let mode = m.mode;
+            let window = m.window;
+            return Machine::fresh(mode, window);
+        }
+        let stored = Control(value % Control::NOT_STORED);
+        let phase = m.phase;
+        let ends = phase.stands() & !has(value, Control::RUN);
+        m.count = control.count_from(value, m.count);
+        m.pending = m.pending & !has(value, Control::CLEAR_INTERRUPT);
+        m.control = stored;
+        if ends {
+            return m.rested();
+        }
+        m
     }
 
     // Whether the interrupt line is up: exactly when an interrupt is pending and IE_GLOBAL is 1.
