@@ -11,3 +11,5 @@ pub mod AtWriteBack
 pub mod Steps
 pub mod InUse
 pub mod Faults
+pub mod Reading
+pub mod Unused

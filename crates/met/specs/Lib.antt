@@ -1,3 +1,5 @@
 pub mod Sound
 pub mod Met
 pub mod Faults
+pub mod Reading
+pub mod Unused

@@ -1,0 +1,90 @@
+-- "A descriptor is read only in its own Fetch": in every other phase what the window holds does not show in the machine, and in
+-- Fetch no more of it than the descriptor at the pointer.
+-- Assumes nothing.
+use Prim.Native.Nat.{ℕ, zero, suc, _%_}
+use mathlib.Core.Path.{_≡_, refl, subst}
+use mathlib.Core.Bool.{Bool, true, false, cond, _&&_}
+use mathlib.Core.List.{List, [], _∷_}
+use lib.Dec.{eqb}
+use Rattle.bus.specs.Window.{inWindow}
+use Rattle.descriptor.specs.declared.Descriptor.{Descriptor}
+use Rattle.descriptor.specs.Layout.{owned}
+use Rattle.machine.specs.declared.Mode.{Mode}
+use Rattle.machine.specs.declared.Mode.the-variants.{MemoryToMemory, MemoryToStream, StreamToMemory}
+use Rattle.machine.specs.declared.Work.{Work}
+use Rattle.machine.specs.declared.Phase.{Phase}
+use Rattle.machine.specs.declared.Phase.the-variants.{Rest, Fetch, Move, WriteBack, Ended, Halted, Faulted}
+use Rattle.machine.specs.State.{run}
+use Rattle.machine.specs.Step.{World, Answer, wantsLength, restStep, fetched, fetchStep, sourceOf, destinationOf, copyStep, sendTo, sendStep, receiveFrom, moveStep, writeBackStep, stepIn, step}
+use Rattle.met.specs.Reading.{over, atPointer, Alike, both, neither}
+
+choice : (b : Bool) {x y u v : Answer} → Alike x u → Alike y v → Alike (cond b x y) (cond b u v)
+choice true p q = p
+choice false p q = q
+
+module _ (w : World) (memory : List ℕ) where
+  rest-alike : Alike (restStep w) (restStep (over memory w))
+  unfolding restStep
+  rest-alike = choice (run (w .machine .control)) (both refl refl refl) neither
+
+  fetched-alike : (d : Descriptor) → Alike (fetched w d) (fetched (over memory w) d)
+  unfolding fetched
+  fetched-alike d =
+      choice (owned (d .control .0))
+      (choice (wantsLength (w .machine .mode) && eqb (d .length) 0) (both refl refl refl) (both refl refl refl))
+      (both refl refl refl)
+
+  fetch-alike : atPointer w ≡ atPointer (over memory w) → Alike (fetchStep w) (fetchStep (over memory w))
+  unfolding fetchStep
+  fetch-alike e =
+      let m = w .machine in
+      choice (run (m .control))
+      (choice (eqb (m .pointer .0 % 4) 0)
+      (choice (inWindow (m .window) (m .pointer .0) 32)
+      (subst (λ (d : Descriptor). Alike (fetched w (atPointer w)) (fetched (over memory w) d)) e (fetched-alike (atPointer w)))
+      (both refl refl refl))
+      (both refl refl refl))
+      (both refl refl refl)
+
+  module _ (k : Work) where
+    copy-alike : Alike (copyStep w k) (copyStep (over memory w) k)
+    unfolding copyStep
+    copy-alike =
+        choice (inWindow (w .machine .window) (sourceOf k) 1)
+        (choice (inWindow (w .machine .window) (destinationOf k) 1) (both refl refl refl) (both refl refl refl))
+        (both refl refl refl)
+
+    sent-alike : (room : ℕ) → Alike (sendTo w k room) (sendTo (over memory w) k room)
+    sent-alike zero = neither
+    sent-alike (suc left) = both refl refl refl
+
+    send-alike : Alike (sendStep w k) (sendStep (over memory w) k)
+    unfolding sendStep
+    send-alike = choice (inWindow (w .machine .window) (sourceOf k) 1) (sent-alike (w .room)) (both refl refl refl)
+
+    receive-alike : (input : List ℕ) → Alike (receiveFrom w k input) (receiveFrom (over memory w) k input)
+    receive-alike [] = neither
+    receive-alike (b ∷ bs) =
+        choice (inWindow (w .machine .window) (destinationOf k) 1) (both refl refl refl) (both refl refl refl)
+
+    move-alike : (mode : Mode) → Alike (moveStep mode w k) (moveStep mode (over memory w) k)
+    move-alike MemoryToMemory = copy-alike
+    move-alike MemoryToStream = send-alike
+    move-alike StreamToMemory = receive-alike (w .input)
+
+    back-alike : Alike (writeBackStep w k) (writeBackStep (over memory w) k)
+    unfolding writeBackStep
+    back-alike = both refl refl refl
+
+  step-alike : (p : Phase) → (p ≡ Fetch → atPointer w ≡ atPointer (over memory w)) → Alike (stepIn p w) (stepIn p (over memory w))
+  step-alike Rest h = rest-alike
+  step-alike Fetch h = fetch-alike (h refl)
+  step-alike (Move k) h = move-alike k (w .machine .mode)
+  step-alike (WriteBack k) h = back-alike k
+  step-alike Ended h = neither
+  step-alike Halted h = neither
+  step-alike (Faulted f) h = neither
+
+  pub read-in-fetch-alone : (w .machine .phase ≡ Fetch → atPointer w ≡ atPointer (over memory w)) → Alike (step w) (step (over memory w))
+  unfolding step
+  read-in-fetch-alone h = step-alike (w .machine .phase) h
