@@ -1,5 +1,6 @@
 -- None of the useless models keeps the promise of sgdma_run, though it can be kept.
 -- Assumes nothing.
+use Rattle.machine.proofs.Answers.{was-loaded}
 use Prim.Native.Nat.{ℕ, _<_}
 use mathlib.Core.Path.{_≡_, refl, sym, ap, _∙_}
 use mathlib.Core.Bool.{cond, _&&_}
@@ -93,7 +94,7 @@ pub made-up-fails : (f : Model) → MakesUpSteps f → Keeps f → ⊥
 made-up-fails f u k =
     let x = u .lent in
     let w = worldOf (u .machine) (x .memory) (x .beats) (x .out) in
-    let l : WasLoaded (x .image) (Good (u .machine)) = record { answer = sym (u .loads) } in
+    let l : WasLoaded (x .image) (Good (u .machine)) = was-loaded (sym (u .loads)) in
     let size : length (x .image) ≡ 44 =
     ap length (loads-exactly (x .image) (u .machine) (u .bytes .image) (loaded-typed l) .0 l .1) ∙ length-image (fieldsOf (u .machine)) in
     let answer : runCall (x .image) (x .memory) (x .beats) (x .out) (x .budget) (x .report) ≡ runAnswer serves w (x .budget) =

@@ -1,6 +1,7 @@
 -- Demand 3 of the C calls. The image between two calls is that of a machine met in use, and loads back as it: so what the calls
 -- promise over images is what the methods promise over machines, of which the chain theorem is proved.
 -- Assumes nothing.
+use Rattle.machine.proofs.Answers.{was-written, run-number}
 use Prim.Native.Nat.{ℕ, _+_, _≤_, _<_}
 use mathlib.Core.Path.{_≡_, refl, sym, ap, subst, _∙_}
 use mathlib.Core.List.{List, [], _∷_}
@@ -69,6 +70,7 @@ module _ (x : RunLent) {m : Machine} (size : length (x .image) ≡ 44) (report-s
   has-run y p =
       record {
         answer = refl;
+        number = run-number (lentOf m (x .memory) (x .beats) (x .out)) _ (x .budget);
         window-after = p .window-after ∙ sizes-right _ _ 14 (x .image) (x .report) size report-size
             ∙ ap (λ (y : LoadedMachine). windowIn y (x .memory) (x .beats) (x .out) (x .budget)) e;
         out-after = p .out-after ∙ sizes-right _ _ 14 (x .image) (x .report) size report-size
@@ -88,19 +90,19 @@ module _ {l : Lends} (w : WellLent l) where
   m2 = controlWritten (l .control) m1
 
   pointed-as : writeOf m0 8 (l .pointer) ≡ wrote.Done m1
-  pointed-as = pointer-done (l .window) (w .limits) (l .pointer) (record { answer = refl })
+  pointed-as = pointer-done (l .window) (w .limits) (l .pointer) (was-written refl)
 
   started-as : writeOf m1 4 (l .control) ≡ wrote.Done m2
-  started-as = control-done (l .window) (w .limits) (l .pointer) (l .control) (record { answer = refl })
+  started-as = control-done (l .window) (w .limits) (l .pointer) (l .control) (was-written refl)
 
   met0 : Met m0
   met0 = met.fresh StreamToMemory (l .window) (w .limits)
 
   met1 : Met m1
-  met1 = met.written met0 (w .pointer-bits) (record { answer = sym pointed-as })
+  met1 = met.written met0 (w .pointer-bits) (was-written (sym pointed-as))
 
   met2 : Met m2
-  met2 = met.written met1 (w .control-bits) (record { answer = sym started-as })
+  met2 = met.written met1 (w .control-bits) (was-written (sym started-as))
 
   module _ {created pointed started : ℕ} {left : RunLeft} (c : Called l created pointed started left) where
     creates : createNumber (l .image) 2 (l .window .base) (l .window .length) ≡ 0
@@ -138,8 +140,8 @@ module _ {l : Lends} {left : RunLeft} (k : ℕ) (w : WellLent l) (h : Premises (
         m1 = m1 w;
         m2 = m2 w;
         made = record { value = refl };
-        pointed = record { answer = sym (pointed-as w) };
-        started = record { answer = sym (started-as w) };
+        pointed = was-written (sym (pointed-as w));
+        started = was-written (sym (started-as w));
         even-beats = w .even-beats;
         even-out = w .even-out;
         ran = has-run (runLent l (imageOf (machineFor g))) (length-image (fieldsOf (machineFor g))) (w .report-size) loaded left p;
@@ -173,7 +175,7 @@ module _ {l : Lends} {left : RunLeft} (k : ℕ) (w : WellLent l) (h : Premises (
   run-loads =
       let r = by-methods .ran in
       let made : HasRun (machineFor g) (l .memory) (l .beats) (l .out) (l .budget) (many.Done ran) (left .memory) (left .out) =
-      record { answer = sym done; window-after = r .window-after; out-after = r .out-after } in
+      record { answer = sym done; number = ap runNumber (sym done) ∙ r .number; window-after = r .window-after; out-after = r .out-after } in
       ap loadOf run-image ∙ loads-as (met.ran (met2 w) (are-all-bytes (l .memory) (h .bytes)) (w .beat-bytes) made)
 
   pub run-finds : 2 + cost (shares g) ≤ l .budget → Found g l left

@@ -1,18 +1,50 @@
 -- What a call answers, from what it learnt.
 -- Assumes nothing.
 use Prim.Native.Nat.{ℕ}
-use mathlib.Core.Path.{_≡_, sym, ap, _∙_}
-use mathlib.Core.Bool.{Bool, _&&_}
+use mathlib.Core.Path.{_≡_, refl, sym, ap, _∙_}
+use mathlib.Core.Bool.{Bool, true, false, cond, _&&_, _||_}
 use mathlib.Core.List.{List}
+use lib.Dec.{eqb}
+use Rattle.bus.specs.declared.Refusal.the-variants.{NoRegister, BadImage}
 use Rattle.image.specs.declared.Fields.{Fields}
+use Rattle.image.specs.declared.ReadImage.{ReadImage}
+use Rattle.image.specs.declared.ReadImage.the-variants as read
 use Rattle.image.specs.declared.WroteImage.{WroteImage}
-use Rattle.image.specs.Promise.{Wrote, wroteOf, imageOver}
+use Rattle.image.specs.declared.WroteImage.the-variants as wrote
+use Rattle.image.specs.Rules.{keepsRules}
+use Rattle.image.specs.Promise.{Wrote, sized, readOf, wroteOf, imageOver, readNumber, wroteNumber, imageNumber}
+use Rattle.image.proofs.Answers.{was-read}
 use Rattle.machine.specs.declared.Machine.{Machine}
-use Rattle.machine.specs.Saved.{fieldsOf, savedAs, saveOf, WasSaved}
+use Rattle.machine.specs.declared.LoadedMachine.{LoadedMachine}
+use Rattle.machine.specs.declared.registers.ReadRegister.{ReadRegister}
+use Rattle.machine.specs.declared.registers.ReadRegister.the-variants as reg
+use Rattle.machine.specs.declared.registers.WroteRegister.{WroteRegister}
+use Rattle.machine.specs.declared.registers.WroteRegister.the-variants as done
+use Rattle.machine.specs.declared.registers.Line.{Line}
+use Rattle.machine.specs.declared.registers.Line.the-variants as line
+use Rattle.machine.specs.Saved.{fieldsOf, keeps, loadedAs, loadOf, savedAs, saveOf, loadNumber, saveNumber, WasLoaded, WasSaved}
+use Rattle.machine.specs.Registers.{isRegister, registerAt, writtenTo, writeOf, lineUp, lineOf, lineNumber, registerNumber, WasWritten, WasLine}
+use Rattle.machine.specs.Registers as registers
+use Rattle.machine.specs.Step.{World, Answer, taken, stopped}
+use Rattle.machine.specs.Run.{Lent, serves, refused, steppedAs, runAnswer, stepNumber, runNumber, lentNumber}
 
 -- a test of two flags, by what they tell
 pub both : {a b c d t : Bool} → a ≡ c → b ≡ d → (a && b) ≡ t → (c && d) ≡ t
 both p q e = cc
+
+-- ---- load and save
+
+loaded-number : (a : ReadImage) → loadNumber (loadedAs a) ≡ readNumber a
+loaded-number (read.Good f) = refl
+loaded-number (read.Refused why) = refl
+
+pub was-loaded : {xs : List ℕ} {r : LoadedMachine} → r ≡ loadOf xs → WasLoaded xs r
+unfolding loadOf
+was-loaded {xs} e = record { answer = e; number = ap loadNumber e ∙ loaded-number (readOf xs) ∙ was-read {xs = xs} refl .number }
+
+saved-number : (a : WroteImage) → saveNumber (savedAs a) ≡ wroteNumber a
+saved-number wrote.Done = refl
+saved-number (wrote.Refused why) = refl
 
 pub was-saved : {m : Machine} {xs ys : List ℕ} {f : Fields} {w v : WroteImage}
     → f ≡ fieldsOf m → Wrote f xs w ys → w ≡ v → WasSaved m xs (savedAs v) ys
@@ -20,5 +52,53 @@ unfolding saveOf
 was-saved {m} {xs} {ys} {f} {w} {v} e p q =
     record {
       answer = ap savedAs (sym q ∙ p .answer ∙ ap (λ (g : Fields). wroteOf g xs) e);
+      number = saved-number v ∙ ap wroteNumber (sym q) ∙ p .number ∙ ap (λ (g : Fields). imageNumber (sized xs) (keepsRules g)) e;
       lent = p .lent ∙ ap (λ (g : Fields). imageOver g xs) e;
     }
+
+-- ---- the registers and the line
+
+known : (a b c : Bool) (u v w : ℕ)
+    → registers.readNumber (cond a (reg.Value u) (cond b (reg.Value v) (cond c (reg.Value w) (reg.Refused NoRegister)))) ≡ cond (a || b || c) 0 1
+known true b c u v w = refl
+known false true c u v w = refl
+known false false true u v w = refl
+known false false false u v w = refl
+
+module _ {m : Machine} {offset : ℕ} where
+  pub was-register : {r : ReadRegister} → r ≡ registers.readOf m offset → registers.WasRead m offset r
+  unfolding registers.readOf
+  was-register e = record { answer = e; number = ap registers.readNumber e ∙ number (keeps m) }
+    where
+      number : (k : Bool) → registers.readNumber (cond k (registerAt m offset) (reg.Refused BadImage)) ≡ registerNumber k (isRegister offset)
+      number true = known (eqb offset 0) (eqb offset 4) (eqb offset 8) _ _ _
+      number false = refl
+
+  pub was-written : {v : ℕ} {r : WroteRegister} → r ≡ writeOf m offset v → WasWritten m offset v r
+  unfolding writeOf
+  was-written {v} e = record { answer = e; number = ap registers.wroteNumber e ∙ number (keeps m) (isRegister offset) }
+    where
+      number : (k known : Bool)
+          → registers.wroteNumber (cond k (cond known (done.Done (writtenTo m offset v)) (done.Refused NoRegister)) (done.Refused BadImage)) ≡ registerNumber k known
+      number true true = refl
+      number true false = refl
+      number false known = refl
+
+pub was-line : {m : Machine} {r : Line} → r ≡ lineOf m → WasLine m r
+unfolding lineOf
+was-line {m} e = record { answer = e; number = ap lineNumber e ∙ number (keeps m) (lineUp m) }
+  where
+    number : (k up : Bool) → lineNumber (cond k (cond up line.Up line.Down) (line.Refused BadImage)) ≡ registerNumber k true
+    number true true = refl
+    number true false = refl
+    number false up = refl
+
+-- ---- steps and runs
+
+pub stepped-number : (w : World) (a : Answer) → stepNumber (steppedAs w a) ≡ 0
+stepped-number w (taken v) = refl
+stepped-number w (stopped r) = refl
+
+pub run-number : (lent : Lent) (w : World) (budget : ℕ) → runNumber (runAnswer lent w budget) ≡ lentNumber lent
+run-number serves w budget = refl
+run-number (refused why) w budget = refl

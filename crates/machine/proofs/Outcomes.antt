@@ -22,7 +22,8 @@ use Rattle.machine.specs.declared.steps.Wait.the-variants.{Stop}
 use Rattle.machine.specs.Saved.{keeps}
 use Rattle.flow.specs.Beats.{beatsIn, beatBytes}
 use Rattle.machine.specs.Step.{Answer, taken, stopped, step}
-use Rattle.machine.specs.Run.{Lent, serves, refused, even, lentIf, lentOf, worldOf, outputOver, steppedAs, worldAfter, stepAnswer, windowAfter, outAfter, Stepped, Runs, HasRun, readyOf, Resumed}
+use Rattle.machine.proofs.Answers.{stepped-number}
+use Rattle.machine.specs.Run.{Lent, serves, refused, even, lentIf, lentOf, worldOf, outputOver, steppedAs, worldAfter, stepAnswer, windowAfter, outAfter, stepNumber, lentNumber, Stepped, Runs, HasRun, readyOf, Resumed}
 use Rattle.machine.specs.Turns.{worldAt, waitOf, Within, Went, Ready}
 use Rattle.flow.proofs.Streams.{length-beats, length-beat-bytes}
 use Rattle.machine.proofs.Readiness.{keeps-ready, keeps-tested}
@@ -77,6 +78,7 @@ module _ {m : Machine} {window beats out : List ℕ} where
       let w = worldOf m window beats out in
       record {
         answer = sym (ap (λ (l : Lent). stepAnswer l w) e);
+        number = sym (ap lentNumber e);
         window-after = sym (ap (λ (l : Lent). windowAfter l (worldAfter w (step w)) window) e);
         out-after = sym (ap (λ (l : Lent). outAfter l (worldAfter w (step w)) out) e);
       }
@@ -90,6 +92,7 @@ module _ {m : Machine} {window beats out : List ℕ} where
         let w = worldOf m window beats out in
         record {
           answer = p ∙ sym (ap (λ (l : Lent). stepAnswer l w) e ∙ ap (λ (x : Answer). steppedAs w x) s);
+          number = ap stepNumber p ∙ stepped-number w a ∙ sym (ap lentNumber e);
           window-after = q
               ∙ sym (ap (λ (l : Lent). windowAfter l (worldAfter w (step w)) window) e ∙ ap (λ (x : Answer). worldAfter w x .memory) s);
           out-after = o

@@ -16,7 +16,7 @@ use Rattle.machine.specs.declared.RunAnswer.the-variants as many
 use Rattle.machine.specs.declared.steps.Wait.the-variants.{Go, Stop}
 use Rattle.flow.specs.Beats.{beatsIn, beatBytes}
 use Rattle.machine.specs.Step.{World, taken, step}
-use Rattle.machine.specs.Run.{Report, run, Lent, serves, refused, worldOf, outputOver, ranAs, runAnswer, windowAfter, outAfter, Runs}
+use Rattle.machine.specs.Run.{Report, run, Lent, serves, refused, worldOf, outputOver, ranAs, runAnswer, windowAfter, outAfter, lentNumber, Runs}
 use Rattle.machine.specs.Turns.{worldAt, progress, waitOf, steps, Within, Went, Ready}
 use Rattle.flow.proofs.Streams.{length-beat-bytes}
 use Rattle.machine.proofs.Streams.{beat-bytes-append, none-made}
@@ -93,6 +93,7 @@ module _ (m₀ : Machine) (window₀ beats out₀ : List ℕ) (budget : ℕ) whe
         record {
           answer = ap many.Done tells
               ∙ sym (ap (λ (l : Lent). runAnswer l w budget) e ∙ ap (λ (x : Report). many.Done (ranAs w x)) full);
+          number = sym (ap lentNumber e);
           window-after = sym (ap (λ (l : Lent). windowAfter l (run budget w .world) window₀) e ∙ ap (λ (x : Report). x .world .memory) full);
           out-after = s .wrote ∙ over out₀ (s .output)
               ∙ sym (ap (λ (l : Lent). outAfter l (run budget w .world) out₀) e ∙ ap (λ (x : Report). outputOver (x .world) out₀) full);
@@ -118,6 +119,7 @@ run-refused {m = m} {window = window} {beats = beats} {out = out} {budget = budg
     let w = worldOf m window beats out in
     record {
       answer = sym (ap (λ (l : Lent). runAnswer l w budget) e);
+      number = sym (ap lentNumber e);
       window-after = sym (ap (λ (l : Lent). windowAfter l (run budget w .world) window) e);
       out-after = sym (ap (λ (l : Lent). outAfter l (run budget w .world) out) e);
     }

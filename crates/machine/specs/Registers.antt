@@ -108,16 +108,23 @@ lineNumber line.Up = 0
 lineNumber line.Down = 0
 lineNumber (line.Refused why) = refusalNumber why
 
+-- 8 BadImage, then 1 NoRegister, else 0: the paper's numbers written out, so that `refusalNumber` is held to them
+abbrev pub registerNumber : (keeps known : Bool) → ℕ
+registerNumber keeps known = cond keeps (cond known 0 1) 8
+
 -- ---- the promises
 
 pub record WasRead (m : Machine) (offset : ℕ) (r : ReadRegister) : Type 0 where
   pub answer : r ≡ readOf m offset
+  pub number : readNumber r ≡ registerNumber (keeps m) (isRegister offset)
 
 pub record WasWritten (m : Machine) (offset v : ℕ) (r : WroteRegister) : Type 0 where
   pub answer : r ≡ writeOf m offset v
+  pub number : wroteNumber r ≡ registerNumber (keeps m) (isRegister offset)
 
 pub record WasLine (m : Machine) (r : Line) : Type 0 where
   pub answer : r ≡ lineOf m
+  pub number : lineNumber r ≡ registerNumber (keeps m) true
 
 pub read-unique : {m : Machine} {offset : ℕ} {r s : ReadRegister} → WasRead m offset r → WasRead m offset s → r ≡ s
 read-unique p q = p .answer ∙ sym (q .answer)

@@ -143,10 +143,16 @@ abbrev pub runNumber : RunAnswer → ℕ
 runNumber (many.Done r) = 0
 runNumber (many.Refused why) = refusalNumber why
 
+-- and of what is lent: a step or a run is refused for that alone
+abbrev pub lentNumber : Lent → ℕ
+lentNumber serves = 0
+lentNumber (refused why) = refusalNumber why
+
 -- ---- the promises
 
 pub record Stepped (m : Machine) (window beats out : List ℕ) (r : StepAnswer) (window' out' : List ℕ) : Type 0 where
   pub answer : r ≡ stepAnswer (lentOf m window beats out) (worldOf m window beats out)
+  pub number : stepNumber r ≡ lentNumber (lentOf m window beats out)
   pub window-after : window'
       ≡ windowAfter (lentOf m window beats out) (worldAfter (worldOf m window beats out) (step (worldOf m window beats out))) window
   pub out-after : out' ≡ outAfter (lentOf m window beats out) (worldAfter (worldOf m window beats out) (step (worldOf m window beats out))) out
@@ -154,6 +160,7 @@ pub record Stepped (m : Machine) (window beats out : List ℕ) (r : StepAnswer) 
 -- a run, by whether what is lent serves
 pub record Runs (lent : Lent) (m : Machine) (window beats out : List ℕ) (budget : ℕ) (r : RunAnswer) (window' out' : List ℕ) : Type 0 where
   pub answer : r ≡ runAnswer lent (worldOf m window beats out) budget
+  pub number : runNumber r ≡ lentNumber lent
   pub window-after : window' ≡ windowAfter lent (run budget (worldOf m window beats out) .world) window
   pub out-after : out' ≡ outAfter lent (run budget (worldOf m window beats out) .world) out
 

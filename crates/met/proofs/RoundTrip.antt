@@ -1,6 +1,7 @@
 -- Images and machines come back from one another: a loaded image saved again gives the same bytes; a machine that keeps the
 -- rules saves to an image that loads back as it; bytes load as a machine exactly when it keeps the rules and they are its image.
 -- Assumes nothing.
+use Rattle.machine.proofs.Answers.{was-loaded}
 use Prim.Native.Nat.{ℕ}
 use mathlib.Core.Path.{_≡_, refl, sym, ap, _∙_}
 use mathlib.Core.Bool.{true, false}
@@ -149,4 +150,4 @@ loads-exactly xs m g t = (there, back)
     there l = (loaded-keeps l, sym (loaded-image l g))
 
     back : (core.keeps m ≡ true) × (xs ≡ image (core.fieldsOf m)) → core.WasLoaded xs (Good m)
-    back (k, e) = record { answer = sym (ap core.loadOf e ∙ loads m t k) }
+    back (k, e) = was-loaded (sym (ap core.loadOf e ∙ loads m t k))

@@ -1,5 +1,6 @@
 -- Calls that change an image.
 -- Assumes nothing.
+use Rattle.machine.proofs.Answers.{was-loaded, was-written}
 use Prim.Native.Nat.{ℕ, _^_, _<_}
 use mathlib.Core.Path.{_≡_, refl, sym, ap, _∙_}
 use mathlib.Core.Bool.{Bool, true, false, cond}
@@ -37,13 +38,13 @@ use Rattle.sgdma.proofs.Opened.{not-loaded, write-loaded}
 -- a loaded machine is sound
 pub sound-loaded : (xs : List ℕ) {m : Machine} → loadOf xs ≡ Good m → Sound m
 sound-loaded xs {m} e =
-    let l : WasLoaded xs (Good m) = record { answer = sym e } in
+    let l : WasLoaded xs (Good m) = was-loaded (sym e) in
     record { rules = loaded-keeps l; typed = loaded-typed l }
 
 pub written-keeps : (xs : List ℕ) {m n : Machine} (offset v : ℕ) → loadOf xs ≡ Good m → v < 2 ^ 32 → isRegister offset ≡ true
     → n ≡ writtenTo m offset v → keeps n ≡ true
 written-keeps xs offset v e h r f =
-    write-keeps (sound-loaded xs e) h (record { answer = ap wrote.Done f ∙ sym (write-loaded xs e offset v r) }) .rules
+    write-keeps (sound-loaded xs e) h (was-written (ap wrote.Done f ∙ sym (write-loaded xs e offset v r))) .rules
 
 module _ {xs ys : List ℕ} {offset v r : ℕ} where
   says : (a : WroteRegister) → writtenIn (loadOf xs) offset v ≡ a → r ≡ wroteNumber a → ys ≡ writtenOver a xs → RegisterWritten xs offset v r ys

@@ -1,5 +1,6 @@
 -- The sizes of what is lent, an image that does not load, and the registers of one that does.
 -- Assumes nothing.
+use Rattle.machine.proofs.Answers.{was-loaded, was-register}
 use Prim.Native.Nat.{ℕ}
 use mathlib.Core.Path.{_≡_, refl, sym, ap, _∙_}
 use mathlib.Core.Bool.{Bool, true, false, cond, _&&_}
@@ -53,12 +54,11 @@ not-loaded xs why l e =
 module _ (xs : List ℕ) {m : Machine} (e : loadOf xs ≡ Good m) where
   pub keeps-loaded : keeps m ≡ true
   keeps-loaded =
-      let l : WasLoaded xs (Good m) = record { answer = sym e } in
-      loaded-keeps l
+      loaded-keeps (was-loaded (sym e))
 
   pub register-loaded : (offset : ℕ) {a : ReadRegister} → Gives (registerAt m offset) a → WasRead m offset a
   unfolding readOf
-  register-loaded offset g = record { answer = rw keeps-loaded (g .value) }
+  register-loaded offset g = was-register (rw keeps-loaded (g .value))
 
   pub write-loaded : (offset v : ℕ) {b : Bool} → isRegister offset ≡ b
       → writeOf m offset v ≡ cond b (wrote.Done (writtenTo m offset v)) (wrote.Refused NoRegister)

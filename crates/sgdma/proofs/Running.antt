@@ -1,5 +1,6 @@
 -- The run over an image.
 -- Assumes nothing.
+use Rattle.machine.proofs.Answers.{was-loaded}
 use Prim.Native.Nat.{ℕ, _+_, _≤_, _<_}
 use mathlib.Core.Path.{_≡_, refl, sym, ap, subst, _∙_}
 use mathlib.Core.Bool.{true, cond, _&&_}
@@ -54,10 +55,9 @@ module _ {m : Machine} {window beats out window' out' : List ℕ} {budget : ℕ}
 
   pub ran-keeps : (xs : List ℕ) → loadOf xs ≡ Good m → AllBytes window → AllBytes beats → keeps (r .machine) ≡ true
   ran-keeps xs l g i =
-      let loaded : WasLoaded xs (Good m) = record { answer = sym l } in
       let done : HasRun m window beats out budget (ran.Done r) window' out' =
       subst (λ (x : RunAnswer). HasRun m window beats out budget x window' out') e (resumed-runs (keeps-loaded xs l) h) in
-      met-keeps (met.ran (met.loaded loaded) g i done)
+      met-keeps (met.ran (met.loaded (was-loaded (sym l))) g i done)
 
 -- ---- sgdma_run
 

@@ -1,3 +1,4 @@
+use Rattle.machine.proofs.Answers.{was-loaded}
 use Rattle.machine.specs.Saved.{loadedAs, loadOf}
 use Rattle.machine.specs.declared.LoadedMachine.the-variants.{Good}
 use mathlib.Core.Path.{_≡_, sym, ap, _∙_}
@@ -19,11 +20,11 @@ enum-known-found-2 c = search needs
 
 returns : tie.Need-returns
 unfolding loadOf
-returns c = record { answer = ap Good (c .machine-of .ensures) ∙ sym (ap loadedAs (sym (c .before .before .before .before .read .ensures .answer) ∙ c .before .before .found .given .1)) }
+returns c = was-loaded (ap Good (c .machine-of .ensures) ∙ sym (ap loadedAs (sym (c .before .before .before .before .read .ensures .answer) ∙ c .before .before .found .given .1)))
 
 returns-2 : tie.Need-returns-2
 unfolding loadOf
-returns-2 c = record { answer = sym (ap loadedAs (sym (c .before .before .before .read .ensures .answer) ∙ c .before .found2 .given .1)) }
+returns-2 c = was-loaded (sym (ap loadedAs (sym (c .before .before .before .read .ensures .answer) ∙ c .before .found2 .given .1)))
 
 pub load-spec : {M : Type 1} → statement M
 load-spec =

@@ -1,3 +1,4 @@
+use Rattle.machine.proofs.Answers.{was-register}
 use Rattle.machine.specs.Registers.{readOf}
 use borrow.Author.Tests.{not-true, not-false}
 use mathlib.Core.Path.{sym, _∙_}
@@ -10,14 +11,14 @@ keeps-requires c κs = search needs
 
 returns : tie.Need-returns
 unfolding readOf
-returns c = record { answer = rw (sym (c .before .keeps .ensures) ∙ not-true _ (c .if1 .taken)) }
+returns c = was-register (rw (sym (c .before .keeps .ensures) ∙ not-true _ (c .if1 .taken)))
 
 register-requires : tie.Need-register-requires
 register-requires c κs = search needs
 
 returns-2 : tie.Need-returns-2
 unfolding readOf
-returns-2 c = record { answer = rw (sym (c .before .before .keeps .ensures) ∙ not-false _ (c .before .if1 .left)) (c .register .ensures .value) }
+returns-2 c = was-register (rw (sym (c .before .before .keeps .ensures) ∙ not-false _ (c .before .if1 .left)) (c .register .ensures .value))
 
 pub read-register-spec : {M : Type 1} → statement M
 read-register-spec = tie.close (tie.spec keeps-requires returns register-requires returns-2)
