@@ -8,10 +8,11 @@ use lib.Dec.{leb}
 use borrow.Author.Tests.{le-leb, lt-leb, leb-true}
 use Rattle.bus.specs.declared.Place.{Place}
 use Rattle.bus.specs.declared.Window.{Window}
+use Rattle.bus.specs.declared.CheckedWindow.{CheckedWindow}
 use Rattle.bus.specs.declared.CheckedWindow.the-variants.{Good, Refused}
 use Rattle.bus.specs.declared.Located.the-variants.{At, Outside}
 use Rattle.bus.specs.declared.Refusal.the-variants.{BadWindow}
-use Rattle.bus.specs.Window.{keepsLimits, checkedOf, inWindow, placeOf, locatedOf}
+use Rattle.bus.specs.Window.{keepsLimits, checkedOf, checkedNumber, inWindow, placeOf, locatedOf, Checked}
 
 module _ (base length : ℕ) where
   pub checked-good : length ≤ 65536 → base ≤ 4294967295 → base + length ≤ 4294967296
@@ -30,6 +31,14 @@ module _ (base length : ℕ) where
   pub past-end : length ≤ 65536 → base ≤ 4294967295 → 4294967296 < base + length → checkedOf base length ≡ Refused BadWindow
   unfolding checkedOf keepsLimits
   past-end h i j = rw (le-leb length 65536 h, le-leb base 4294967295 i, lt-leb (base + length) 4294967296 j)
+
+pub was-checked : {base length : ℕ} {r : CheckedWindow} → r ≡ checkedOf base length → Checked base length r
+unfolding checkedOf
+was-checked {base} {length} e = record { answer = e; number = ap checkedNumber e ∙ number (keepsLimits base length) }
+  where
+    number : (t : Bool) → checkedNumber (cond t (Good (record { base = base; length = length })) (Refused BadWindow)) ≡ cond t 0 3
+    number true = refl
+    number false = refl
 
 module _ (w : Window) (a n : ℕ) where
   pub located-at : w .base ≤ a → a + n ≤ w .base + w .length → locatedOf w a n ≡ At (record { 0 = placeOf w a })

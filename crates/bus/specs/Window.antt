@@ -10,6 +10,7 @@ use Rattle.bus.specs.declared.CheckedWindow.the-variants.{Good, Refused}
 use Rattle.bus.specs.declared.Located.{Located}
 use Rattle.bus.specs.declared.Located.the-variants as located
 use Rattle.bus.specs.declared.Refusal.the-variants.{BadWindow}
+use Rattle.bus.specs.Refusal.{refusalNumber}
 
 -- length 0 to 65,536; base at most 4,294,967,295, base + length at most 4,294,967,296
 unfoldable pub keepsLimits : (base length : ℕ) → Bool
@@ -17,6 +18,11 @@ keepsLimits base length = leb length 65536 && leb base 4294967295 && leb (base +
 
 unfoldable pub checkedOf : (base length : ℕ) → CheckedWindow
 checkedOf base length = cond (keepsLimits base length) (Good (record { base = base; length = length })) (Refused BadWindow)
+
+-- the paper's number of each answer
+abbrev pub checkedNumber : CheckedWindow → ℕ
+checkedNumber (Good w) = 0
+checkedNumber (Refused why) = refusalNumber why
 
 -- n bytes at the address a are in the window
 unfoldable pub inWindow : Window → (a n : ℕ) → Bool
@@ -39,6 +45,7 @@ Within located.Outside n length = Unit {0}
 -- Window::checked
 pub record Checked (base length : ℕ) (r : CheckedWindow) : Type 0 where
   pub answer : r ≡ checkedOf base length
+  pub number : checkedNumber r ≡ cond (keepsLimits base length) 0 3
 
 -- Window::locate
 pub record Sought (w : Window) (a n : ℕ) (r : Located) : Type 0 where

@@ -1,3 +1,4 @@
 pub mod OfCalls
 pub mod Instances
 pub mod NoneUseless
+pub mod Refused

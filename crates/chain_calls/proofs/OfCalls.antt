@@ -188,6 +188,7 @@ module _ {l : Lends} {left : RunLeft} (k : ℕ) (w : WellLent l) (h : Premises (
       cc (o .steps, o .taken, o .made) in
       record {
         told = ran;
+        is-run = refl;
         outcome = o;
         report = run-report ∙ ap (rowBytes MostFirst (2 ∷ 4 ∷ 4 ∷ 4 ∷ [])) row;
         image = run-image;

@@ -15,7 +15,7 @@ use Rattle.bus.specs.Window.{keepsLimits}
 use Rattle.machine.specs.declared.Ran.{Ran}
 use Rattle.machine.specs.declared.LoadedMachine.the-variants.{Good}
 use Rattle.machine.specs.Saved.{loadOf}
-use Rattle.machine.specs.Run.{run, even}
+use Rattle.machine.specs.Run.{run, even, ranAs}
 use Rattle.sgdma.specs.Calls.{imageOf, Created, RegisterWritten, RunMade}
 use Rattle.chain.specs.Chain.{Given, worldFor, shares, cost, given, FirstFew, Outcome}
 use Rattle.chain.specs.Calls.{givenBy}
@@ -105,8 +105,9 @@ pub record NoneRefused (created pointed started : ℕ) (left : RunLeft) : Type 0
 
 -- with budget enough
 pub record Found (g : Given) (l : Lends) (left : RunLeft) : Type 0 where
-  -- the outcome of demand 3, in the window's bytes
+  -- what the run tells, and the outcome of demand 3 in the window's bytes
   pub told : Ran
+  pub is-run : told ≡ ranAs (worldFor g) (run (l .budget) (worldFor g))
   pub outcome : Outcome g told (left .memory)
   -- the report: reason 1, Ended; 2 steps and for each of the k its bytes and 2 more; the beats given, all taken; none made
   pub report : left .report

@@ -1,3 +1,4 @@
 pub mod InC
 pub mod Known
 pub mod Useless
+pub mod Refused

@@ -3,6 +3,7 @@
 use Prim.Native.Nat.{ℕ, _+_, _-_, _%_, _≤_}
 use mathlib.Core.Path.{_≡_, refl, ap, subst, _∙_}
 use mathlib.Core.Bool.{Bool, true, false, cond}
+use mathlib.Core.List.{List}
 use native.Mathlib.Omega.{arith}
 use lib.Dec.{eqb}
 use borrow.Author.Tests.{eq-eqb, ne-eqb}
@@ -14,11 +15,11 @@ use Rattle.bus.specs.declared.CheckedWindow.{CheckedWindow}
 use Rattle.bus.specs.declared.CheckedWindow.the-variants as checked
 use Rattle.bus.specs.declared.Located.{Located}
 use Rattle.bus.specs.declared.Located.the-variants as located
-use Rattle.bus.specs.Window.{checkedOf, placeOf, locatedOf}
+use Rattle.bus.specs.Window.{keepsLimits, checkedOf, inWindow, placeOf, locatedOf}
 use Rattle.bus.proofs.Limits.{checked-is, located-is}
 use Rattle.descriptor.specs.declared.Slot.{Slot}
 use Rattle.descriptor.specs.declared.Slot.the-variants.{At, Refused}
-use Rattle.descriptor.specs.Calls.{placed, slotIn, slotOf, Slotted}
+use Rattle.descriptor.specs.Calls.{placed, slotIn, slotOf, slotNumber, found, readNumber, built, builtNumber, Slotted}
 
 module _ (length base a : ℕ) where
   pub no-window : (why : Refusal) → checkedOf base length ≡ checked.Refused why → Slotted length base a (Refused why)
@@ -58,3 +59,32 @@ module _ (a : ℕ) (p : Place) where
   pub slot-is : (length base : ℕ) → slotOf length base a ≡ At p → (p .0 ≡ a - base) × (p .0 + 32 ≤ length)
   unfolding slotOf
   slot-is length base e = slot-in base length (checkedOf base length) refl e
+
+-- ---- the number of a slot, by its tests
+
+within-limits : (limits : Bool) (w : Window) (a : ℕ)
+    → slotNumber (slotIn (cond limits (checked.Good w) (checked.Refused refusal.BadWindow)) a) ≡ cond limits (slotNumber (slotIn (checked.Good w) a)) 3
+within-limits true w a = refl
+within-limits false w a = refl
+
+in-place : (aligned inside : Bool) (p : Place)
+    → slotNumber (cond aligned (placed (cond inside (located.At p) located.Outside)) (Refused refusal.Misaligned)) ≡ cond aligned (cond inside 0 6) 5
+in-place true true p = refl
+in-place true false p = refl
+in-place false inside p = refl
+
+pub by-tests : (length base a : ℕ) → slotNumber (slotOf length base a)
+    ≡ cond (keepsLimits base length) (cond (eqb (a % 4) 0) (cond (inWindow (record { base = base; length = length }) a 32) 0 6) 5) 3
+unfolding slotOf checkedOf locatedOf
+by-tests length base a =
+    let w : Window = record { base = base; length = length } in
+    within-limits (keepsLimits base length) w a
+    ∙ ap (λ (n : ℕ). cond (keepsLimits base length) n 3) (in-place (eqb (a % 4) 0) (inWindow w a 32) (record { 0 = placeOf w a }))
+
+pub built-number : (s : Slot) → builtNumber (built s) ≡ slotNumber s
+built-number (At p) = refl
+built-number (Refused why) = refl
+
+pub found-number : (xs : List ℕ) (s : Slot) → readNumber (found xs s) ≡ slotNumber s
+found-number xs (At p) = refl
+found-number xs (Refused why) = refl

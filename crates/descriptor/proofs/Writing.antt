@@ -42,12 +42,13 @@ length-job j = refl
 
 module _ (xs : List ℕ) (base a : ℕ) (j : Job) where
   pub build-refused : (why : Refusal) → slotOf (length xs) base a ≡ Refused why → WasBuilt xs base a j (build.Refused why) xs
-  build-refused why e = record { answer = rw e; lent = rw e }
+  build-refused why e = record { answer = rw e; number = rw e; lent = rw e }
 
   pub build-done : (p : Place) → slotOf (length xs) base a ≡ At p → p .0 + 32 ≤ length xs
       → (ys : List ℕ) → ys ≡ putAt xs (p .0) (bytesFor j) → WasBuilt xs base a j build.Done ys
   build-done p e h ys f =
       record {
         answer = rw e;
+        number = rw e;
         lent = f ∙ put-in xs (p .0) (bytesFor j) (omega (arith, length-job j)) ∙ sym (ap (withJob xs j) e);
       }

@@ -47,6 +47,11 @@ pub record Slotted (length base a : ℕ) (r : Slot) : Type 0 where
   pub answer : r ≡ slotOf length base a
   pub fits : Fits r length
 
+-- the paper's number of where it is, and of each answer below
+abbrev pub slotNumber : Slot → ℕ
+slotNumber (At p) = 0
+slotNumber (Refused why) = refusalNumber why
+
 -- ---- the reader
 
 abbrev pub found : List ℕ → Slot → ReadDescriptor
@@ -59,6 +64,7 @@ readNumber (read.Refused why) = refusalNumber why
 
 pub record WasRead (xs : List ℕ) (base a : ℕ) (r : ReadDescriptor) : Type 0 where
   pub answer : r ≡ found xs (slotOf (length xs) base a)
+  pub number : readNumber r ≡ slotNumber (slotOf (length xs) base a)
 
 pub read-unique : {xs : List ℕ} {base a : ℕ} {r s : ReadDescriptor} → WasRead xs base a r → WasRead xs base a s → r ≡ s
 read-unique p q = p .answer ∙ sym (q .answer)
@@ -80,6 +86,7 @@ withJob xs j (Refused why) = xs
 
 pub record WasBuilt (xs : List ℕ) (base a : ℕ) (j : Job) (r : BuiltDescriptor) (after : List ℕ) : Type 0 where
   pub answer : r ≡ built (slotOf (length xs) base a)
+  pub number : builtNumber r ≡ slotNumber (slotOf (length xs) base a)
   pub lent : after ≡ withJob xs j (slotOf (length xs) base a)
 
 pub built-unique : {xs : List ℕ} {base a : ℕ} {j : Job} {r s : BuiltDescriptor} {ys zs : List ℕ}

@@ -1,3 +1,4 @@
+use Rattle.descriptor.proofs.Reading.{was-read}
 use Rattle.descriptor.specs.Calls.{found}
 use Rattle.descriptor.specs.declared.Slot.{Slot}
 use Rattle.descriptor.specs.declared.ReadDescriptor.the-variants.{Good}
@@ -19,10 +20,10 @@ at-requires : tie.Need-at-requires
 at-requires c κs = search needs
 
 returns : tie.Need-returns
-returns c = record { answer = sym (ap (found _) (sym (c .before .before .before .slot-of .ensures .answer) ∙ c .before .slot .given .1)) }
+returns c = was-read (sym (ap (found _) (sym (c .before .before .before .slot-of .ensures .answer) ∙ c .before .slot .given .1)))
 
 returns-2 : tie.Need-returns-2
-returns-2 c = record { answer = ap Good (c .at .ensures .value) ∙ sym (ap (found _) (sym (c .before .before .before .before .slot-of .ensures .answer) ∙ c .before .before .slot2 .given .1)) }
+returns-2 c = was-read (ap Good (c .at .ensures .value) ∙ sym (ap (found _) (sym (c .before .before .before .before .slot-of .ensures .answer) ∙ c .before .before .slot2 .given .1)))
 
 pub read-spec : {M : Type 1} → statement M
 read-spec =

@@ -1,0 +1,177 @@
+-- "First that applies: 7, 8, 9, 2, 3, 4, 1, 5, 6": the number that a C call gives back is the first, in this one order, of the
+-- refusals that apply to it.
+-- Assumes nothing.
+use Prim.Native.Nat.{ℕ, _%_}
+use mathlib.Core.Path.{_≡_, refl, sym, ap, _∙_}
+use mathlib.Core.Bool.{Bool, true, false, not, cond, _&&_}
+use mathlib.Core.List.{List, [], _∷_}
+use lib.Dec.{eqb, leb}
+use lib.ListN.{length}
+use Rattle.bus.specs.declared.Refusal.{Refusal}
+use Rattle.bus.specs.declared.Refusal.the-variants.{OtherWindow, BadSize, BadImage, OddStream}
+use Rattle.bus.specs.Refusal.{refusalNumber}
+use Rattle.bus.specs.Window.{keepsLimits, inWindow}
+use Rattle.descriptor.specs.declared.Job.{Job}
+use Rattle.descriptor.specs.Calls.{slotOf, slotNumber, found, readNumber as descriptorNumber}
+use Rattle.descriptor.proofs.Slots.{by-tests, built-number, found-number}
+use Rattle.image.specs.declared.ReadImage.the-variants as read
+use Rattle.image.proofs.Tests.{and-left}
+use Rattle.image.specs.Layout.{fields}
+use Rattle.image.specs.Rules.{keepsRules}
+use Rattle.image.specs.Promise.{sized}
+use Rattle.image.specs.Promise as image
+use Rattle.machine.specs.declared.Machine.{Machine}
+use Rattle.machine.specs.declared.LoadedMachine.{LoadedMachine}
+use Rattle.machine.specs.declared.LoadedMachine.the-variants as loaded
+use Rattle.machine.specs.declared.registers.ReadRegister.the-variants as register
+use Rattle.machine.specs.declared.registers.Line.the-variants as line
+use Rattle.machine.specs.declared.RunAnswer.the-variants as many
+use Rattle.descriptor.specs.declared.ReadDescriptor.the-variants as descriptor
+use Rattle.machine.specs.Saved.{keeps, machineOf, loadedAs, loadOf}
+use Rattle.machine.specs.Registers.{isRegister, readOf, writeOf, lineOf, readNumber, wroteNumber, lineNumber, registerNumber}
+use Rattle.machine.specs.Run.{Lent, serves, refused, even, lentOf, worldOf, runNumber, lentNumber}
+use Rattle.machine.proofs.Answers.{was-loaded, was-register, was-written, was-line, run-number}
+use Rattle.met.proofs.RoundTrip.{loaded-keeps}
+use Rattle.sgdma.specs.Calls.{isSize, Created, registerOf, readCall, RegisterRead, writtenIn, RegisterWritten, lineIn, lineCall, LineRead, runIn, runCall, RunMade, DescriptorBuilt, descriptorCall, DescriptorRead}
+use Rattle.chain_calls.specs.Refused.{first, badWindow, misaligned, outside, FirstThatApplies, createTests, readTests, writeTests, lineTests, runTests, buildTests, descriptorTests}
+
+-- ---- tests one after the other
+
+unless : (b : Bool) (x : ℕ) {y z : ℕ} → y ≡ z → cond b y x ≡ cond (not b) x z
+unless true x e = e
+unless false x e = refl
+
+-- the number of a choice is a choice of numbers
+chosen : {A : Type 0} (number : A → ℕ) (b : Bool) (x y : A) → number (cond b x y) ≡ cond b (number x) (number y)
+chosen number true x y = refl
+chosen number false x y = refl
+
+-- where it is known that b holds
+if-so : (b : Bool) (x : ℕ) {y z : ℕ} → (b ≡ true → y ≡ z) → cond b y x ≡ cond (not b) x z
+if-so true x h = h refl
+if-so false x h = refl
+
+-- ---- an image that is loaded
+
+module _ (xs : List ℕ) where
+  abbrev machine : Machine
+  machine = machineOf (fields xs)
+
+  loads : sized xs ≡ true → keepsRules (fields xs) ≡ true → loadOf xs ≡ loaded.Good machine
+  unfolding loadOf image.readOf
+  loads s k = rw (s, k)
+
+  keeps-loaded : sized xs ≡ true → keepsRules (fields xs) ≡ true → keeps machine ≡ true
+  keeps-loaded s k = loaded-keeps (was-loaded (sym (loads s k)))
+
+  -- the number of a call that loads it: 7 and 8 come first
+  module _ (body : LoadedMachine → ℕ) (passes : (why : Refusal) → body (loaded.Refused why) ≡ refusalNumber why) where
+    opened : body (loadOf xs) ≡ cond (sized xs) (cond (keepsRules (fields xs)) (body (loaded.Good machine)) 8) 7
+    unfolding loadOf image.readOf
+    opened = by (sized xs) (keepsRules (fields xs))
+      where
+        by : (s k : Bool) → body (loadedAs (cond s (cond k (read.Good (fields xs)) (read.Refused BadImage)) (read.Refused BadSize)))
+            ≡ cond s (cond k (body (loaded.Good machine)) 8) 7
+        by true true = refl
+        by true false = passes BadImage
+        by false k = passes BadSize
+
+    -- and of one that looks at another size too
+    opened-with : (other : Bool) {n : ℕ} → (sized xs ≡ true → keepsRules (fields xs) ≡ true → body (loaded.Good machine) ≡ n)
+        → cond (sized xs && other) (body (loadOf xs)) 7 ≡ cond (not (sized xs && other)) 7 (cond (not (keepsRules (fields xs))) 8 n)
+    opened-with other h =
+        if-so (sized xs && other) 7
+        (λ e. let s = and-left (sized xs) other e in
+        opened ∙ rw s (if-so (keepsRules (fields xs)) 8 (h s)))
+
+-- ---- the registers and the line
+
+module _ (xs : List ℕ) (offset : ℕ) where
+  read-known : sized xs ≡ true → keepsRules (fields xs) ≡ true
+      → readNumber (readOf (machine xs) offset) ≡ cond (not (isRegister offset)) 1 0
+  read-known s k = was-register refl .number ∙ rw (keeps-loaded xs s k) (unless (isRegister offset) 1 refl)
+
+  written-known : (v : ℕ) → sized xs ≡ true → keepsRules (fields xs) ≡ true
+      → wroteNumber (writeOf (machine xs) offset v) ≡ cond (not (isRegister offset)) 1 0
+  written-known v s k = was-written refl .number ∙ rw (keeps-loaded xs s k) (unless (isRegister offset) 1 refl)
+
+pub create-in-order : {xs ys : List ℕ} {mode base length r : ℕ} → Created xs mode base length r ys
+    → FirstThatApplies (createTests xs mode base length) r
+create-in-order {xs} {mode = mode} {base} {length} p =
+    record { number = p .number ∙ unless (sized xs) 7 (unless (leb mode 2) 2 (unless (keepsLimits base length) 3 refl)); in-order = refl }
+
+pub read-in-order : {xs value after : List ℕ} {offset r : ℕ} → RegisterRead xs offset value r after
+    → FirstThatApplies (readTests xs offset value) r
+unfolding readCall
+read-in-order {xs} {value} {offset = offset} p =
+    record {
+      number = p .number ∙ chosen readNumber (sized xs && isSize 4 value) _ _
+          ∙ opened-with xs (λ l. readNumber (registerOf l offset)) (λ why. refl) (isSize 4 value) (read-known xs offset);
+      in-order = refl;
+    }
+
+pub write-in-order : {xs after : List ℕ} {offset v r : ℕ} → RegisterWritten xs offset v r after
+    → FirstThatApplies (writeTests xs offset) r
+write-in-order {xs} {offset = offset} {v} p =
+    record {
+      number = p .number ∙ opened xs (λ l. wroteNumber (writtenIn l offset v)) (λ why. refl)
+          ∙ if-so (sized xs) 7 (λ s. if-so (keepsRules (fields xs)) 8 (λ k. written-known xs offset v s k));
+      in-order = refl;
+    }
+
+pub line-in-order : {xs value after : List ℕ} {r : ℕ} → LineRead xs value r after → FirstThatApplies (lineTests xs value) r
+unfolding lineCall
+line-in-order {xs} {value} p =
+    record {
+      number = p .number ∙ chosen lineNumber (sized xs && isSize 4 value) _ _
+          ∙ opened-with xs (λ l. lineNumber (lineIn l)) (λ why. refl) (isSize 4 value)
+          (λ s k. was-line refl .number ∙ rw (keeps-loaded xs s k));
+      in-order = refl;
+    }
+
+-- ---- a run
+
+lent-number : (even right : Bool)
+    → lentNumber (cond even (cond right serves (refused OtherWindow)) (refused OddStream)) ≡ cond (not even) 9 (cond (not right) 4 0)
+lent-number true true = refl
+lent-number true false = refl
+lent-number false right = refl
+
+pub run-in-order : {xs window beats out report x w o p : List ℕ} {budget r : ℕ}
+    → RunMade xs window beats out budget report r x w o p → FirstThatApplies (runTests xs window beats out report) r
+unfolding runCall lentOf
+run-in-order {xs} {window} {beats} {out} {report} {budget = budget} p =
+    record {
+      number = p .number ∙ chosen runNumber (sized xs && isSize 14 report) _ _
+          ∙ opened-with xs (λ l. runNumber (runIn l window beats out budget)) (λ why. refl) (isSize 14 report) known;
+      in-order = refl;
+    }
+  where
+    known : sized xs ≡ true → keepsRules (fields xs) ≡ true → runNumber (runIn (loaded.Good (machine xs)) window beats out budget)
+        ≡ cond (not (even beats && even out)) 9 (cond (not (eqb (length window) (fields xs .window))) 4 0)
+    known s k =
+        run-number (lentOf (machine xs) window beats out) _ budget
+        ∙ rw (keeps-loaded xs s k) (lent-number (even beats && even out) (eqb (length window) (fields xs .window)))
+
+-- ---- descriptors
+
+slot-number : (window : List ℕ) (base a : ℕ) → slotNumber (slotOf (length window) base a) ≡ first (buildTests window base a)
+slot-number window base a =
+    by-tests (length window) base a
+    ∙ unless (keepsLimits base (length window)) 3
+    (unless (eqb (a % 4) 0) 5 (unless (inWindow (record { base = base; length = length window }) a 32) 6 refl))
+
+pub build-in-order : {window after : List ℕ} {base a r : ℕ} {j : Job} → DescriptorBuilt window base a j r after
+    → FirstThatApplies (buildTests window base a) r
+build-in-order {window} {base = base} {a} p =
+    record { number = p .number ∙ built-number (slotOf (length window) base a) ∙ slot-number window base a; in-order = refl }
+
+pub descriptor-in-order : {window answer after : List ℕ} {base a r : ℕ} → DescriptorRead window base a answer r after
+    → FirstThatApplies (descriptorTests window base a answer) r
+unfolding descriptorCall
+descriptor-in-order {window} {answer} {base = base} {a} p =
+    record {
+      number = p .number ∙ chosen descriptorNumber (isSize 18 answer) _ _
+          ∙ unless (isSize 18 answer) 7 (found-number window (slotOf (length window) base a) ∙ slot-number window base a);
+      in-order = refl;
+    }

@@ -1,0 +1,107 @@
+-- The paper's "Refusal numbers" of the C calls: for each call the refusals that it can meet, each with its test, and one order. That
+-- the number a call gives back is the first that applies is `create-in-order` and the six laws beside it.
+-- Assumes nothing.
+use Prim.Native.Nat.{ℕ, _%_}
+use mathlib.Core.Path.{_≡_}
+use mathlib.Core.Bool.{Bool, true, false, not, cond, _&&_}
+use mathlib.Core.List.{List, [], _∷_}
+use lib.Dec.{eqb, leb}
+use lib.ListN.{length}
+use Rattle.bus.specs.Window.{keepsLimits, inWindow}
+use Rattle.image.specs.Layout.{fields}
+use Rattle.image.specs.Rules.{keepsRules}
+use Rattle.image.specs.Promise.{sized}
+use Rattle.machine.specs.Registers.{isRegister}
+use Rattle.machine.specs.Run.{even}
+use Rattle.sgdma.specs.Calls.{isSize}
+
+-- a refusal's number, and whether it applies
+pub record Test : Type 0 where
+  pub number : ℕ
+  pub applies : Bool
+
+infix 15 _when_
+abbrev pub _when_ : ℕ → Bool → Test
+n when b = record { number = n; applies = b }
+
+-- the first that applies, or 0, done: no other applies
+abbrev pub first : List Test → ℕ
+first [] = 0
+first (t ∷ ts) = cond (t .applies) (t .number) (first ts)
+
+-- "First that applies: 7, 8, 9, 2, 3, 4, 1, 5, 6."
+abbrev pub order : List ℕ
+order = 7 ∷ 8 ∷ 9 ∷ 2 ∷ 3 ∷ 4 ∷ 1 ∷ 5 ∷ 6 ∷ []
+
+-- whether tests come in an order
+abbrev pub comeIn : List ℕ → List Test → Bool
+comeIn ns [] = true
+comeIn [] (t ∷ ts) = false
+comeIn (n ∷ ns) (t ∷ ts) = cond (eqb n (t .number)) (comeIn ns ts) (comeIn ns (t ∷ ts))
+
+-- what is said of a call's number
+pub record FirstThatApplies (ts : List Test) (r : ℕ) : Type 0 where
+  pub number : r ≡ first ts
+  pub in-order : comeIn order ts ≡ true
+
+-- ---- the tests
+
+-- 1, NoRegister: offset not 0, 4, 8
+abbrev pub noRegister : ℕ → Test
+noRegister offset = 1 when not (isRegister offset)
+
+-- 2, BadMode: mode above 2
+abbrev pub badMode : ℕ → Test
+badMode mode = 2 when not (leb mode 2)
+
+-- 3, BadWindow: limits broken
+abbrev pub badWindow : (base length : ℕ) → Test
+badWindow base length = 3 when not (keepsLimits base length)
+
+-- 4, OtherWindow: lent window's length is not the machine's
+abbrev pub otherWindow : (xs window : List ℕ) → Test
+otherWindow xs window = 4 when not (eqb (length window) (fields xs .window))
+
+-- 5, Misaligned: builder or reader address not a multiple of 4
+abbrev pub misaligned : ℕ → Test
+misaligned a = 5 when not (eqb (a % 4) 0)
+
+-- 6, Outside: its 32 bytes not in the window
+abbrev pub outside : (base length a : ℕ) → Test
+outside base length a = 6 when not (inWindow (record { base = base; length = length }) a 32)
+
+-- 7, BadSize: lent image, report, value or descriptor answer of wrong size
+abbrev pub badSize : Bool → Test
+badSize right = 7 when not right
+
+-- 8, BadImage: an image read breaks a rule
+abbrev pub badImage : List ℕ → Test
+badImage xs = 8 when not (keepsRules (fields xs))
+
+-- 9, OddStream: odd number of beat bytes, in or out
+abbrev pub oddStream : (beats out : List ℕ) → Test
+oddStream beats out = 9 when not (even beats && even out)
+
+-- ---- what each call can be refused for
+
+abbrev pub createTests : (xs : List ℕ) (mode base length : ℕ) → List Test
+createTests xs mode base length = badSize (sized xs) ∷ badMode mode ∷ badWindow base length ∷ []
+
+abbrev pub readTests : (xs : List ℕ) (offset : ℕ) (value : List ℕ) → List Test
+readTests xs offset value = badSize (sized xs && isSize 4 value) ∷ badImage xs ∷ noRegister offset ∷ []
+
+abbrev pub writeTests : (xs : List ℕ) (offset : ℕ) → List Test
+writeTests xs offset = badSize (sized xs) ∷ badImage xs ∷ noRegister offset ∷ []
+
+abbrev pub lineTests : (xs value : List ℕ) → List Test
+lineTests xs value = badSize (sized xs && isSize 4 value) ∷ badImage xs ∷ []
+
+abbrev pub runTests : (xs window beats out report : List ℕ) → List Test
+runTests xs window beats out report =
+    badSize (sized xs && isSize 14 report) ∷ badImage xs ∷ oddStream beats out ∷ otherWindow xs window ∷ []
+
+abbrev pub buildTests : (window : List ℕ) (base a : ℕ) → List Test
+buildTests window base a = badWindow base (length window) ∷ misaligned a ∷ outside base (length window) a ∷ []
+
+abbrev pub descriptorTests : (window : List ℕ) (base a : ℕ) (answer : List ℕ) → List Test
+descriptorTests window base a answer = badSize (isSize 18 answer) ∷ buildTests window base a
