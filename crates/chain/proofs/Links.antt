@@ -11,8 +11,8 @@ use lib.ListN.{length, drop, length-take}
 use borrow.Author.Tests.{eqb-false}
 use Rattle.words.specs.declared.Order.the-variants.{LeastFirst}
 use Rattle.words.specs.Orders.{numberOf}
-use Rattle.words.specs.Slices.{part}
-use Rattle.words.proofs.Bytes.{AllBytes, take-bytes, drop-bytes}
+use Rattle.words.specs.Slices.{part, AllBytes}
+use Rattle.words.proofs.Bytes.{take-bytes, drop-bytes}
 use Rattle.bus.specs.declared.Window.{Window}
 use Rattle.bus.specs.Window.{inWindow, placeOf}
 use Rattle.descriptor.specs.declared.Descriptor.{Descriptor}

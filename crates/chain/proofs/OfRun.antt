@@ -143,7 +143,8 @@ module _ {window : Window} {pointer control : ℕ} {memory beats out : List ℕ}
       ∙ ap (λ (m : Machine). run budget (worldOf m memory beats out) .world .memory) m2-is
 
   -- With budget enough the run is done, and this is its outcome.
-  pub chain-of-run : 2 + cost (shares g) ≤ budget → Finished g r memory' out out'
+  pub chain-of-run : 2 + cost (shares (givenBy window pointer control k memory beats out)) ≤ budget
+      → Finished (givenBy window pointer control k memory beats out) r memory' out out'
   chain-of-run b =
       let o : Outcome g (ranAs (worldFor g) (run budget (worldFor g))) (run budget (worldFor g) .world .memory) = chain-theorem g h budget b in
       record {
@@ -157,5 +158,5 @@ module _ {window : Window} {pointer control : ℕ} {memory beats out : List ℕ}
       }
 
   -- With any budget those marked done are the first few.
-  pub chain-of-run-at-every-step : FirstFew window memory (shares g) memory'
+  pub chain-of-run-at-every-step : FirstFew window memory (shares (givenBy window pointer control k memory beats out)) memory'
   chain-of-run-at-every-step = subst⁻¹ (FirstFew window memory (shares g)) ends-as (chain-at-every-step g h .first-few budget)

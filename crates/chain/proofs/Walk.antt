@@ -20,7 +20,8 @@ use Rattle.machine.specs.declared.Reason.the-variants.{Ended}
 use Rattle.machine.specs.State.{modeNumber}
 use Rattle.machine.specs.Step.{World, taken, stopped, became, ended, begun, whole, step}
 use Rattle.machine.proofs.Puts.{length-put-at, put-off}
-use Rattle.machine.proofs.RunLaws.{Along, here, more, join, along-map, along-last}
+use Rattle.machine.specs.Laws.{Along, here, more}
+use Rattle.machine.proofs.RunLaws.{join, along-map, along-last}
 use Rattle.chain.specs.Chain.{All, Pairwise, Link, linkAt, Off, Apart, wants, takes, Enough, Share, sharesOf, given, cost, gathered, Sent, sentBy, sentByAll, Done}
 use Rattle.chain.proofs.Lists.{all-map, all-map2, all-left, all-right, all-drop, all-each, all-swap, all-shares}
 use Rattle.chain.proofs.Memory.{Placed, placed, part-ext, says-same, lastAt, last-writer, lastAt-append}

@@ -8,8 +8,7 @@ use native.Mathlib.Nat.{mod-lt}
 use native.Mathlib.Omega.{arith}
 use lib.ListN.{length, take, replicate, length-replicate}
 use borrow.Author.Tests.{eq-eqb}
-use Rattle.words.specs.Slices.{putAt}
-use Rattle.words.proofs.Bytes.{AllBytes}
+use Rattle.words.specs.Slices.{putAt, AllBytes}
 use Rattle.bus.specs.Window.{keepsLimits, inWindow}
 use Rattle.descriptor.specs.Layout.{bytesFor, descriptorAt}
 use Rattle.flow.specs.Beats.{beatBytes}

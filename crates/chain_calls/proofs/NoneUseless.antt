@@ -23,24 +23,12 @@ use Rattle.sgdma.specs.Calls.{isSize, runCall, ranOver, reportOver, windowIn, o
 use Rattle.chain.specs.Known.{known, three}
 use Rattle.chain.proofs.Instances.{known-run-1, chain-of-three, landed-nth}
 use Rattle.chain_calls.specs.InC.{Found}
-use Rattle.chain_calls.specs.Useless.{Model, Keeps, RefusesEverything, OneFixedAnswer, NeverMoves, OnlyMarksTheOthers, stepsTold, MakesUpSteps}
+use Rattle.chain_calls.specs.Useless.{Model, Keeps, honest, RefusesEverything, OneFixedAnswer, NeverMoves, OnlyMarksTheOthers, stepsTold, MakesUpSteps}
 use Rattle.chain_calls.proofs.OfCalls.{runs-as, run-not-refused, run-finds}
 use Rattle.chain_calls.specs.Known.{lends, lentTo}
 use Rattle.chain_calls.proofs.Instances.{in-bytes, known-lent, three-lent}
 
--- ---- the promise can be kept: the model that does what it says
-
-abbrev pub honest : Model
-honest x =
-    let answer = runCall (x .image) (x .memory) (x .beats) (x .out) (x .budget) (x .report) in
-    let sizes = sized (x .image) && isSize 14 (x .report) in
-    record {
-      number = runNumber answer;
-      image = ranOver answer (x .image);
-      memory = cond sizes (windowIn (loadOf (x .image)) (x .memory) (x .beats) (x .out) (x .budget)) (x .memory);
-      out = cond sizes (outIn (loadOf (x .image)) (x .memory) (x .beats) (x .out) (x .budget)) (x .out);
-      report = reportOver answer (x .report);
-    }
+-- ---- the promise can be kept
 
 pub honest-keeps : Keeps honest
 honest-keeps x b = record { number = refl; image-after = refl; window-after = refl; out-after = refl; report-after = refl }

@@ -1,20 +1,21 @@
 -- The paper's useless models, as models of sgdma_run. That none of them keeps the promise of sgdma_run is `refuser-fails`,
--- `fixed-fails`, `never-moving-fails`, `marker-fails` and `made-up-fails`.
+-- `fixed-fails`, `never-moving-fails`, `marker-fails` and `made-up-fails`; that it can be kept is `honest-keeps`.
 -- Assumes nothing.
 use Prim.Native.Nat.{ℕ, _+_, _^_, _<_}
 use mathlib.Core.Path.{_≡_}
 use mathlib.Core.Logic.{_≢_}
+use mathlib.Core.Bool.{cond, _&&_}
 use mathlib.Core.List.{List}
 use lib.ListN.{length, getD, take}
 use Rattle.words.specs.declared.Order.the-variants.{MostFirst}
 use Rattle.words.specs.Orders.{numberOf}
-use Rattle.words.specs.Slices.{part}
-use Rattle.words.proofs.Bytes.{AllBytes}
+use Rattle.words.specs.Slices.{part, AllBytes}
+use Rattle.image.specs.Promise.{sized}
 use Rattle.machine.specs.declared.Machine.{Machine}
 use Rattle.machine.specs.declared.LoadedMachine.the-variants.{Good}
 use Rattle.machine.specs.Saved.{loadOf}
-use Rattle.machine.specs.Run.{run, serves, lentOf, worldOf}
-use Rattle.sgdma.specs.Calls.{imageOf}
+use Rattle.machine.specs.Run.{run, serves, lentOf, worldOf, runNumber}
+use Rattle.sgdma.specs.Calls.{imageOf, isSize, runCall, ranOver, reportOver, windowIn, outIn}
 use Rattle.chain.specs.Chain.{All, machineFor, links, Share, shares, Sent, sentByAll, Premises}
 use Rattle.chain_calls.specs.InC.{RunLent, RunLeft, Promised, Lends, WellLent, givenIn, runLent}
 
@@ -34,6 +35,19 @@ pub record InBytes (x : RunLent) : Type 0 where
 -- the model keeps the promise of sgdma_run
 abbrev pub Keeps : Model → Type 0
 Keeps f = (x : RunLent) → InBytes x → Promised x (f x)
+
+-- the one that does what the promise says, and so keeps it
+abbrev pub honest : Model
+honest x =
+    let answer = runCall (x .image) (x .memory) (x .beats) (x .out) (x .budget) (x .report) in
+    let sizes = sized (x .image) && isSize 14 (x .report) in
+    record {
+      number = runNumber answer;
+      image = ranOver answer (x .image);
+      memory = cond sizes (windowIn (loadOf (x .image)) (x .memory) (x .beats) (x .out) (x .budget)) (x .memory);
+      out = cond sizes (outIn (loadOf (x .image)) (x .memory) (x .beats) (x .out) (x .budget)) (x .out);
+      report = reportOver answer (x .report);
+    }
 
 -- ---- "the one that refuses everything"
 

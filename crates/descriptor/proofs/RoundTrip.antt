@@ -9,8 +9,8 @@ use lib.ListN.{length, drop, length-drop}
 use lib.Seq.{length-take-le}
 use Rattle.words.specs.declared.Order.the-variants.{LeastFirst}
 use Rattle.words.specs.Orders.{numberOf, rowBytes}
-use Rattle.words.specs.Slices.{part, put}
-use Rattle.words.proofs.Bytes.{AllBytes, take-bytes, drop-bytes}
+use Rattle.words.specs.Slices.{part, put, AllBytes}
+use Rattle.words.proofs.Bytes.{take-bytes, drop-bytes}
 use Rattle.words.proofs.Orders.{row-back, row-there}
 use Rattle.words.proofs.Slices.{length-put, part-put, put-part, row-from}
 use Rattle.bus.specs.declared.Place.{Place}

@@ -9,19 +9,19 @@ use native.Mathlib.Omega.{arith}
 use lib.ListN.{length}
 use borrow.Author.Tests.{eq-eqb, ne-eqb, eqb-true, lt-ltb}
 use Rattle.words.specs.Numbers.{Fit}
-use Rattle.words.proofs.Bytes.{AllBytes}
+use Rattle.words.specs.Slices.{AllBytes}
 use Rattle.bus.specs.declared.Refusal.the-variants.{BadSize, BadImage}
 use Rattle.image.specs.declared.Fields.{Fields}
 use Rattle.image.specs.declared.ReadImage.{ReadImage}
 use Rattle.image.specs.declared.ReadImage.the-variants as read
 use Rattle.image.specs.declared.WroteImage.{WroteImage}
 use Rattle.image.specs.declared.WroteImage.the-variants as wrote
-use Rattle.image.specs.Layout.{values, widths, image, fields}
+use Rattle.image.specs.Layout.{values, widths, image, fields, Typed}
 use Rattle.image.specs.Rules.{lowestBroken, keepsRules}
 use Rattle.image.specs.Promise.{sized, readOf, wroteOf, imageOver, fits, imagePut, readNumber, wroteNumber, imageNumber, WasRead, Wrote}
 use Rattle.image.proofs.Facts.{edition-is, mode-le, phase-le, fault-le, rest-is}
 use Rattle.image.proofs.RoundTrip.{length-image, fields-image, image-fields, fields-fit}
-use Rattle.image.proofs.Fitting.{Typed, keeps-fit, fit-typed}
+use Rattle.image.proofs.Fitting.{keeps-fit, fit-typed}
 
 pub keeps : (f : Fields) → lowestBroken f ≡ 0 → keepsRules f ≡ true
 unfolding keepsRules

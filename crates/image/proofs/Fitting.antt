@@ -8,22 +8,11 @@ use borrow.Author.Needs.{needs}
 use borrow.Author.Tests.{ltb-true}
 use Rattle.words.specs.Numbers.{Fit}
 use Rattle.image.specs.declared.Fields.{Fields}
-use Rattle.image.specs.Layout.{flag, values, widths}
+use Rattle.image.specs.Layout.{flag, values, widths, Typed}
 use Rattle.image.specs.Rules.{zeroFrom, lowestBroken}
 use Rattle.image.specs.Promise.{fits}
 use Rattle.image.proofs.Tests.{and-left, and-right}
 use Rattle.image.proofs.Facts.{edition-is, mode-le, phase-le, fault-le, status-lt, count-le, control-lt, base-le, window-le, errors-lt, rest-is}
-
--- the numbers whose bounds the rules leave to their types
-pub record Typed (f : Fields) : Type 0 where
-  pub pointer : f .pointer < 4294967296
-  pub address : f .address < 4294967296
-  pub source : f .source < 4294967296
-  pub destination : f .destination < 4294967296
-  pub size : f .size < 65536
-  pub dcontrol : f .dcontrol < 256
-  pub moved : f .moved < 65536
-  pub faultat : f .faultat < 4294967296
 
 flag-lt : (b : Bool) → flag b < 2
 flag-lt true = omega arith

@@ -11,9 +11,9 @@ use lib.Dec.{lit≤}
 use Rattle.words.specs.declared.Order.the-variants.{MostFirst}
 use Rattle.words.specs.Numbers.{join, split, recode, bytes, Fit}
 use Rattle.words.specs.Orders.{wordBytes}
-use Rattle.words.specs.Slices.{part, putAt, numberAt}
+use Rattle.words.specs.Slices.{part, putAt, numberAt, AllBytes}
 use Rattle.words.proofs.Recode.{join-lt}
-use Rattle.words.proofs.Bytes.{AllBytes, drop-bytes}
+use Rattle.words.proofs.Bytes.{drop-bytes}
 use Rattle.words.proofs.Slices.{number-in, put-in}
 use Rattle.words.proofs.Groups.{recodes, Even, joins, Alike, parts, fours, recode-groups, fits-of, recodes-words, parts-all, parts-fit}
 use Rattle.image.specs.declared.Fields.{Fields}

@@ -1,6 +1,6 @@
 -- The paper's "Saved image": 44 bytes, the fields side by side in this order, bits most significant first.
 -- Assumes nothing.
-use Prim.Native.Nat.{ℕ}
+use Prim.Native.Nat.{ℕ, _<_}
 use mathlib.Core.Bool.{Bool, cond}
 use mathlib.Core.List.{List, [], _∷_, map}
 use lib.ListN.{getD}
@@ -83,6 +83,17 @@ values f = map (λ x. x .value) (layout f)
 
 abbrev pub widths : List ℕ
 widths = map (λ x. x .width) (layout (fieldsOf []))
+
+-- the numbers that no image rule bounds fit their widths in the table; their types in the code see to that
+pub record Typed (f : Fields) : Type 0 where
+  pub pointer : f .pointer < 4294967296
+  pub address : f .address < 4294967296
+  pub source : f .source < 4294967296
+  pub destination : f .destination < 4294967296
+  pub size : f .size < 65536
+  pub dcontrol : f .dcontrol < 256
+  pub moved : f .moved < 65536
+  pub faultat : f .faultat < 4294967296
 
 -- the image of the fields, and the fields of 44 bytes
 unfoldable pub image : Fields → List ℕ

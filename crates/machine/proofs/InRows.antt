@@ -143,7 +143,8 @@ module _ {window : Window} {k : Work} {most : ℕ} {m : Machine} (g : Moving Mem
         here,
       )
 
-  pub copy-steps : steps n (world m memory input output room) ≡ taken (world (onward m (movedBy k n (k .errors))) (bytes-copied n) input output room)
+  pub copy-steps : steps n (world m memory input output room)
+      ≡ taken (world (onward m (movedBy k n (k .errors))) (copied memory (readFixed (k .control .0)) from (writeFixed (k .control .0)) to n) input output room)
   unfolding copied
   copy-steps = ap (λ (x : Machine). steps n (world x memory input output room)) (sym (at-first g)) ∙ row-steps copy-row n copy-next
 
@@ -181,7 +182,7 @@ module _ {window : Window} {k : Work} {most : ℕ} {m : Machine} (g : Moving Mem
       ∙ λ x. taken (world (here x) memory input (made x) (room - suc i))
 
   pub send-steps : steps n (world m memory input output room)
-      ≡ taken (world (onward m (movedBy k n (k .errors))) memory input (output ++ beats-sent n) (room - n))
+      ≡ taken (world (onward m (movedBy k n (k .errors))) memory input (output ++ plain memory (readFixed (k .control .0)) from n) (room - n))
   unfolding plain
   send-steps =
       let first = sym (at-first g) in
@@ -228,6 +229,6 @@ module _ {window : Window} {k : Work} {most : ℕ} {m : Machine} (g : Moving Str
       ∙ λ x. taken (world (here x) (bytes x) (drop (suc i) beats) output room)
 
   pub receive-steps : steps n (world m memory beats output room)
-      ≡ taken (world (onward m (movedBy k n (errors-row n))) (bytes-received n) (drop n beats) output room)
+      ≡ taken (world (onward m (movedBy k n (gathered (k .errors) (take n beats)))) (spread memory (writeFixed (k .control .0)) to beats n) (drop n beats) output room)
   unfolding spread
   receive-steps = ap (λ (x : Machine). steps n (world x memory beats output room)) (sym (at-first g)) ∙ row-steps receive-row n receive-next

@@ -10,7 +10,8 @@ use Rattle.machine.specs.declared.Reason.{Reason}
 use Rattle.machine.specs.declared.Reason.the-variants.{Budget}
 use Rattle.machine.specs.Step.{World, Answer, taken, stopped, step}
 use Rattle.machine.specs.Run.{Report, oneMore, run, takenSince}
-use Rattle.machine.proofs.StepLaws.{Passed, passed-none, passed-on, took-since, step-passed, never-budget}
+use Rattle.machine.specs.Laws.{Passed, onTop, Along, here, more, Found, stops, spent, Tells}
+use Rattle.machine.proofs.StepLaws.{passed-none, passed-on, took-since, step-passed, never-budget}
 
 -- ---- a run by its first step
 
@@ -31,10 +32,6 @@ module _ (w : World) where
     run-taken n = rw e
 
 -- ---- a run of a + b is a run of a followed by one of b
-
--- the report r, with n steps taken before it
-abbrev pub onTop : ℕ → Report → Report
-onTop n r = record { reason = r .reason; steps = n + r .steps; world = r .world }
 
 on-zero : (r : Report) → onTop 0 r ≡ r
 on-zero r = ap (λ (n : ℕ). record { reason = r .reason; steps = n; world = r .world }) (zero-add (r .steps))
@@ -62,29 +59,6 @@ run-add (suc a) b w = by (step w) refl (λ v. run-add a b v)
         ∙ sym (ap (then b) (run-taken w v e a) ∙ on-suc (run a v .steps) (run b (run a v .world)))
 
 -- ---- what a run tells
-
--- n applications of the step rule, each taken, lead from w to u, and P holds of every world on the way
-pub data Along (P : World → Type 0) : ℕ → World → World → Type 0 where
-  here : {w : World} → P w → Along P 0 w w
-  more : {n : ℕ} {w v u : World} → P w → step w ≡ taken v → Along P n v u → Along P (suc n) w u
-
-abbrev pub Steps : ℕ → World → World → Type 0
-Steps n w u = Along (λ (x : World). Unit {0}) n w u
-
--- the reason is the one found there; Budget only where the budget is spent and another step was possible
-pub data Found (budget : ℕ) (r : Report) : Type 0 where
-  stops : step (r .world) ≡ stopped (r .reason) → Found budget r
-  spent : (v : World) → step (r .world) ≡ taken v → r .reason ≡ Budget → r .steps ≡ budget → Found budget r
-
--- what a run tells
-pub record Tells (budget : ℕ) (w : World) (r : Report) : Type 0 where
-  -- the steps told are the applications of the step rule, each taken
-  pub steps : Steps (r .steps) w (r .world)
-  -- and at most the budget
-  pub within : r .steps ≤ budget
-  pub found : Found budget r
-  -- what is left of the machine and of what is lent: see `Passed`
-  pub passed : Passed (r .steps) w (r .world)
 
 later : {b : ℕ} {r : Report} → Found b r → Found (suc b) (oneMore r)
 later (stops e) = stops e

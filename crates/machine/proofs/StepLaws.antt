@@ -23,25 +23,10 @@ use Rattle.machine.specs.declared.Reason.the-variants as reason
 use Rattle.machine.specs.State.{run}
 use Rattle.machine.specs.Step.{World, Answer, taken, stopped, became, restStep, fetched, fetchStep, wantsLength, sourceOf, destinationOf, beatFor, copyStep, sendTo, sendStep, receiveFrom, moveStep, onward, completed, writtenBack, writeBackStep, stepIn, step}
 use Rattle.machine.specs.Run.{reasonNumber, takenSince}
+use Rattle.machine.specs.Laws.{Passed, sparesMove, sparesIn}
 use Rattle.machine.proofs.Puts.{length-put-at, put-off}
 
 -- ---- what n steps leave
-
-pub record Passed (n : ℕ) (w v : World) : Type 0 where
-  pub mode : v .machine .mode ≡ w .machine .mode
-  pub window : v .machine .window ≡ w .machine .window
-  -- the window's length never changes
-  pub memory : length (v .memory) ≡ length (w .memory)
-  -- beats are taken from the front
-  pub took : ℕ
-  pub there : took ≤ length (w .input)
-  pub input : v .input ≡ drop took (w .input)
-  -- beats are made at the end, into the room
-  pub made : List ℕ
-  pub output : v .output ≡ w .output ++ made
-  pub room : v .room + length made ≡ w .room
-  -- a step takes one or makes one or neither
-  pub moved : took + length made ≤ n
 
 pub passed-none : (n : ℕ) (w : World) → Passed n w w
 passed-none n w =
@@ -81,21 +66,6 @@ took-since {w = w} {v = v} p =
     omega (arith, p .there)
 
 -- ---- the bytes that a step names
-
--- the place q is none that the step names: the byte that a Move writes, the four that a WriteBack does
-abbrev pub sparesMove : Mode → World → Work → ℕ → Type 0
-sparesMove MemoryToMemory w k q = q ≢ placeOf (w .machine .window) (destinationOf k)
-sparesMove MemoryToStream w k q = Unit {0}
-sparesMove StreamToMemory w k q = q ≢ placeOf (w .machine .window) (destinationOf k)
-
-abbrev pub sparesIn : Phase → World → ℕ → Type 0
-sparesIn Rest w q = Unit {0}
-sparesIn Fetch w q = Unit {0}
-sparesIn (Move k) w q = sparesMove (w .machine .mode) w k q
-sparesIn (WriteBack k) w q = (j : ℕ) → j < 4 → q ≢ placeOf (w .machine .window) (k .at) + 28 + j
-sparesIn Ended w q = Unit {0}
-sparesIn Halted w q = Unit {0}
-sparesIn (Faulted f) w q = Unit {0}
 
 -- an answer with which a step spares the places `free`: it is taken and leaves them, or stops for a reason of its own
 pub data Sound (w : World) (free : ℕ → Type 0) : Answer → Type 0 where

@@ -3,4 +3,5 @@ pub mod Saved
 pub mod Registers
 pub mod Step
 pub mod Run
+pub mod Laws
 pub mod Turns

@@ -12,7 +12,7 @@ use Rattle.image.specs.Rules.{_⇒_, _exactly_, between, either, lowestBroken}
 use Rattle.image.proofs.Tests.{both}
 use Rattle.image.proofs.EachRule.{Each, each-rule, each-keeps}
 use Rattle.image.proofs.Facts as fact
-use Rattle.image.proofs.Fitting.{Typed}
+use Rattle.image.specs.Layout.{Typed}
 use Rattle.image.proofs.Answers.{keeps, kept-none}
 use Rattle.machine.specs.declared.Machine.{Machine}
 use Rattle.machine.specs.declared.Mode.{Mode}

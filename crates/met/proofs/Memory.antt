@@ -14,9 +14,9 @@ use Rattle.words.specs.declared.Order.{Order}
 use Rattle.words.specs.declared.Order.the-variants.{LeastFirst}
 use Rattle.words.specs.Numbers.{total, split, bytes, Fit}
 use Rattle.words.specs.Orders.{inOrder, bytesOf, numberOf, rowBytes}
-use Rattle.words.specs.Slices.{part, putAt}
+use Rattle.words.specs.Slices.{part, putAt, AllBytes}
 use Rattle.words.proofs.Recode.{join-lt}
-use Rattle.words.proofs.Bytes.{AllBytes, bytes-fit, take-bytes, drop-bytes, append-bytes, order-bytes}
+use Rattle.words.proofs.Bytes.{bytes-fit, take-bytes, drop-bytes, append-bytes, order-bytes}
 use Rattle.words.proofs.Orders.{length-order}
 use Rattle.words.proofs.Slices.{length-put}
 use Rattle.descriptor.specs.declared.Descriptor.{Descriptor}

@@ -10,15 +10,14 @@ use mathlib.Core.Logic.{_↔_}
 use native.Mathlib.Omega.{arith}
 use lib.ListN.{length}
 use borrow.Author.Tests.{eqb-false}
-use Rattle.words.proofs.Bytes.{AllBytes}
+use Rattle.words.specs.Slices.{AllBytes}
 use Rattle.image.specs.declared.Fields.{Fields}
 use Rattle.image.specs.declared.ReadImage.{ReadImage}
 use Rattle.image.specs.declared.ReadImage.the-variants as read
-use Rattle.image.specs.Layout.{image}
+use Rattle.image.specs.Layout.{image, Typed}
 use Rattle.image.specs.Rules.{lowestBroken, inHand, inFaulted}
 use Rattle.image.specs.Promise.{readOf}
 use Rattle.image.proofs.Facts.{edition-is, mode-le, phase-le, armed-is, status-lt, rest-is, fault-none, faultat-none, no-address, no-source, no-destination, no-size, no-dcontrol, no-errors, no-moved, no-eop}
-use Rattle.image.proofs.Fitting.{Typed}
 use Rattle.image.proofs.Answers.{keeps, kept-none, good-keeps, good-image, good-typed, read-image, wrote-done}
 use Rattle.machine.specs.declared.Machine.{Machine}
 use Rattle.machine.specs.declared.LoadedMachine.{LoadedMachine}

@@ -4,7 +4,7 @@ use Prim.Native.Nat.{ℕ, _<_}
 use mathlib.Core.Path.{_≡_, refl}
 use mathlib.Core.Bool.{Bool, true, false}
 use lib.ListN.{length}
-use Rattle.words.proofs.Bytes.{AllBytes}
+use Rattle.words.specs.Slices.{AllBytes}
 use Rattle.image.specs.Rules.{faultCode}
 use Rattle.machine.specs.declared.Machine.{Machine}
 use Rattle.machine.specs.declared.Phase.{Phase}

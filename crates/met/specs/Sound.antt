@@ -6,8 +6,8 @@ use mathlib.Core.Path.{_≡_}
 use mathlib.Core.Bool.{true}
 use mathlib.Core.List.{List, [], _∷_}
 use lib.ListN.{length}
-use Rattle.words.proofs.Bytes.{AllBytes}
-use Rattle.image.proofs.Fitting.{Typed}
+use Rattle.words.specs.Slices.{AllBytes}
+use Rattle.image.specs.Layout.{Typed}
 use Rattle.machine.specs.declared.Machine.{Machine}
 use Rattle.machine.specs.Saved.{fieldsOf, keeps}
 use Rattle.machine.specs.Step.{World}

@@ -7,7 +7,7 @@ use mathlib.Core.Bool.{true, cond, _&&_}
 use mathlib.Core.List.{List, [], _++_}
 use native.Mathlib.Omega.{arith}
 use lib.ListN.{length}
-use Rattle.words.proofs.Bytes.{AllBytes}
+use Rattle.words.specs.Slices.{AllBytes}
 use Rattle.bus.specs.declared.Refusal.{Refusal}
 use Rattle.bus.specs.declared.Refusal.the-variants.{BadSize, BadImage}
 use Rattle.machine.specs.declared.Machine.{Machine}

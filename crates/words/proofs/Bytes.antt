@@ -7,10 +7,7 @@ use Rattle.words.specs.declared.Order.{Order}
 use Rattle.words.specs.declared.Order.the-variants.{MostFirst, LeastFirst}
 use Rattle.words.specs.Numbers.{bytes, Fit}
 use Rattle.words.specs.Orders.{inOrder}
-
-abbrev pub AllBytes : List ℕ → Type 0
-AllBytes [] = Unit {0}
-AllBytes (x ∷ xs) = (x < 256) × AllBytes xs
+use Rattle.words.specs.Slices.{AllBytes}
 
 -- what is known of a slice's elements, as one fact
 pub all-bytes : (xs : List ℕ) → ((i : ℕ) → getD xs i 0 < 256) → AllBytes xs

@@ -11,9 +11,10 @@ use lib.Seq.{take-at, drop-at, length-take-le}
 use Rattle.words.specs.declared.Order.{Order}
 use Rattle.words.specs.declared.Order.the-variants.{MostFirst, LeastFirst}
 use Rattle.words.specs.Numbers.{total, join, split, bytes, Fit}
-use Rattle.words.specs.Orders.{inOrder, bytesOf, numberOf, rowBytes, rowNumbers, wordBytes}
+use Rattle.words.specs.Orders.{inOrder, bytesOf, numberOf, bitWidths, rowBytes, rowNumbers, wordBytes}
 use Rattle.words.proofs.Recode.{join-split, split-join}
-use Rattle.words.proofs.Bytes.{AllBytes, bytes-fit, take-bytes, drop-bytes, order-bytes}
+use Rattle.words.specs.Slices.{AllBytes}
+use Rattle.words.proofs.Bytes.{bytes-fit, take-bytes, drop-bytes, order-bytes}
 
 pub order-back : (order : Order) (xs : List ℕ) → inOrder order (inOrder order xs) ≡ xs
 order-back MostFirst xs = refl
@@ -56,11 +57,6 @@ pub turn-bytes : (order : Order) (v : ℕ) → bytesOf LeastFirst 4 (join (bytes
 turn-bytes MostFirst v = bytes-number LeastFirst (split (bytes 4) v) (split-bytes v)
 turn-bytes LeastFirst v =
     bytes-number LeastFirst (reverse (split (bytes 4) v)) (order-bytes LeastFirst (split (bytes 4) v) (split-bytes v))
-
--- the widths in bits of numbers of so many bytes
-abbrev pub bitWidths : List ℕ → List ℕ
-bitWidths [] = []
-bitWidths (n ∷ ns) = total (bytes n) ∷ bitWidths ns
 
 -- a row of numbers comes back from its bytes
 pub row-back : (order : Order) (ns vs : List ℕ) → Fit (bitWidths ns) vs → rowNumbers order ns (rowBytes order ns vs) ≡ vs

@@ -5,7 +5,7 @@ use mathlib.Core.List.{List, [], _∷_, _++_, reverse}
 use lib.ListN.{length, take, drop}
 use Rattle.words.specs.declared.Order.{Order}
 use Rattle.words.specs.declared.Order.the-variants.{MostFirst, LeastFirst}
-use Rattle.words.specs.Numbers.{join, split, bytes}
+use Rattle.words.specs.Numbers.{total, join, split, bytes}
 
 -- bytes that stand the most significant first, in the order asked for; and back
 abbrev pub inOrder : Order → List ℕ → List ℕ
@@ -19,6 +19,11 @@ bytesOf order n v = inOrder order (split (bytes n) v)
 -- the number that bytes are
 abbrev pub numberOf : Order → List ℕ → ℕ
 numberOf order xs = join (bytes (length xs)) (inOrder order xs)
+
+-- the widths in bits of numbers of so many bytes each
+abbrev pub bitWidths : List ℕ → List ℕ
+bitWidths [] = []
+bitWidths (n ∷ ns) = total (bytes n) ∷ bitWidths ns
 
 -- numbers of so many bytes each, one after the other
 abbrev pub rowBytes : Order → List ℕ → List ℕ → List ℕ

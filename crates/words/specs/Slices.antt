@@ -1,12 +1,17 @@
--- Bytes at a place of a slice.
+-- What a lent slice holds, and bytes at a place of it.
 -- Assumes nothing.
-use Prim.Native.Nat.{ℕ, _+_}
+use Prim.Native.Nat.{ℕ, _+_, _<_}
 use mathlib.Core.Bool.{cond}
-use mathlib.Core.List.{List, _++_}
+use mathlib.Core.List.{List, [], _∷_, _++_}
 use lib.ListN.{length, take, drop}
 use lib.Dec.{leb}
 use Rattle.words.specs.declared.Order.{Order}
 use Rattle.words.specs.Orders.{numberOf}
+
+-- each number is a byte, as those of every lent slice are
+abbrev pub AllBytes : List ℕ → Type 0
+AllBytes [] = Unit {0}
+AllBytes (x ∷ xs) = (x < 256) × AllBytes xs
 
 -- the n bytes of xs from the place `at` on
 abbrev pub part : List ℕ → ℕ → ℕ → List ℕ

@@ -1,4 +1,5 @@
-use Rattle.image.proofs.Fitting.{Typed, Stored, fits-fit}
+use Rattle.image.specs.Layout.{Typed}
+use Rattle.image.proofs.Fitting.{Stored, fits-fit}
 use Rattle.image.proofs.Answers.{put-size, put-wide, put-fits}
 use borrow.Author.Tests.{not-true, not-false}
 use mathlib.Core.Path.{sym, _∙_}

@@ -1,4 +1,5 @@
-use Rattle.image.proofs.Fitting.{Typed, keeps-fit}
+use Rattle.image.specs.Layout.{Typed}
+use Rattle.image.proofs.Fitting.{keeps-fit}
 use Rattle.image.proofs.Answers.{kept-none, wrote-size, wrote-broken, wrote-done}
 use borrow.Author.Tests.{not-true, not-false}
 use mathlib.Core.Path.{sym, _∙_}
