@@ -34,7 +34,7 @@ use Rattle.machine.specs.declared.runs.Advanced.{Advanced}
 use Rattle.image.specs.Rules.{asked}
 use Rattle.machine.specs.State.{modeNumber}
 use Rattle.machine.specs.Step.{World, taken, step, whole, sourceOf, destinationOf, onward, beatFor}
-use Rattle.machine.specs.Turns.{world, worldAt, progress, Within, steps, Went, movedBy, Moving, Bursts, Reaches, Unmarked}
+use Rattle.machine.specs.Turns.{world, worldAt, progress, Within, steps, Went, Advances, movedBy, Moving, Bursts, Reaches, Unmarked}
 use Rattle.machine.proofs.Places.{inside, place, fits}
 use Rattle.machine.proofs.Streams.{none-made}
 use Rattle.machine.proofs.Turning.{went-none, went-as}
@@ -249,13 +249,9 @@ pub burst-told : (errors : ℕ) {mode : Mode} {m : Machine} {k : Work} {most n :
     {window' out' : List ℕ} {left : ℕ} {r : Advanced} → Moving mode (m .window) k most m
     → Bursts mode (m .window) k most n errors window beats took out made took' made' window' out'
     → r ≡ record { machine = onward m (movedBy k n errors); taken = took'; made = made'; steps = n } → n ≤ left → Within beats out took' made'
-    → (r .steps ≤ left) × (Within beats out (r .taken) (r .made)
-    × Went (λ (w : World). steps (r .steps) w) m window beats took out made (progress (r .machine) (r .taken) (r .made)) window' out')
+    → (r .steps ≤ left) × Advances m window beats took out made r window' out'
 burst-told errors {m = m} {window = window} {beats = beats} {took = took} {out = out} {made = made} {window' = window'} {out' = out'} {left = left} g b e l h =
-    subst⁻¹ (λ (r : Advanced).
-    (r .steps ≤ left) × (Within beats out (r .taken) (r .made)
-    × Went (λ (w : World). steps (r .steps) w) m window beats took out made (progress (r .machine) (r .taken) (r .made)) window' out'))
-    e (l, (h, b m g))
+    subst⁻¹ (λ (r : Advanced). (r .steps ≤ left) × Advances m window beats took out made r window' out') e (l, (h, b m g))
 
 -- no step leads nowhere
 pub went-nowhere : (m : Machine) (window beats : List ℕ) (took : ℕ) (out : List ℕ) (made : ℕ)

@@ -1,11 +1,12 @@
 -- The cases of a step's rules, by the tests that led there.
 -- Assumes nothing.
 use Prim.Native.Nat.{ℕ, _%_, _^_}
-use mathlib.Core.Path.{_≡_, sym, ap, _∙_}
+use mathlib.Core.Path.{_≡_, refl, sym, ap, _∙_}
 use mathlib.Core.Bool.{Bool, true, false, cond, _&&_, _||_}
 use mathlib.Core.List.{List}
 use lib.Dec.{eqb}
 use lib.ListN.{getD, set}
+use Rattle.words.specs.Promise.{Gives}
 use Rattle.bus.specs.Window.{inWindow, placeOf}
 use Rattle.descriptor.specs.declared.Descriptor.{Descriptor}
 use Rattle.descriptor.specs.Layout.{owned, descriptorAt}
@@ -16,6 +17,7 @@ use Rattle.machine.specs.declared.Phase.the-variants.{Move, WriteBack}
 use Rattle.machine.specs.State.{run, rested, withPhase, withPointer}
 use Rattle.machine.specs.Step.{World, wantsLength, begun, ended, fetched, fetchStep, whole, sourceOf, destinationOf, withByte, onward, copyStep}
 use Rattle.machine.specs.Turns.{world, inFault, Still}
+use Rattle.machine.proofs.Answers.{both}
 
 -- when L bytes are moved or a taken beat had EOP
 pub onward-by : (m : Machine) (k : Work) {l : ℕ} {p : Phase} → l ≡ whole m k → p ≡ cond (k .eop || eqb (k .moved) l) (WriteBack k) (Move k)
@@ -72,19 +74,18 @@ module _ (m : Machine) {m' : Machine} (memory : List ℕ) where
           λ input output room.
           rw (e, f, i) (ap (fetched (world m memory input output room)) (sym (r ∙ ap (descriptorAt memory) q)) ∙ s input output room)
 
-module _ (m : Machine) {m' : Machine} (d : Descriptor) (memory : List ℕ) where
-  pub not-owned : owned (d .control .0) ≡ false → m' ≡ ended m → Still (λ (w : World). fetched w d) m memory m' memory
+-- of a descriptor; OWNED and whether a length is wanted are told
+module _ (m : Machine) {m' : Machine} (d : Descriptor) (memory : List ℕ) {o : Bool} (t : Gives (owned (d .control .0)) o) where
+  pub not-owned : o ≡ false → m' ≡ ended m → Still (λ (w : World). fetched w d) m memory m' memory
   unfolding fetched
-  not-owned e g = λ input output room. rw (e, g)
+  not-owned e g = λ input output room. rw (sym (t .value) ∙ e, g)
 
-  module _ (e : owned (d .control .0) ≡ true) where
-    pub no-length : (wantsLength (m .mode) && eqb (d .length) 0) ≡ true → m' ≡ inFault m 12 (m .pointer .0)
+  module _ (e : o ≡ true) {l : Bool} (u : l ≡ wantsLength (m .mode)) where
+    pub no-length : (l && eqb (d .length) 0) ≡ true → m' ≡ inFault m 12 (m .pointer .0) → Still (λ (w : World). fetched w d) m memory m' memory
+    unfolding fetched
+    no-length f g = λ input output room. rw (sym (t .value) ∙ e, both u refl f, g)
+
+    pub begins : (l && eqb (d .length) 0) ≡ false → m' ≡ withPhase (Move (begun (m .pointer .0) d)) (withPointer (d .next) m)
         → Still (λ (w : World). fetched w d) m memory m' memory
     unfolding fetched
-    no-length f g = λ input output room. rw (e, f, g)
-
-    pub begins : (wantsLength (m .mode) && eqb (d .length) 0) ≡ false
-        → m' ≡ withPhase (Move (begun (m .pointer .0) d)) (withPointer (d .next) m)
-        → Still (λ (w : World). fetched w d) m memory m' memory
-    unfolding fetched
-    begins f g = λ input output room. rw (e, f, g)
+    begins f g = λ input output room. rw (sym (t .value) ∙ e, both u refl f, g)

@@ -17,6 +17,7 @@ use Rattle.machine.specs.declared.Progress.{Progress}
 use Rattle.machine.specs.declared.Phase.{Phase}
 use Rattle.machine.specs.declared.Phase.the-variants.{Rest, Fetch, Move, WriteBack, Ended, Halted, Faulted}
 use Rattle.machine.specs.declared.bursts.Reach.{Reach}
+use Rattle.machine.specs.declared.runs.Advanced.{Advanced}
 use Rattle.machine.specs.declared.steps.Wait.{Wait}
 use Rattle.machine.specs.declared.steps.Wait.the-variants.{Go, Stop}
 use Rattle.machine.specs.declared.steps.Lent as code
@@ -111,6 +112,12 @@ pub record Went (rule : World → Answer) (m : Machine) (window beats : List ℕ
   pub goes : (o : List ℕ)
       → rule (worldAt m window beats took o (length out / 2 - made))
       ≡ taken (worldAt (r .machine) window' beats (r .taken) (o ++ new) (length out / 2 - r .made))
+
+-- some steps at once, in the middle of lent slices: where they led, and how many they were
+abbrev pub Advances : Machine → (window beats : List ℕ) (took : ℕ) (out : List ℕ) (made : ℕ) → Advanced → (window' out' : List ℕ) → Type 0
+Advances m window beats took out made r window' out' =
+    Within beats out (r .taken) (r .made)
+    × Went (λ (w : World). steps (r .steps) w) m window beats took out made (progress (r .machine) (r .taken) (r .made)) window' out'
 
 -- ---- what a step needs of a machine
 

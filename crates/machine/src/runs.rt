@@ -4,9 +4,9 @@ ghost use mathlib.Core.Bool.{true, false};
 ghost use Prim.Native.Nat.{_+_, _≤_, _<_};
 ghost use lib.ListN.{length};
 ghost use Rattle.machine.specs.declared.Phase.the-variants.{Move};
-ghost use Rattle.machine.specs.Step.{World, whole as wholeOf, onward as onwardOf, step as stepOf};
+ghost use Rattle.machine.specs.Step.{whole as wholeOf, onward as onwardOf, step as stepOf};
 ghost use Rattle.machine.specs.Run.{lentIf, Runs, HasRun, Resumed};
-ghost use Rattle.machine.specs.Turns.{progress, steps as stepsOf, Goes, Within, Went, Ready, movedBy};
+ghost use Rattle.machine.specs.Turns.{Goes, Within, Ready, Advances, movedBy};
 use crate::Machine;
 use crate::Mode;
 use crate::Phase;
@@ -64,8 +64,7 @@ impl Machine {
         requires { ⌜ Within (now beats) (now out) taken made ⌝ }
         requires { ⌜ 1 ≤ left ⌝ }
         ensures { λ r. ⌜ r .steps ≤ left ⌝ }
-        ensures { λ r. ⌜ Within (now (beats .entry)) (now (out .entry)) (r .taken) (r .made) ⌝ }
-        ensures { λ r. ⌜ Went (λ (w : World). stepsOf (r .steps) w) self (now (window .entry)) (now (beats .entry)) taken (now (out .entry)) made (progress (r .machine) (r .taken) (r .made)) (now (window .exit)) (now (out .exit)) ⌝ }
+        ensures { λ r. ⌜ Advances self (now (window .entry)) (now (beats .entry)) taken (now (out .entry)) made r (now (window .exit)) (now (out .exit)) ⌝ }
     {
         let mode = self.mode;
         let place = self.window;
@@ -100,8 +99,7 @@ impl Machine {
         requires { ⌜ Within (now beats) (now out) taken made ⌝ }
         requires { ⌜ 1 ≤ left ⌝ }
         ensures { λ r. ⌜ r .steps ≤ left ⌝ }
-        ensures { λ r. ⌜ Within (now (beats .entry)) (now (out .entry)) (r .taken) (r .made) ⌝ }
-        ensures { λ r. ⌜ Went (λ (w : World). stepsOf (r .steps) w) self (now (window .entry)) (now (beats .entry)) taken (now (out .entry)) made (progress (r .machine) (r .taken) (r .made)) (now (window .exit)) (now (out .exit)) ⌝ }
+        ensures { λ r. ⌜ Advances self (now (window .entry)) (now (beats .entry)) taken (now (out .entry)) made r (now (window .exit)) (now (out .exit)) ⌝ }
     {
         let phase = self.phase;
         let Phase::Move(k) = phase else {
@@ -132,8 +130,7 @@ impl Machine {
         requires { ⌜ Goes stepOf self (now window) (now beats) taken (now out) made ⌝ }
         requires { ⌜ 1 ≤ left ⌝ }
         ensures { λ r. ⌜ (1 ≤ r .steps) × (r .steps ≤ left) ⌝ }
-        ensures { λ r. ⌜ Within (now (beats .entry)) (now (out .entry)) (r .taken) (r .made) ⌝ }
-        ensures { λ r. ⌜ Went (λ (w : World). stepsOf (r .steps) w) self (now (window .entry)) (now (beats .entry)) taken (now (out .entry)) made (progress (r .machine) (r .taken) (r .made)) (now (window .exit)) (now (out .exit)) ⌝ }
+        ensures { λ r. ⌜ Advances self (now (window .entry)) (now (beats .entry)) taken (now (out .entry)) made r (now (window .exit)) (now (out .exit)) ⌝ }
     {
         let b = self.burst(window, beats, taken, out, made, left);
         if b.steps != 0 {

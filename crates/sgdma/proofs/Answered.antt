@@ -8,7 +8,7 @@ use lib.ListN.{length}
 use borrow.Author.Tests.{eq-eqb, ne-eqb}
 use Rattle.words.specs.declared.Order.the-variants.{MostFirst}
 use Rattle.words.specs.Orders.{bytesOf}
-use Rattle.words.specs.Promise.{Gives}
+use Rattle.words.specs.Promise.{Gives, Leaves}
 use Rattle.words.specs.Slices.{putAt}
 use Rattle.words.proofs.Orders.{length-bytes}
 use Rattle.descriptor.specs.declared.ReadDescriptor.{ReadDescriptor}
@@ -83,11 +83,11 @@ module _ {xs value ys : List ℕ} {r : ℕ} where
       line-spoiled {why} e p q =
           line-says (line.Refused BadImage) (sizes-right _ _ 4 xs value l k ∙ ap lineIn (not-loaded xs why l e)) p q
 
-      pub line-answers : {m : Machine} {up : Bool} (b : Line) → loadOf xs ≡ loaded.Good m → Gives (lineUp m) up → cond up line.Up line.Down ≡ b
-          → r ≡ lineNumber b → ys ≡ lineOver b value → LineRead xs value r ys
+      pub line-answers : {m : Machine} {up : Bool} (b : Line) (v : ℕ) → loadOf xs ≡ loaded.Good m → Gives (lineUp m) up → cond up line.Up line.Down ≡ b
+          → r ≡ lineNumber b → bytesOf MostFirst 4 v ≡ lineOver b value → Leaves (putAt value 0 (bytesOf MostFirst 4 v)) ys → LineRead xs value r ys
       unfolding lineCall
-      line-answers b e g f p q =
-          line-says b (sizes-right _ _ 4 xs value l k ∙ ap lineIn e ∙ line-loaded xs e g ∙ f) p q
+      line-answers b v e g f p o q =
+          line-says b (sizes-right _ _ 4 xs value l k ∙ ap lineIn e ∙ line-loaded xs e g ∙ f) p (q .lent ∙ value-put v value k ∙ o)
 
 -- ---- sgdma_read_descriptor
 

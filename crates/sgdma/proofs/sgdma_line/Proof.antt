@@ -1,7 +1,7 @@
 use mathlib.Core.Path.{refl, sym, ap, _∙_}
 use mathlib.Core.Bool.{Bool, cond}
 use Rattle.machine.specs.declared.registers.Line.the-variants.{Up, Down}
-use Rattle.sgdma.proofs.Answered.{value-put, line-short, line-value-short, line-spoiled, line-answers}
+use Rattle.sgdma.proofs.Answered.{line-short, line-value-short, line-spoiled, line-answers}
 use borrow.Author.Needs.{needs}
 use Rattle.sgdma.proofs.sgdma_line.Statement.{statement}
 use Rattle.sgdma.proofs.sgdma_line.Tie as tie
@@ -44,13 +44,10 @@ same-length c = search needs
 
 returns-4 : tie.Need-returns-4
 returns-4 c =
-    let put = c .before .before in
-    let up = put .before .before .before in
+    let up = c .before .before .before .before .before in
     let sizes = up .before .before .before .before .before in
-    line-answers (sizes .before .if1 .left) (sizes .if2 .left) Up
-    (sym (up .before .before .before .before .load .ensures .answer) ∙ up .before .before .m .given .1) (up .up .ensures)
-    (ap (λ (b : Bool). cond b Up Down) (put .before .before .if3 .taken)) refl
-    (put .put-u32 .ensures .lent ∙ value-put 1 _ (sizes .if2 .left))
+    line-answers (sizes .before .if1 .left) (sizes .if2 .left) Up 1 (sym (up .before .before .before .before .load .ensures .answer) ∙ up .before .before .m .given .1) (up .up .ensures)
+    (ap (λ (b : Bool). cond b Up Down) (c .before .before .before .before .if3 .taken)) refl refl (c .before .before .put-u32 .ensures)
 
 put-u32-requires-2 : tie.Need-put-u32-requires-2
 put-u32-requires-2 c κs = search needs
@@ -60,13 +57,10 @@ same-length-2 c = search needs
 
 returns-5 : tie.Need-returns-5
 returns-5 c =
-    let put = c .before .before in
-    let up = put .before .before .before in
+    let up = c .before .before .before .before .before in
     let sizes = up .before .before .before .before .before in
-    line-answers (sizes .before .if1 .left) (sizes .if2 .left) Down
-    (sym (up .before .before .before .before .load .ensures .answer) ∙ up .before .before .m .given .1) (up .up .ensures)
-    (ap (λ (b : Bool). cond b Up Down) (put .before .before .if3 .left)) refl
-    (put .put-u322 .ensures .lent ∙ value-put 0 _ (sizes .if2 .left))
+    line-answers (sizes .before .if1 .left) (sizes .if2 .left) Down 0 (sym (up .before .before .before .before .load .ensures .answer) ∙ up .before .before .m .given .1) (up .up .ensures)
+    (ap (λ (b : Bool). cond b Up Down) (c .before .before .before .before .if3 .left)) refl refl (c .before .before .put-u322 .ensures)
 
 pub sgdma-line-spec : {M : Type 1} → statement M
 sgdma-line-spec =

@@ -1,5 +1,3 @@
-use mathlib.Core.Path.{refl, sym, _∙_}
-use Rattle.machine.proofs.Answers.{both}
 use Rattle.machine.proofs.Cases.{not-owned, no-length, begins}
 use borrow.Author.Needs.{needs}
 use Rattle.machine.proofs.Machine.fetched.Statement.{statement}
@@ -22,23 +20,16 @@ ended-requires c κs = search needs
 
 returns : tie.Need-returns
 returns c =
-    λ memory.
-    let t = c .before .before in
-    let h = t .before in
-    no-length (h .before .before .before .before .args .self) _ memory (sym (h .has .ensures .value) ∙ t .if1 .taken) (both (h .before .before .wants-length .ensures) refl (c .before .if2 .taken)) (c .faulted .ensures)
+    let h = c .before .before .before in
+    λ memory. no-length _ _ memory (h .has .ensures) (c .before .before .if1 .taken) (h .before .before .wants-length .ensures) (c .before .if2 .taken) (c .faulted .ensures)
 
 returns-2 : tie.Need-returns-2
 returns-2 c =
-    λ memory.
-    let t = c .before .before in
-    let h = t .before in
-    begins (h .before .before .before .before .args .self) _ memory (sym (h .has .ensures .value) ∙ t .if1 .taken) (both (h .before .before .wants-length .ensures) refl (c .before .if2 .left)) (c .begun .ensures)
+    let h = c .before .before .before in
+    λ memory. begins _ _ memory (h .has .ensures) (c .before .before .if1 .taken) (h .before .before .wants-length .ensures) (c .before .if2 .left) (c .begun .ensures)
 
 returns-3 : tie.Need-returns-3
-returns-3 c =
-    λ memory.
-    let h = c .before .before in
-    not-owned (h .before .before .before .before .args .self) _ memory (sym (h .has .ensures .value) ∙ c .before .if1 .left) (c .ended .ensures)
+returns-3 c = λ memory. not-owned _ _ memory (c .before .before .has .ensures) (c .before .if1 .left) (c .ended .ensures)
 
 pub fetched-spec : {M : Type 1} → statement M
 fetched-spec =
