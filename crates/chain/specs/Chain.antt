@@ -96,7 +96,7 @@ Apart l m = (i : ℕ) → i < 32 → Off m (l .at + i)
 
 -- ---- what the stream gives a descriptor
 
--- bytes_to_transfer; a 0 means 65,535
+-- bytes_to_transfer; a 0 means 65,535. Said anew, for this file to be read alone; that it is L of the step rule is `wants-is`
 abbrev pub wants : Descriptor → ℕ
 wants d = cond (eqb (d .length) 0) 65535 (d .length)
 
@@ -138,7 +138,7 @@ abbrev pub cost : List Share → ℕ
 cost [] = 0
 cost (s ∷ ss) = length (s .beats) + 2 + cost ss
 
--- the errors of beats, gathered by OR
+-- the errors of beats, gathered by OR. Said anew as well; that the steps gather the same is `worked-errors`
 abbrev pub gathered : (errors : ℕ) → List ℕ → ℕ
 gathered errors [] = errors
 gathered errors (b ∷ bs) = gathered (bitOr errors (beatError b)) bs
@@ -150,7 +150,7 @@ pub record Sent : Type 0 where
   pub to : ℕ
   pub byte : ℕ
 
--- byte i at destination + i, without i under WRITE_FIXED
+-- byte i at destination + i, without i under WRITE_FIXED. Said anew as well; that the steps write there is in `moves`
 abbrev pub landing : (fixed : Bool) (destination i : ℕ) → ℕ
 landing fixed destination i = cond fixed destination (destination + i)
 

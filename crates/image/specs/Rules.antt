@@ -74,6 +74,7 @@ run control = bit 5 control
 abbrev pub swReset : ℕ → Bool
 swReset control = bit 16 control
 
+-- the bit that crate descriptor, which this one does not use, has as `owned`; crate met takes the one for the other
 abbrev pub ownedByHw : ℕ → Bool
 ownedByHw dcontrol = bit 7 dcontrol
 

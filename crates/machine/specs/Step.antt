@@ -118,7 +118,7 @@ fetchStep w =
 abbrev pub whole : Machine → Work → ℕ
 whole m k = asked (modeNumber (m .mode)) (k .length)
 
--- byte i is at start + i, without i under the FIXED bit
+-- byte i is at start + i, without i under the FIXED bit. Of places crate flow says the same for its rows; `fixed-or-on` ties them
 abbrev pub byteAddress : Bool → (start i : ℕ) → ℕ
 byteAddress fixed start i = cond fixed start (start + i)
 
