@@ -54,7 +54,8 @@ known =
       acts = once 4096 0x20 100;
       facts = reason 3 ∷ fault 12 4096 ∷ steps 2 ∷ [];
     }
-    -- 10. mode 1, control byte 0x85, length 2, source 4224 holding AA BB, room for 2 beats; length 1
+    -- 10. mode 1, control byte 0x85, length 2, source 4224 holding AA BB, room for 2 beats; length 1. Destination 0 and no beats lent,
+    -- where "unless said" would have 4224 and the four: mode 1 reads neither, so the figures are the same
     ∷ record {
       mode = 1;
       base = 4096;
