@@ -54,13 +54,12 @@ known =
       acts = once 4096 0x20 100;
       facts = reason 3 ∷ fault 12 4096 ∷ steps 2 ∷ [];
     }
-    -- 10. mode 1, control byte 0x85, length 2, source 4224 holding AA BB, room for 2 beats; length 1. Destination 0 and no beats lent,
-    -- where "unless said" would have 4224 and the four: mode 1 reads neither, so the figures are the same
+    -- 10. mode 1, control byte 0x85, length 2, source 4224 holding AA BB, room for 2 beats; length 1
     ∷ record {
       mode = 1;
       base = 4096;
-      window = window (desc 4224 0 4128 2 0x85) (0xAA ∷ 0xBB ∷ []);
-      beats = [];
+      window = window (desc 4224 4224 4128 2 0x85) (0xAA ∷ 0xBB ∷ []);
+      beats = four;
       room = 2;
       acts = once 4096 0x20 100;
       facts = out (0x02AA ∷ 0x01BB ∷ []) ∷ steps 6 ∷ reason 1 ∷ [];
@@ -68,8 +67,8 @@ known =
     ∷ record {
       mode = 1;
       base = 4096;
-      window = window (desc 4224 0 4128 1 0x85) (0xAA ∷ 0xBB ∷ []);
-      beats = [];
+      window = window (desc 4224 4224 4128 1 0x85) (0xAA ∷ 0xBB ∷ []);
+      beats = four;
       room = 2;
       acts = once 4096 0x20 100;
       facts = out (0x03AA ∷ []) ∷ steps 5 ∷ reason 1 ∷ [];

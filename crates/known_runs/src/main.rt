@@ -171,16 +171,15 @@ fn reading() {
     let sent = Row {
         mode: 1,
         source: 4224,
-        destination: 0,
         length: 2,
         owned: 0x85,
         held: 0xAA,
         also: 0xBB,
         ..FIRST
     };
-    made(b"10. length 2", sent, &[]);
+    made(b"10. length 2", sent, &FOUR);
     let length = 1;
-    made(b"10. length 1", Row { length, ..sent }, &[]);
+    made(b"10. length 1", Row { length, ..sent }, &FOUR);
 }
 
 fn main() {

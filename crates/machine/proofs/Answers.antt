@@ -2,7 +2,7 @@
 -- Assumes nothing.
 use Prim.Native.Nat.{ℕ}
 use mathlib.Core.Path.{_≡_, refl, sym, ap, _∙_}
-use mathlib.Core.Bool.{Bool, true, false, cond, _&&_, _||_}
+use mathlib.Core.Bool.{Bool, true, false, cond, _&&_}
 use mathlib.Core.List.{List}
 use lib.Dec.{eqb}
 use Rattle.bus.specs.declared.Refusal.the-variants.{NoRegister, BadImage}
@@ -59,7 +59,7 @@ was-saved {m} {xs} {ys} {f} {w} {v} e p q =
 -- ---- the registers and the line
 
 known : (a b c : Bool) (u v w : ℕ)
-    → registers.readNumber (cond a (reg.Value u) (cond b (reg.Value v) (cond c (reg.Value w) (reg.Refused NoRegister)))) ≡ cond (a || b || c) 0 1
+    → registers.readNumber (cond a (reg.Value u) (cond b (reg.Value v) (cond c (reg.Value w) (reg.Refused NoRegister)))) ≡ cond (cond a true (cond b true (cond c true false))) 0 1
 known true b c u v w = refl
 known false true c u v w = refl
 known false false true u v w = refl

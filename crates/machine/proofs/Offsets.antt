@@ -1,8 +1,8 @@
 -- The choice among the three registers, by the tests that led there.
 -- Assumes nothing.
 use Prim.Native.Nat.{ℕ}
-use mathlib.Core.Path.{_≡_, ap}
-use mathlib.Core.Bool.{true, false}
+use mathlib.Core.Path.{_≡_, refl, ap}
+use mathlib.Core.Bool.{Bool, true, false, cond, _||_}
 use borrow.Author.Tests.{ne-eqb}
 use Rattle.bus.specs.declared.Refusal.the-variants.{NoRegister, BadImage}
 use Rattle.machine.specs.declared.Machine.{Machine}
@@ -22,6 +22,13 @@ module _ {A : Type 0} (status control pointer none : A) (offset : ℕ) where
 
   pub at-none : (offset ≡ 0 → ⊥) → (offset ≡ 4 → ⊥) → (offset ≡ 8 → ⊥) → chosen offset status control pointer none ≡ none
   at-none e f g = rw (ne-eqb offset 0 e, ne-eqb offset 4 f, ne-eqb offset 8 g)
+
+-- the three offsets asked for one by one
+pub any-of : (a b c : Bool) → (a || b || c) ≡ cond a true (cond b true (cond c true false))
+any-of true b c = refl
+any-of false true c = refl
+any-of false false true = refl
+any-of false false false = refl
 
 -- ---- a register write, by the tests that led there
 

@@ -2,7 +2,7 @@
 -- Assumes nothing.
 use Prim.Native.Nat.{ℕ, _%_, _^_}
 use mathlib.Core.Path.{_≡_, sym, _∙_}
-use mathlib.Core.Bool.{Bool, true, false, not, cond, _&&_, _||_}
+use mathlib.Core.Bool.{Bool, true, false, not, cond, _&&_}
 use lib.Dec.{eqb}
 use Rattle.words.specs.Bits.{bit}
 use Rattle.bus.specs.Refusal.{refusalNumber}
@@ -26,7 +26,7 @@ chosen offset status control pointer none =
     cond (eqb offset 0) status (cond (eqb offset 4) control (cond (eqb offset 8) pointer none))
 
 abbrev pub isRegister : ℕ → Bool
-isRegister offset = eqb offset 0 || eqb offset 4 || eqb offset 8
+isRegister offset = chosen offset true true true false
 
 -- ---- writing
 

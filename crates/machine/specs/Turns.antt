@@ -1,5 +1,5 @@
 -- What the helpers' contracts cite: a world by its parts, several steps at once, and what a machine keeps that a step may be
--- safe. No promise cites it, so nothing here need be believed.
+-- safe. No promise cites it, and of the theorems only those on bytes that are moved at once do.
 -- Assumes nothing.
 use Prim.Native.Nat.{ℕ, zero, suc, _+_, _-_, _*_, _/_, _≤_, _<_}
 use mathlib.Core.Path.{_≡_}
