@@ -11,9 +11,7 @@ use Rattle.image.specs.declared.ReadImage.{ReadImage}
 use Rattle.image.specs.declared.ReadImage.the-variants as read
 use Rattle.image.specs.declared.WroteImage.{WroteImage}
 use Rattle.image.specs.declared.WroteImage.the-variants as wrote
-use Rattle.image.specs.Rules.{keepsRules}
-use Rattle.image.specs.Promise.{Wrote, sized, readOf, wroteOf, imageOver, readNumber, wroteNumber, imageNumber}
-use Rattle.image.proofs.Answers.{was-read}
+use Rattle.image.specs.Promise.{Wrote, readOf, wroteOf, imageOver, readNumber, wroteNumber}
 use Rattle.machine.specs.declared.Machine.{Machine}
 use Rattle.machine.specs.declared.LoadedMachine.{LoadedMachine}
 use Rattle.machine.specs.declared.registers.ReadRegister.{ReadRegister}
@@ -40,7 +38,7 @@ loaded-number (read.Refused why) = refl
 
 pub was-loaded : {xs : List ℕ} {r : LoadedMachine} → r ≡ loadOf xs → WasLoaded xs r
 unfolding loadOf
-was-loaded {xs} e = record { answer = e; number = ap loadNumber e ∙ loaded-number (readOf xs) ∙ was-read {xs = xs} refl .number }
+was-loaded {xs} e = record { answer = e; number = ap loadNumber e ∙ loaded-number (readOf xs) }
 
 saved-number : (a : WroteImage) → saveNumber (savedAs a) ≡ wroteNumber a
 saved-number wrote.Done = refl
@@ -52,7 +50,7 @@ unfolding saveOf
 was-saved {m} {xs} {ys} {f} {w} {v} e p q =
     record {
       answer = ap savedAs (sym q ∙ p .answer ∙ ap (λ (g : Fields). wroteOf g xs) e);
-      number = saved-number v ∙ ap wroteNumber (sym q) ∙ p .number ∙ ap (λ (g : Fields). imageNumber (sized xs) (keepsRules g)) e;
+      number = saved-number v ∙ ap wroteNumber (sym q ∙ p .answer ∙ ap (λ (g : Fields). wroteOf g xs) e);
       lent = p .lent ∙ ap (λ (g : Fields). imageOver g xs) e;
     }
 

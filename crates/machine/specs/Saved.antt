@@ -14,9 +14,8 @@ use Rattle.image.specs.declared.ReadImage.{ReadImage}
 use Rattle.image.specs.declared.ReadImage.the-variants as read
 use Rattle.image.specs.declared.WroteImage.{WroteImage}
 use Rattle.image.specs.declared.WroteImage.the-variants as wrote
-use Rattle.image.specs.Layout.{fields}
 use Rattle.image.specs.Rules.{keepsRules}
-use Rattle.image.specs.Promise.{sized, readOf, wroteOf, imageOver, imageNumber}
+use Rattle.image.specs.Promise.{readOf, wroteOf, imageOver, readNumber, wroteNumber}
 use Rattle.machine.specs.declared.Machine.{Machine}
 use Rattle.machine.specs.declared.Mode.{Mode}
 use Rattle.machine.specs.declared.Mode.the-variants.{MemoryToMemory, MemoryToStream, StreamToMemory}
@@ -173,15 +172,15 @@ abbrev pub saveNumber : SavedMachine → ℕ
 saveNumber saved.Done = 0
 saveNumber (saved.Refused why) = refusalNumber why
 
--- ---- the promises
+-- ---- the promises: the number is that of the image read or written
 
 pub record WasLoaded (xs : List ℕ) (r : LoadedMachine) : Type 0 where
   pub answer : r ≡ loadOf xs
-  pub number : loadNumber r ≡ imageNumber (sized xs) (keepsRules (fields xs))
+  pub number : loadNumber r ≡ readNumber (readOf xs)
 
 pub record WasSaved (m : Machine) (xs : List ℕ) (r : SavedMachine) (after : List ℕ) : Type 0 where
   pub answer : r ≡ saveOf m xs
-  pub number : saveNumber r ≡ imageNumber (sized xs) (keeps m)
+  pub number : saveNumber r ≡ wroteNumber (wroteOf (fieldsOf m) xs)
   pub lent : after ≡ imageOver (fieldsOf m) xs
 
 pub loaded-unique : {xs : List ℕ} {r s : LoadedMachine} → WasLoaded xs r → WasLoaded xs s → r ≡ s
