@@ -14,8 +14,8 @@ use Rattle.bus.specs.Window.{keepsLimits}
 use Rattle.image.specs.declared.Fields.{Fields}
 use Rattle.image.specs.Rules.{keepsRules, lowestBroken}
 use Rattle.image.proofs.EachRule.{each-rule, each-keeps}
+use Rattle.regs.specs.declared.Mode.the-variants.{StreamToMemory}
 use Rattle.machine.specs.declared.Machine.{Machine}
-use Rattle.machine.specs.declared.Mode.the-variants.{StreamToMemory}
 use Rattle.machine.specs.declared.registers.WroteRegister.{WroteRegister}
 use Rattle.machine.specs.declared.registers.WroteRegister.the-variants as wrote
 use Rattle.machine.specs.declared.RunAnswer.{RunAnswer}

@@ -13,11 +13,11 @@ use Rattle.bus.specs.declared.Window.{Window}
 use Rattle.bus.specs.Window.{inWindow, placeOf}
 use Rattle.descriptor.specs.Layout.{owned, lastFour}
 use Rattle.image.specs.Rules.{asked}
-use Rattle.machine.specs.declared.Mode.{Mode}
+use Rattle.regs.specs.declared.Mode.{Mode}
+use Rattle.regs.specs.Modes.{modeNumber}
 use Rattle.machine.specs.declared.Work.{Work}
 use Rattle.machine.specs.declared.Phase.the-variants.{Fetch}
 use Rattle.machine.specs.declared.Reason.the-variants.{Ended}
-use Rattle.machine.specs.State.{modeNumber}
 use Rattle.machine.specs.Step.{World, taken, stopped, became, ended, begun, whole, step}
 use Rattle.machine.proofs.Puts.{length-put-at, put-off}
 use Rattle.machine.specs.Laws.{Along, here, more}

@@ -8,8 +8,8 @@ use mathlib.Core.List.{List}
 use lib.ListN.{length}
 use Rattle.words.specs.Promise.{Gives}
 use Rattle.bus.specs.declared.Window.{Window}
+use Rattle.regs.specs.declared.Mode.the-variants.{StreamToMemory}
 use Rattle.machine.specs.declared.Machine.{Machine}
-use Rattle.machine.specs.declared.Mode.the-variants.{StreamToMemory}
 use Rattle.machine.specs.declared.registers.WroteRegister.the-variants as wrote
 use Rattle.machine.specs.declared.Ran.{Ran}
 use Rattle.machine.specs.declared.RunAnswer.{RunAnswer}

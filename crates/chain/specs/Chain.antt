@@ -16,8 +16,8 @@ use Rattle.bus.specs.declared.Window.{Window}
 use Rattle.bus.specs.Window.{inWindow, placeOf}
 use Rattle.descriptor.specs.declared.Descriptor.{Descriptor}
 use Rattle.descriptor.specs.Layout.{writeFixed, owned, descriptorAt, lastFour}
+use Rattle.regs.specs.declared.Mode.the-variants.{StreamToMemory}
 use Rattle.machine.specs.declared.Machine.{Machine}
-use Rattle.machine.specs.declared.Mode.the-variants.{StreamToMemory}
 use Rattle.machine.specs.declared.Reason.the-variants.{Ended, Budget}
 use Rattle.machine.specs.declared.Ran.{Ran}
 use Rattle.machine.specs.State.{withPointer, fresh}

@@ -15,9 +15,10 @@ use Rattle.flow.specs.Beats.{beatBytes}
 use Rattle.flow.proofs.Streams.{length-beat-bytes}
 use Rattle.image.specs.Layout.{image}
 use Rattle.image.proofs.RoundTrip.{image-bytes}
+use Rattle.regs.specs.Control.{counted}
 use Rattle.machine.specs.Saved.{fieldsOf}
 use Rattle.machine.specs.Registers.{controlWritten}
-use Rattle.machine.specs.Step.{restStep, fetched, fetchStep, sourceOf, destinationOf, onward, copyStep, beatFor, sendStep, writtenControl, writtenBack, counted, completed, writeBackStep, step}
+use Rattle.machine.specs.Step.{restStep, fetched, fetchStep, sourceOf, destinationOf, onward, copyStep, beatFor, sendStep, writtenControl, writtenBack, completed, writeBackStep, step}
 use Rattle.machine.specs.Run.{run, even}
 use Rattle.sgdma.specs.Calls.{imageOf}
 use Rattle.chain.specs.Chain.{Given, machineFor, worldFor, Premises}

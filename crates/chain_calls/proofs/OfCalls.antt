@@ -1,6 +1,7 @@
 -- Demand 3 of the C calls. The image between two calls is that of a machine met in use, and loads back as it: so what the calls
 -- promise over images is what the methods promise over machines, of which the chain theorem is proved.
 -- Assumes nothing.
+use Rattle.regs.specs.declared.Mode.the-variants.{StreamToMemory}
 use Rattle.machine.proofs.Answers.{was-written, run-number}
 use Prim.Native.Nat.{ℕ, _+_, _≤_, _<_}
 use mathlib.Core.Path.{_≡_, refl, sym, ap, subst, _∙_}
@@ -12,7 +13,6 @@ use Rattle.words.specs.Orders.{rowBytes}
 use Rattle.words.specs.Slices.{AllBytes}
 use Rattle.image.proofs.RoundTrip.{length-image}
 use Rattle.machine.specs.declared.Machine.{Machine}
-use Rattle.machine.specs.declared.Mode.the-variants.{StreamToMemory}
 use Rattle.machine.specs.declared.Ran.{Ran}
 use Rattle.machine.specs.declared.RunAnswer.{RunAnswer}
 use Rattle.machine.specs.declared.RunAnswer.the-variants as many

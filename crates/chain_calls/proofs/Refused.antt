@@ -20,6 +20,7 @@ use Rattle.image.specs.Layout.{fields}
 use Rattle.image.specs.Rules.{keepsRules}
 use Rattle.image.specs.Promise.{sized}
 use Rattle.image.specs.Promise as image
+use Rattle.regs.specs.Offsets.{isRegister}
 use Rattle.machine.specs.declared.Machine.{Machine}
 use Rattle.machine.specs.declared.LoadedMachine.{LoadedMachine}
 use Rattle.machine.specs.declared.LoadedMachine.the-variants as loaded
@@ -28,7 +29,7 @@ use Rattle.machine.specs.declared.registers.Line.the-variants as line
 use Rattle.machine.specs.declared.RunAnswer.the-variants as many
 use Rattle.descriptor.specs.declared.ReadDescriptor.the-variants as descriptor
 use Rattle.machine.specs.Saved.{keeps, machineOf, loadedAs, loadOf}
-use Rattle.machine.specs.Registers.{isRegister, readOf, writeOf, lineOf, readNumber, wroteNumber, lineNumber, registerNumber}
+use Rattle.machine.specs.Registers.{readOf, writeOf, lineOf, readNumber, wroteNumber, lineNumber, registerNumber}
 use Rattle.machine.specs.Run.{Lent, serves, refused, even, lentOf, worldOf, runNumber, lentNumber}
 use Rattle.machine.proofs.Answers.{was-loaded, was-register, was-written, was-line, run-number}
 use Rattle.met.proofs.RoundTrip.{loaded-keeps}

@@ -11,7 +11,7 @@ use Rattle.bus.specs.Window.{keepsLimits, inWindow}
 use Rattle.image.specs.Layout.{fields}
 use Rattle.image.specs.Rules.{keepsRules}
 use Rattle.image.specs.Promise.{sized}
-use Rattle.machine.specs.Registers.{isRegister}
+use Rattle.regs.specs.Offsets.{isRegister}
 use Rattle.machine.specs.Run.{even}
 use Rattle.sgdma.specs.Calls.{isSize}
 

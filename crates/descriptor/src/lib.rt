@@ -17,6 +17,7 @@ use bus::Window;
 use words::Order;
 use words::get_u16;
 use words::get_u32;
+use words::has;
 use words::put_u32;
 use words::put_words;
 
@@ -36,10 +37,7 @@ impl DescControl {
     pub fn has(self, weight: u8) -> bool
         ensures { λ r. ⌜ Gives (hasBit weight (self .0)) r ⌝ }
     {
-        if weight == 0 {
-            return false;
-        }
-        self.0 / weight % 2 == 1
+        has(self.0 as u32, weight as u32)
     }
 }
 

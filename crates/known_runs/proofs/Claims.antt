@@ -6,8 +6,9 @@ use Rattle.image.specs.Rules.{rules, lowestBroken, keepsRules}
 use Rattle.bus.specs.Window.{keepsLimits, inWindow}
 use Rattle.words.specs.Slices.{putAt}
 use Rattle.descriptor.specs.Layout.{descriptorAt}
+use Rattle.regs.specs.Control.{counted}
 use Rattle.machine.specs.Registers.{controlWritten, writeOf}
-use Rattle.machine.specs.Step.{restStep, fetched, fetchStep, sourceOf, destinationOf, onward, copyStep, beatFor, sendStep, writtenControl, writtenBack, counted, completed, writeBackStep, step}
+use Rattle.machine.specs.Step.{restStep, fetched, fetchStep, sourceOf, destinationOf, onward, copyStep, beatFor, sendStep, writtenControl, writtenBack, completed, writeBackStep, step}
 use Rattle.machine.specs.Run.{run}
 use Rattle.known_runs.specs.Scene.{wrong}
 use Rattle.known_runs.specs.Known.{known}

@@ -1,22 +1,23 @@
 -- A scene: a core with what it is lent, what is done with it, and what is found at the end. A row of a table is one scene.
 -- Assumes nothing.
-use Prim.Native.Nat.{ℕ, suc, _+_, _-_, _/_, _%_}
+use Prim.Native.Nat.{ℕ, suc, _+_, _/_, _%_}
 use mathlib.Core.Bool.{Bool, true, false, cond, _&&_}
 use mathlib.Core.List.{List, [], _∷_, _++_}
 use lib.Dec.{eqb}
-use lib.ListN.{length, take, drop, getD, replicate}
+use lib.ListN.{length, replicate}
 use Rattle.words.specs.Slices.{part, put}
+use Rattle.regs.specs.Status.{statusNumber}
+use Rattle.regs.specs.Control.{ieGlobal}
+use Rattle.regs.specs.Modes.{modeOf}
 use Rattle.machine.specs.declared.Machine.{Machine}
-use Rattle.machine.specs.declared.Mode.{Mode}
-use Rattle.machine.specs.declared.Mode.the-variants.{MemoryToMemory, MemoryToStream, StreamToMemory}
 use Rattle.machine.specs.declared.Fault.{Fault}
 use Rattle.machine.specs.declared.Reason.the-variants.{Rest}
 use Rattle.machine.specs.declared.registers.WroteRegister.{WroteRegister}
 use Rattle.machine.specs.declared.registers.WroteRegister.the-variants.{Done, Refused}
-use Rattle.machine.specs.State.{fresh, phaseNumber, statusNumber, ieGlobal}
-use Rattle.machine.specs.Saved.{keeps, modeOf, faultIn}
+use Rattle.machine.specs.State.{fresh, phaseNumber}
+use Rattle.machine.specs.Saved.{keeps, faultIn}
 use Rattle.machine.specs.Registers.{writeOf}
-use Rattle.machine.specs.Step.{World, became}
+use Rattle.machine.specs.Step.{became}
 use Rattle.machine.specs.Run.{Report, run, reasonNumber}
 
 -- what is done: a register is written, or a run is made with a budget

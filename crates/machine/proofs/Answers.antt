@@ -12,6 +12,8 @@ use Rattle.image.specs.declared.ReadImage.the-variants as read
 use Rattle.image.specs.declared.WroteImage.{WroteImage}
 use Rattle.image.specs.declared.WroteImage.the-variants as wrote
 use Rattle.image.specs.Promise.{Wrote, readOf, wroteOf, imageOver, readNumber, wroteNumber}
+use Rattle.regs.specs.Control.{lineUp}
+use Rattle.regs.specs.Offsets.{isRegister}
 use Rattle.machine.specs.declared.Machine.{Machine}
 use Rattle.machine.specs.declared.LoadedMachine.{LoadedMachine}
 use Rattle.machine.specs.declared.registers.ReadRegister.{ReadRegister}
@@ -21,7 +23,7 @@ use Rattle.machine.specs.declared.registers.WroteRegister.the-variants a
 use Rattle.machine.specs.declared.registers.Line.{Line}
 use Rattle.machine.specs.declared.registers.Line.the-variants as line
 use Rattle.machine.specs.Saved.{fieldsOf, keeps, loadedAs, loadOf, savedAs, saveOf, loadNumber, saveNumber, WasLoaded, WasSaved}
-use Rattle.machine.specs.Registers.{isRegister, registerAt, writtenTo, writeOf, lineUp, lineOf, lineNumber, registerNumber, WasWritten, WasLine}
+use Rattle.machine.specs.Registers.{registerAt, writtenTo, writeOf, lineOf, lineNumber, registerNumber, WasWritten, WasLine}
 use Rattle.machine.specs.Registers as registers
 use Rattle.machine.specs.Step.{World, Answer, taken, stopped}
 use Rattle.machine.specs.Run.{Lent, serves, refused, steppedAs, runAnswer, stepNumber, runNumber, lentNumber}
@@ -84,7 +86,7 @@ module _ {m : Machine} {offset : ℕ} where
 
 pub was-line : {m : Machine} {r : Line} → r ≡ lineOf m → WasLine m r
 unfolding lineOf
-was-line {m} e = record { answer = e; number = ap lineNumber e ∙ number (keeps m) (lineUp m) }
+was-line {m} e = record { answer = e; number = ap lineNumber e ∙ number (keeps m) (lineUp (m .control) (m .pending)) }
   where
     number : (k up : Bool) → lineNumber (cond k (cond up line.Up line.Down) (line.Refused BadImage)) ≡ registerNumber k true
     number true true = refl

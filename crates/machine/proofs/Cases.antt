@@ -10,11 +10,12 @@ use Rattle.words.specs.Promise.{Gives}
 use Rattle.bus.specs.Window.{inWindow, placeOf}
 use Rattle.descriptor.specs.declared.Descriptor.{Descriptor}
 use Rattle.descriptor.specs.Layout.{owned, descriptorAt}
+use Rattle.regs.specs.Control.{run}
 use Rattle.machine.specs.declared.Machine.{Machine}
 use Rattle.machine.specs.declared.Work.{Work}
 use Rattle.machine.specs.declared.Phase.{Phase}
 use Rattle.machine.specs.declared.Phase.the-variants.{Move, WriteBack}
-use Rattle.machine.specs.State.{run, rested, withPhase, withPointer}
+use Rattle.machine.specs.State.{rested, withPhase, withPointer}
 use Rattle.machine.specs.Step.{World, wantsLength, begun, ended, fetched, fetchStep, whole, sourceOf, destinationOf, withByte, onward, copyStep}
 use Rattle.machine.specs.Turns.{world, inFault, Still}
 use Rattle.machine.proofs.Answers.{both}

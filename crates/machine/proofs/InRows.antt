@@ -15,9 +15,9 @@ use borrow.Author.Tests.{ne-eqb}
 use Rattle.bus.specs.declared.Window.{Window}
 use Rattle.bus.specs.Window.{inWindow, placeOf}
 use Rattle.descriptor.specs.Layout.{readFixed, writeFixed}
+use Rattle.regs.specs.declared.Mode.{Mode}
+use Rattle.regs.specs.declared.Mode.the-variants.{MemoryToMemory, MemoryToStream, StreamToMemory}
 use Rattle.machine.specs.declared.Machine.{Machine}
-use Rattle.machine.specs.declared.Mode.{Mode}
-use Rattle.machine.specs.declared.Mode.the-variants.{MemoryToMemory, MemoryToStream, StreamToMemory}
 use Rattle.machine.specs.declared.Work.{Work}
 use Rattle.machine.specs.declared.Phase.{Phase}
 use Rattle.machine.specs.declared.Phase.the-variants.{Move, WriteBack}

@@ -1,7 +1,6 @@
 pub mod Writes
 pub mod Answers
 pub mod Cases
-pub mod Offsets
 pub mod Places
 pub mod Streams
 pub mod Turning

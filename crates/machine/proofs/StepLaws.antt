@@ -12,15 +12,15 @@ use lib.ListN.{length, getD, drop, length-append, length-set, length-drop}
 use lib.Seq.{drop-drop, getD-set-other}
 use Rattle.bus.specs.Window.{inWindow, placeOf}
 use Rattle.descriptor.specs.Layout.{owned, descriptorAt}
+use Rattle.regs.specs.declared.Mode.{Mode}
+use Rattle.regs.specs.declared.Mode.the-variants.{MemoryToMemory, MemoryToStream, StreamToMemory}
+use Rattle.regs.specs.Control.{run}
 use Rattle.machine.specs.declared.Machine.{Machine}
-use Rattle.machine.specs.declared.Mode.{Mode}
-use Rattle.machine.specs.declared.Mode.the-variants.{MemoryToMemory, MemoryToStream, StreamToMemory}
 use Rattle.machine.specs.declared.Work.{Work}
 use Rattle.machine.specs.declared.Phase.{Phase}
 use Rattle.machine.specs.declared.Phase.the-variants.{Rest, Fetch, Move, WriteBack, Ended, Halted, Faulted}
 use Rattle.machine.specs.declared.Reason.{Reason}
 use Rattle.machine.specs.declared.Reason.the-variants as reason
-use Rattle.machine.specs.State.{run}
 use Rattle.machine.specs.Step.{World, Answer, taken, stopped, became, restStep, fetched, fetchStep, wantsLength, sourceOf, destinationOf, beatFor, copyStep, sendTo, sendStep, receiveFrom, moveStep, onward, completed, writtenBack, writeBackStep, stepIn, step}
 use Rattle.machine.specs.Run.{reasonNumber, takenSince}
 use Rattle.machine.specs.Laws.{Passed, sparesMove, sparesIn}

@@ -11,11 +11,12 @@ use Rattle.words.specs.declared.Order.the-variants.{MostFirst}
 use Rattle.words.specs.Orders.{bytesOf}
 use Rattle.words.specs.Slices.{putAt}
 use Rattle.bus.specs.Window.{inWindow, placeOf}
+use Rattle.regs.specs.Control.{run}
 use Rattle.machine.specs.declared.Machine.{Machine}
 use Rattle.machine.specs.declared.Progress.{Progress}
 use Rattle.machine.specs.declared.Work.{Work}
 use Rattle.machine.specs.declared.Phase.the-variants.{Fetch}
-use Rattle.machine.specs.State.{run, withPhase, withBusy}
+use Rattle.machine.specs.State.{withPhase, withBusy}
 use Rattle.flow.specs.Beats.{beatsIn, beatError, beatEop, beatData}
 use Rattle.machine.specs.Step.{World, Answer, taken, sourceOf, destinationOf, onward, withByte, beatFor, restStep, sendStep, receiveFrom}
 use Rattle.machine.specs.Turns.{world, worldAt, progress, inFault, Still, Went}

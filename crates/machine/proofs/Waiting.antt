@@ -11,16 +11,16 @@ use borrow.Author.Tests.{lt-ltb, ltb-true}
 use Rattle.bus.specs.Window.{inWindow}
 use Rattle.descriptor.specs.declared.Descriptor.{Descriptor}
 use Rattle.descriptor.specs.Layout.{owned}
+use Rattle.regs.specs.declared.Mode.{Mode}
+use Rattle.regs.specs.declared.Mode.the-variants.{MemoryToMemory, MemoryToStream, StreamToMemory}
+use Rattle.regs.specs.Control.{run}
 use Rattle.machine.specs.declared.Reason.{Reason}
 use Rattle.machine.specs.declared.Reason.the-variants as reason
 use Rattle.machine.specs.declared.Machine.{Machine}
-use Rattle.machine.specs.declared.Mode.{Mode}
-use Rattle.machine.specs.declared.Mode.the-variants.{MemoryToMemory, MemoryToStream, StreamToMemory}
 use Rattle.machine.specs.declared.Phase.{Phase}
 use Rattle.machine.specs.declared.Work.{Work}
 use Rattle.machine.specs.declared.steps.Wait.{Wait}
 use Rattle.machine.specs.declared.steps.Wait.the-variants.{Go, Stop}
-use Rattle.machine.specs.State.{run}
 use Rattle.machine.specs.Step.{World, Answer, taken, stopped, step, stepIn, restStep, fetchStep, fetched, wantsLength, copyStep, sendStep, sendTo, receiveFrom, moveStep, sourceOf, destinationOf}
 use Rattle.flow.specs.Beats.{beatsIn}
 use Rattle.machine.specs.Turns.{worldAt, waitOf, some, Waits, Goes}

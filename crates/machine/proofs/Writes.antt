@@ -1,14 +1,19 @@
--- A control write, by its cases.
+-- A register write, and a control write, by their cases.
 -- Assumes nothing.
 use Prim.Native.Nat.{ℕ, _%_, _^_}
-use mathlib.Core.Path.{_≡_, refl, _∙_}
+use mathlib.Core.Path.{_≡_, refl, ap, _∙_}
 use mathlib.Core.Bool.{Bool, true, false, not, cond, _&&_}
 use Rattle.words.specs.Bits.{bit}
+use Rattle.bus.specs.declared.Refusal.the-variants.{NoRegister, BadImage}
+use Rattle.regs.specs.Offsets.{isRegister}
+use Rattle.regs.specs.Control.{resetBy, countFrom}
 use Rattle.machine.specs.declared.Machine.{Machine}
+use Rattle.machine.specs.declared.registers.WroteRegister.the-variants as wrote
+use Rattle.machine.specs.Saved.{keeps}
 use Rattle.machine.specs.declared.Phase.{Phase}
 use Rattle.machine.specs.declared.Phase.the-variants.{Rest, Fetch, Move, WriteBack, Ended, Halted, Faulted}
-use Rattle.machine.specs.State.{run, swReset, withControl, rested, fresh}
-use Rattle.machine.specs.Registers.{stored, released, controlWritten}
+use Rattle.machine.specs.State.{withControl, rested, fresh}
+use Rattle.machine.specs.Registers.{stored, released, controlWritten, writtenTo, writeOf}
 use Rattle.machine.specs.Turns.{stands}
 
 -- RUN 0 leads to Rest from the phases that stand, and leaves the others
@@ -22,11 +27,11 @@ released-if Halted m = refl
 released-if (Faulted f) m = refl
 
 module _ (v : ℕ) (m : Machine) where
-  pub write-resets : (bit 16 v && swReset (m .control)) ≡ true → controlWritten v m ≡ fresh (m .mode) (m .window)
+  pub write-resets : resetBy v (m .control) ≡ true → controlWritten v m ≡ fresh (m .mode) (m .window)
   unfolding controlWritten
   write-resets e = rw e
 
-  pub stored-by : {clears : Bool} {count : ℕ} → clears ≡ bit 31 v → count ≡ cond (not (run (m .control)) && bit 5 v) 0 (m .count)
+  pub stored-by : {clears : Bool} {count : ℕ} → clears ≡ bit 31 v → count ≡ countFrom v (m .control) (m .count)
       → withControl (v % 2 ^ 18) (m .pending && not clears) count m ≡ stored v m
   stored-by p n = rw (p, n)
 
@@ -38,7 +43,7 @@ module _ (v : ℕ) (m : Machine) where
   ends false true p e = released-if p (stored v m) ∙ rw e
   ends false false p e = released-if p (stored v m) ∙ rw e
 
-  module _ (e : (bit 16 v && swReset (m .control)) ≡ false) where
+  module _ (e : resetBy v (m .control) ≡ false) where
     pub write-runs : bit 5 v ≡ true → controlWritten v m ≡ stored v m
     unfolding controlWritten
     write-runs f = rw (e, f)
@@ -52,3 +57,18 @@ module _ (v : ℕ) (m : Machine) where
 
     pub write-stays : (stands (m .phase) && not (bit 5 v)) ≡ false → controlWritten v m ≡ stored v m
     write-stays h = written ∙ rw h
+
+-- ---- a register write, by the tests that led there
+
+module _ (m : Machine) (offset v : ℕ) where
+  pub write-broken : keeps m ≡ false → wrote.Refused BadImage ≡ writeOf m offset v
+  unfolding writeOf
+  write-broken k = rw k
+
+  pub write-none : keeps m ≡ true → isRegister offset ≡ false → wrote.Refused NoRegister ≡ writeOf m offset v
+  unfolding writeOf
+  write-none k r = rw (k, r)
+
+  pub write-done : {n : Machine} → keeps m ≡ true → isRegister offset ≡ true → n ≡ writtenTo m offset v → wrote.Done n ≡ writeOf m offset v
+  unfolding writeOf
+  write-done k r e = rw (k, r) (ap wrote.Done e)

@@ -2,13 +2,14 @@
 -- Assumes nothing.
 use Prim.Native.Nat.{ℕ, _%_, _^_}
 use mathlib.Core.Path.{_≡_, sym, _∙_}
-use mathlib.Core.Bool.{Bool, true, false, not, cond, _&&_}
-use lib.Dec.{eqb}
+use mathlib.Core.Bool.{Bool, true, not, cond, _&&_}
 use Rattle.words.specs.Bits.{bit}
 use Rattle.bus.specs.Refusal.{refusalNumber}
 use Rattle.bus.specs.declared.Refusal.the-variants.{NoRegister, BadImage}
+use Rattle.regs.specs.Status.{statusNumber, clearedBy}
+use Rattle.regs.specs.Control.{resetBy, countFrom, lineUp}
+use Rattle.regs.specs.Offsets.{chosen, isRegister}
 use Rattle.machine.specs.declared.Machine.{Machine}
-use Rattle.machine.specs.declared.Status.{Status}
 use Rattle.machine.specs.declared.Phase.{Phase}
 use Rattle.machine.specs.declared.Phase.the-variants.{Rest, Fetch, Move, WriteBack, Ended, Halted, Faulted}
 use Rattle.machine.specs.declared.registers.ReadRegister.{ReadRegister}
@@ -17,29 +18,10 @@ use Rattle.machine.specs.declared.registers.WroteRegister.{WroteRegister
 use Rattle.machine.specs.declared.registers.WroteRegister.the-variants as wrote
 use Rattle.machine.specs.declared.registers.Line.{Line}
 use Rattle.machine.specs.declared.registers.Line.the-variants as line
-use Rattle.machine.specs.State.{statusNumber, ieGlobal, run, swReset, withStatus, withPointer, withControl, rested, fresh}
+use Rattle.machine.specs.State.{withStatus, withPointer, withControl, rested, fresh}
 use Rattle.machine.specs.Saved.{keeps}
 
--- offsets 0 status, 4 control, 8 next_descriptor_pointer; any other is none
-abbrev pub chosen {ℓ} : {A : Type ℓ} → (offset : ℕ) (status control pointer none : A) → A
-chosen offset status control pointer none =
-    cond (eqb offset 0) status (cond (eqb offset 4) control (cond (eqb offset 8) pointer none))
-
-abbrev pub isRegister : ℕ → Bool
-isRegister offset = chosen offset true true true false
-
 -- ---- writing
-
--- writing 1 clears bits 0 to 3; other written bits do nothing
-abbrev pub clearedBy : ℕ → Status → Status
-clearedBy v s =
-    record {
-      error = s .error && not (bit 0 v);
-      eop = s .eop && not (bit 1 v);
-      descriptor = s .descriptor && not (bit 2 v);
-      chain = s .chain && not (bit 3 v);
-      busy = s .busy;
-    }
 
 abbrev pub statusWritten : ℕ → Machine → Machine
 statusWritten v m = withStatus (clearedBy v (m .status)) m
@@ -47,7 +29,7 @@ statusWritten v m = withStatus (clearedBy v (m .status)) m
 -- bits 0..17 are stored; bit 31 clears the pending interrupt; RUN going 0 to 1 sets the descriptor count to 0
 abbrev pub stored : ℕ → Machine → Machine
 stored v m =
-    withControl (v % 2 ^ 18) (m .pending && not (bit 31 v)) (cond (not (run (m .control)) && bit 5 v) 0 (m .count)) m
+    withControl (v % 2 ^ 18) (m .pending && not (bit 31 v)) (countFrom v (m .control) (m .count)) m
 
 -- RUN 0: Ended or Halted goes to Rest with BUSY 0. Faulted stays: only reset leaves it
 abbrev pub released : Phase → Machine → Machine
@@ -63,7 +45,7 @@ released (Faulted f) m = m
 -- is stored, and RUN 0
 unfoldable pub controlWritten : ℕ → Machine → Machine
 controlWritten v m =
-    cond (bit 16 v && swReset (m .control)) (fresh (m .mode) (m .window))
+    cond (resetBy v (m .control)) (fresh (m .mode) (m .window))
     (cond (bit 5 v) (stored v m) (released (m .phase) (stored v m)))
 
 -- at an offset that is none nothing is written
@@ -85,13 +67,10 @@ registerAt m offset =
 unfoldable pub readOf : Machine → (offset : ℕ) → ReadRegister
 readOf m offset = cond (keeps m) (registerAt m offset) (read.Refused BadImage)
 
--- ---- the line is up exactly when an interrupt is pending and IE_GLOBAL is 1
-
-abbrev pub lineUp : Machine → Bool
-lineUp m = m .pending && ieGlobal (m .control)
+-- ---- the line
 
 unfoldable pub lineOf : Machine → Line
-lineOf m = cond (keeps m) (cond (lineUp m) line.Up line.Down) (line.Refused BadImage)
+lineOf m = cond (keeps m) (cond (lineUp (m .control) (m .pending)) line.Up line.Down) (line.Refused BadImage)
 
 -- ---- the paper's number of each answer
 

@@ -2,12 +2,9 @@
 -- Assumes nothing.
 use Prim.Native.Nat.{ℕ}
 use mathlib.Core.Path.{_≡_, sym, _∙_}
-use mathlib.Core.Bool.{Bool, false, cond}
+use mathlib.Core.Bool.{Bool, false}
 use mathlib.Core.List.{List, [], _∷_}
-use lib.Dec.{leb}
 use lib.ListN.{getD}
-use Rattle.words.specs.Bits.{bit}
-use Rattle.bus.specs.declared.Refusal.the-variants.{BadMode}
 use Rattle.bus.specs.Refusal.{refusalNumber}
 use Rattle.image.specs.declared.Fields.{Fields}
 use Rattle.image.specs.declared.ReadImage.{ReadImage}
@@ -16,12 +13,11 @@ use Rattle.image.specs.declared.WroteImage.{WroteImage}
 use Rattle.image.specs.declared.WroteImage.the-variants as wrote
 use Rattle.image.specs.Rules.{keepsRules}
 use Rattle.image.specs.Promise.{readOf, wroteOf, imageOver, readNumber, wroteNumber}
+use Rattle.regs.specs.declared.CheckedMode.the-variants as mode
+use Rattle.regs.specs.Modes.{modeNumber, modeOf}
+use Rattle.regs.specs.Status.{statusNumber, statusOf}
+use Rattle.regs.specs.Control.{swReset}
 use Rattle.machine.specs.declared.Machine.{Machine}
-use Rattle.machine.specs.declared.Mode.{Mode}
-use Rattle.machine.specs.declared.Mode.the-variants.{MemoryToMemory, MemoryToStream, StreamToMemory}
-use Rattle.machine.specs.declared.CheckedMode.{CheckedMode}
-use Rattle.machine.specs.declared.CheckedMode.the-variants as mode
-use Rattle.machine.specs.declared.Status.{Status}
 use Rattle.machine.specs.declared.Work.{Work}
 use Rattle.machine.specs.declared.Fault.{Fault}
 use Rattle.machine.specs.declared.Phase.{Phase}
@@ -30,7 +26,7 @@ use Rattle.machine.specs.declared.LoadedMachine.{LoadedMachine}
 use Rattle.machine.specs.declared.LoadedMachine.the-variants.{Good, Refused}
 use Rattle.machine.specs.declared.SavedMachine.{SavedMachine}
 use Rattle.machine.specs.declared.SavedMachine.the-variants as saved
-use Rattle.machine.specs.State.{modeNumber, phaseNumber, statusNumber, swReset}
+use Rattle.machine.specs.State.{phaseNumber}
 
 -- ---- a machine's fields
 
@@ -102,17 +98,6 @@ abbrev pub keeps : Machine → Bool
 keeps m = keepsRules (fieldsOf m)
 
 -- ---- the machine that fields are
-
--- a number above 2 is no mode: the rules, and `checkedMode`, leave none
-abbrev pub modeOf : ℕ → Mode
-modeOf n = getD (MemoryToMemory ∷ MemoryToStream ∷ []) n StreamToMemory
-
--- 2 BadMode: mode above 2
-unfoldable pub checkedMode : ℕ → CheckedMode
-checkedMode n = cond (leb n 2) (mode.Good (modeOf n)) (mode.Refused BadMode)
-
-abbrev pub statusOf : ℕ → Status
-statusOf n = record { error = bit 0 n; eop = bit 1 n; descriptor = bit 2 n; chain = bit 3 n; busy = bit 4 n }
 
 abbrev pub workOf : Fields → Work
 workOf f =

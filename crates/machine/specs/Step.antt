@@ -4,25 +4,26 @@ use Prim.Native.Nat.{ℕ, zero, suc, _+_, _%_, _^_}
 use mathlib.Core.Bool.{Bool, true, false, not, cond, _&&_, _||_}
 use mathlib.Core.List.{List, [], _∷_, _++_}
 use lib.Bits.{bitOr}
-use lib.Dec.{eqb, leb}
+use lib.Dec.{eqb}
 use lib.ListN.{getD, set}
 use Rattle.words.specs.Slices.{putAt}
 use Rattle.bus.specs.Window.{inWindow, placeOf}
 use Rattle.descriptor.specs.declared.Descriptor.{Descriptor}
 use Rattle.descriptor.specs.Layout.{generateEop, readFixed, writeFixed, owned, descriptorAt, lastFour}
 use Rattle.image.specs.Rules.{asked}
+use Rattle.regs.specs.declared.Mode.{Mode}
+use Rattle.regs.specs.declared.Mode.the-variants.{MemoryToMemory, MemoryToStream, StreamToMemory}
+use Rattle.regs.specs.declared.Count.{Count}
+use Rattle.regs.specs.Modes.{modeNumber}
+use Rattle.regs.specs.Status.{chainEnded, statusBack}
+use Rattle.regs.specs.Control.{ieChain, run, stopDmaEr, maxDescProcessed, park, counted, pends}
 use Rattle.machine.specs.declared.Machine.{Machine}
-use Rattle.machine.specs.declared.Mode.{Mode}
-use Rattle.machine.specs.declared.Mode.the-variants.{MemoryToMemory, MemoryToStream, StreamToMemory}
-use Rattle.machine.specs.declared.Status.{Status}
-use Rattle.machine.specs.declared.Control.{Control}
 use Rattle.machine.specs.declared.Work.{Work}
 use Rattle.machine.specs.declared.Phase.{Phase}
 use Rattle.machine.specs.declared.Phase.the-variants.{Rest, Fetch, Move, WriteBack, Ended, Halted, Faulted}
 use Rattle.machine.specs.declared.Reason.{Reason}
 use Rattle.machine.specs.declared.Reason.the-variants as reason
-use Rattle.machine.specs.declared.Count.{Count}
-use Rattle.machine.specs.State.{modeNumber, ieError, ieEop, ieDescriptor, ieChain, run, stopDmaEr, ieMax, maxDescProcessed, park, withStatus, withPointer, withPhase, withBusy, pend, rested}
+use Rattle.machine.specs.State.{withStatus, withPointer, withPhase, withBusy, pend, rested}
 use Rattle.flow.specs.Beats.{beatError, beatEop, beatData, outputBeat}
 
 -- the world of a step: the machine; the window's bytes; the beats not yet taken; the beats made, and the room for more
@@ -60,15 +61,7 @@ abbrev pub ended : Machine → Machine
 ended m =
     withPhase Ended
     (pend (ieChain (m .control))
-    (withStatus
-    (record {
-      error = m .status .error;
-      eop = m .status .eop;
-      descriptor = m .status .descriptor;
-      chain = true;
-      busy = m .status .busy;
-    })
-    m))
+    (withStatus (chainEnded (m .status)) m))
 
 -- modes 0 and 1 take no length of 0
 abbrev pub wantsLength : Mode → Bool
@@ -216,24 +209,9 @@ unfoldable pub writtenBack : World → Work → List ℕ
 writtenBack w k =
     putAt (w .memory) (placeOf (w .machine .window) (k .at) + 28) (lastFour (k .moved) (k .errors) (writtenControl (w .machine) k))
 
--- if MAX is 0 it becomes 0; else add 1, and on reaching MAX or more it becomes 0 and is full, for which IE_MAX pends
-unfoldable pub counted : (count max : ℕ) → Count
-counted count max =
-    cond (eqb max 0) (record { count = 0; full = false })
-    (cond (leb max (count + 1)) (record { count = 0; full = true }) (record { count = count + 1; full = false }))
-
 -- RUN 0: Rest, BUSY 0; errors with STOP_DMA_ER: Halted, BUSY 0; else Fetch
 abbrev pub afterBack : (run halts : Bool) → Phase
 afterBack run halts = cond run (cond halts Halted Fetch) Rest
-
--- set DESCRIPTOR_COMPLETED; EOP_ENCOUNTERED if the last beat had EOP; ERROR if errors are not 0
-abbrev pub statusBack : Status → (eop failed busy : Bool) → Status
-statusBack s eop failed busy =
-    record { error = s .error || failed; eop = s .eop || eop; descriptor = true; chain = s .chain; busy = busy }
-
--- each event pends only under its own enable
-abbrev pub pends : Control → (eop failed full : Bool) → Bool
-pends c eop failed full = ieDescriptor c || (ieEop c && eop) || (ieError c && failed) || (ieMax c && full)
 
 -- the registers after a descriptor
 unfoldable pub completed : Machine → Work → Machine

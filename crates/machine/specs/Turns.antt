@@ -10,8 +10,8 @@ use lib.ListN.{length, drop}
 use Rattle.words.specs.Slices.{put}
 use Rattle.bus.specs.declared.Window.{Window}
 use Rattle.bus.specs.Window.{inWindow, placeOf}
+use Rattle.regs.specs.declared.Mode.{Mode}
 use Rattle.machine.specs.declared.Machine.{Machine}
-use Rattle.machine.specs.declared.Mode.{Mode}
 use Rattle.machine.specs.declared.Work.{Work}
 use Rattle.machine.specs.declared.Progress.{Progress}
 use Rattle.machine.specs.declared.Phase.{Phase}

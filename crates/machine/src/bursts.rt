@@ -5,7 +5,7 @@ ghost use mathlib.Core.List.{List};
 ghost use Prim.Native.Nat.{ℕ, _+_, _/_, _≤_, _<_};
 ghost use lib.ListN.{length};
 ghost use Rattle.descriptor.specs.Layout.{readFixed, writeFixed};
-ghost use Rattle.machine.specs.declared.Mode.the-variants.{MemoryToMemory, MemoryToStream, StreamToMemory};
+ghost use Rattle.regs.specs.declared.Mode.the-variants.{MemoryToMemory, MemoryToStream, StreamToMemory};
 ghost use Rattle.machine.specs.Step.{sourceOf, destinationOf};
 ghost use Rattle.machine.specs.Turns.{Reaches, Bursts, Unmarked};
 use crate::Work;

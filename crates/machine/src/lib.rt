@@ -6,90 +6,13 @@ pub mod runs;
 pub mod saved;
 pub mod steps;
 
-ghost use mathlib.Core.Path.{_≡_};
-ghost use Prim.Native.Nat.{_<_};
-ghost use Rattle.words.specs.Bits.{hasBit};
 use bus::Refusal;
 use bus::Window;
 use descriptor::DescControl;
-
-// What moves where; numbered 0, 1, 2.
-pub enum Mode {
-    MemoryToMemory,
-    MemoryToStream,
-    StreamToMemory,
-}
-
-// A mode, or BadMode.
-pub enum CheckedMode {
-    Good(Mode),
-    Refused(Refusal),
-}
-
-// The status register.
-pub struct Status {
-    pub error: bool,
-    pub eop: bool,
-    pub descriptor: bool,
-    pub chain: bool,
-    pub busy: bool,
-}
-
-impl Status {
-    pub const OFFSET: u32 = 0;
-
-    pub const ERROR: u32 = 1;
-
-    pub const EOP_ENCOUNTERED: u32 = 2;
-
-    pub const DESCRIPTOR_COMPLETED: u32 = 4;
-
-    pub const CHAIN_COMPLETED: u32 = 8;
-
-    pub const BUSY: u32 = 16;
-}
-
-// The control register. Bits without effect are kept as given, so it is kept as its number.
-pub struct Control(pub u32);
-
-impl Control {
-    pub const OFFSET: u32 = 4;
-
-    pub const IE_ERROR: u32 = 1;
-
-    pub const IE_EOP: u32 = 2;
-
-    pub const IE_DESCRIPTOR: u32 = 4;
-
-    pub const IE_CHAIN: u32 = 8;
-
-    pub const IE_GLOBAL: u32 = 0x10;
-
-    pub const RUN: u32 = 0x20;
-
-    pub const STOP_DMA_ER: u32 = 0x40;
-
-    pub const IE_MAX: u32 = 0x80;
-
-    // MAX_DESC_PROCESSED is the eight bits from this one on.
-    pub const MAX_DESC_PROCESSED: u32 = 0x100;
-
-    pub const SW_RESET: u32 = 0x1_0000;
-
-    pub const PARK: u32 = 0x2_0000;
-
-    // The bits below this one are stored.
-    pub const NOT_STORED: u32 = 0x4_0000;
-
-    pub const CLEAR_INTERRUPT: u32 = 0x8000_0000;
-}
-
-// The register next_descriptor_pointer.
-pub struct Pointer(pub u32);
-
-impl Pointer {
-    pub const OFFSET: u32 = 8;
-}
+use regs::Control;
+use regs::Mode;
+use regs::Pointer;
+use regs::Status;
 
 // The descriptor in hand: its fields as fetched, and what was done of it.
 pub struct Work {
@@ -142,12 +65,6 @@ pub enum Reason {
     Budget,
 }
 
-// The count of descriptors after one more, and whether it reached MAX_DESC_PROCESSED.
-pub struct Count {
-    pub count: u8,
-    pub full: bool,
-}
-
 // The machine after a step, with the beats that the step took and made.
 pub struct Progress {
     pub machine: Machine,
@@ -187,12 +104,4 @@ pub enum LoadedMachine {
 pub enum SavedMachine {
     Done,
     Refused(Refusal),
-}
-
-// Whether the bit of this weight is set.
-pub(crate) fn has(n: u32, weight: u32) -> bool
-    requires { ⌜ 0 < weight ⌝ }
-    ensures { λ r. ⌜ r ≡ hasBit weight n ⌝ }
-{
-    n / weight % 2 == 1
 }

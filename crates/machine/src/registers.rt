@@ -1,22 +1,19 @@
 // The registers: offsets 0 status, 4 control, 8 next_descriptor_pointer; and the interrupt line.
 ghost use mathlib.Core.Path.{_≡_};
-ghost use mathlib.Core.Bool.{cond, not, _&&_};
-ghost use Prim.Native.Nat.{_≤_, _<_};
-ghost use Rattle.words.specs.Bits.{bit};
 ghost use Rattle.words.specs.Promise.{Gives};
-ghost use Rattle.image.specs.Layout.{flag as flagOf};
-ghost use Rattle.machine.specs.State.{run, swReset, fresh as freshOf, statusNumber, withPhase, withBusy, rested as restedOf};
+ghost use Rattle.machine.specs.State.{fresh as freshOf, withPhase, withBusy, rested as restedOf};
 ghost use Rattle.machine.specs.Turns.{stands};
-ghost use Rattle.machine.specs.Registers.{clearedBy, isRegister, registerAt, writtenTo, lineUp, WasRead, WasWritten, WasLine};
-use crate::Control;
+ghost use Rattle.machine.specs.Registers.{registerAt, writtenTo, WasRead, WasWritten, WasLine};
 use crate::Machine;
-use crate::Mode;
 use crate::Phase;
-use crate::Pointer;
-use crate::Status;
-use crate::has;
 use bus::Refusal;
 use bus::Window;
+use regs::Control;
+use regs::Mode;
+use regs::Pointer;
+use regs::Status;
+use regs::is_register;
+use words::has;
 
 // What a register read answers.
 pub enum ReadRegister {
@@ -35,56 +32,6 @@ pub enum Line {
     Up,
     Down,
     Refused(Refusal),
-}
-
-// A flag as its bit.
-fn flag(b: bool) -> u32
-    ensures { λ r. ⌜ (r ≡ flagOf b) × (r ≤ 1) ⌝ }
-{
-    if b { 1 } else { 0 }
-}
-
-impl Status {
-    // The register's number.
-    pub(crate) fn number(self) -> u32
-        ensures { λ r. ⌜ (r ≡ statusNumber self) × (r < 32) ⌝ }
-    {
-        flag(self.error) * Status::ERROR
-            + flag(self.eop) * Status::EOP_ENCOUNTERED
-            + flag(self.descriptor) * Status::DESCRIPTOR_COMPLETED
-            + flag(self.chain) * Status::CHAIN_COMPLETED
-            + flag(self.busy) * Status::BUSY
-    }
-
-    // Writing 1 clears bits 0 to 3.
-    fn cleared(self, v: u32) -> Status
-        ensures { λ r. ⌜ r ≡ clearedBy v self ⌝ }
-    {
-        Status {
-            error: self.error & !has(v, Status::ERROR),
-            eop: self.eop & !has(v, Status::EOP_ENCOUNTERED),
-            descriptor: self.descriptor & !has(v, Status::DESCRIPTOR_COMPLETED),
-            chain: self.chain & !has(v, Status::CHAIN_COMPLETED),
-            busy: self.busy,
-        }
-    }
-}
-
-impl Control {
-    // Whether a write resets: SW_RESET is written and already reads 1.
-    fn resets(self, v: u32) -> bool
-        ensures { λ r. ⌜ r ≡ (bit 16 v && swReset self) ⌝ }
-    {
-        has(v, Control::SW_RESET) & has(self.0, Control::SW_RESET)
-    }
-
-    // The count of descriptors after a write: 0 where RUN goes 0 to 1.
-    fn count_from(self, v: u32, count: u8) -> u8
-        ensures { λ r. ⌜ r ≡ cond (not (run self) && bit 5 v) 0 count ⌝ }
-    {
-        let starts = !has(self.0, Control::RUN) & has(v, Control::RUN);
-        if starts { 0 } else { count }
-    }
 }
 
 impl Phase {
@@ -148,17 +95,7 @@ impl Machine {
     }
 }
 
-// Whether there is a register at the offset.
-pub fn is_register(offset: u32) -> bool
-    ensures { λ r. ⌜ Gives (isRegister offset) r ⌝ }
-{
-    let known = (offset == Status::OFFSET)
-        | (offset == Control::OFFSET)
-        | (offset == Pointer::OFFSET);
-    known
-}
-
-// The three registers and the line of a machine that is known to keep the rules, as one that was loaded is.
+// The three registers of a machine that is known to keep the rules, as one that was loaded is.
 impl Machine {
     // Reading changes nothing.
     pub fn register(self, offset: u32) -> ReadRegister
@@ -213,14 +150,6 @@ impl Machine {
         }
         m
     }
-
-    // Whether the interrupt line is up: exactly when an interrupt is pending and IE_GLOBAL is 1.
-    pub fn up(self) -> bool
-        ensures { λ r. ⌜ Gives (lineUp self) r ⌝ }
-    {
-        let up = self.pending & has(self.control.0, Control::IE_GLOBAL);
-        up
-    }
 }
 
 // The same of any machine: 8 for one that breaks a rule, before 1.
@@ -253,6 +182,11 @@ impl Machine {
         if !self.keeps() {
             return Line::Refused(Refusal::BadImage);
         }
-        if self.up() { Line::Up } else { Line::Down }
+        let control = self.control;
+        if control.raises(self.pending) {
+            Line::Up
+        } else {
+            Line::Down
+        }
     }
 }

@@ -8,7 +8,6 @@ ghost use Rattle.machine.specs.Step.{whole as wholeOf, onward as onwardO
 ghost use Rattle.machine.specs.Run.{lentIf, Runs, HasRun, Resumed};
 ghost use Rattle.machine.specs.Turns.{Goes, Within, Ready, Advances, movedBy};
 use crate::Machine;
-use crate::Mode;
 use crate::Phase;
 use crate::Ran;
 use crate::Reason;
@@ -18,6 +17,7 @@ use crate::bursts::least;
 use crate::steps::Lent;
 use crate::steps::Wait;
 use crate::steps::asked;
+use regs::Mode;
 
 // Where some steps led, and how many they were.
 struct Advanced {

@@ -1,27 +1,25 @@
 // The machine as the fields of its image, and back; load and save.
 ghost use mathlib.Core.Path.{_≡_};
-ghost use Rattle.words.specs.Promise.{Gives, Leaves};
+ghost use Rattle.words.specs.Promise.{Leaves};
 ghost use Rattle.image.specs.Promise.{imagePut};
-ghost use Rattle.machine.specs.State.{modeNumber, phaseNumber, statusNumber};
-ghost use Rattle.machine.specs.Saved.{checkedMode, inHand, faultIn, fieldsOf, keeps as keepsOf, modeOf, statusOf, workOf, phaseOf, machineOf, WasLoaded, WasSaved};
-use crate::CheckedMode;
-use crate::Control;
+ghost use Rattle.machine.specs.State.{phaseNumber};
+ghost use Rattle.machine.specs.Saved.{inHand, faultIn, fieldsOf, keeps as keepsOf, workOf, phaseOf, machineOf, WasLoaded, WasSaved};
 use crate::Fault;
 use crate::LoadedMachine;
 use crate::Machine;
-use crate::Mode;
 use crate::Phase;
-use crate::Pointer;
 use crate::SavedMachine;
-use crate::Status;
 use crate::Work;
-use crate::has;
-use bus::Refusal;
 use bus::Window;
 use descriptor::DescControl;
 use image::Fields;
 use image::ReadImage;
 use image::WroteImage;
+use regs::Control;
+use regs::Mode;
+use regs::Pointer;
+use regs::Status;
+use words::has;
 
 const NONE: Work = Work {
     at: 0,
@@ -38,16 +36,6 @@ const NO_FAULT: Fault = Fault {
     code: 0,
     address: 0,
 };
-
-fn mode_number(mode: Mode) -> u8
-    ensures { λ r. ⌜ r ≡ modeNumber mode ⌝ }
-{
-    match mode {
-        Mode::MemoryToMemory => 0,
-        Mode::MemoryToStream => 1,
-        Mode::StreamToMemory => 2,
-    }
-}
 
 fn phase_number(phase: Phase) -> u8
     ensures { λ r. ⌜ r ≡ phaseNumber phase ⌝ }
@@ -93,41 +81,6 @@ fn fault_in(phase: Phase) -> Fault
     }
 }
 
-fn mode_of(n: u32) -> Mode
-    ensures { λ r. ⌜ r ≡ modeOf n ⌝ }
-{
-    match n {
-        0 => Mode::MemoryToMemory,
-        1 => Mode::MemoryToStream,
-        _ => Mode::StreamToMemory,
-    }
-}
-
-impl Mode {
-    // The mode of a number, which is at most 2.
-    pub fn checked(n: u32) -> CheckedMode
-        ensures { λ r. ⌜ Gives (checkedMode n) r ⌝ }
-    {
-        if 2 < n {
-            return CheckedMode::Refused(Refusal::BadMode);
-        }
-        CheckedMode::Good(mode_of(n))
-    }
-}
-
-fn status_of(n: u8) -> Status
-    ensures { λ r. ⌜ r ≡ statusOf n ⌝ }
-{
-    let bits = n as u32;
-    Status {
-        error: has(bits, Status::ERROR),
-        eop: has(bits, Status::EOP_ENCOUNTERED),
-        descriptor: has(bits, Status::DESCRIPTOR_COMPLETED),
-        chain: has(bits, Status::CHAIN_COMPLETED),
-        busy: has(bits, Status::BUSY),
-    }
-}
-
 fn work_of(f: Fields) -> Work
     ensures { λ r. ⌜ r ≡ workOf f ⌝ }
 {
@@ -165,12 +118,12 @@ fn machine_of(f: Fields) -> Machine
     ensures { λ r. ⌜ r ≡ machineOf f ⌝ }
 {
     Machine {
-        mode: mode_of(f.mode as u32),
+        mode: Mode::of(f.mode as u32),
         window: Window {
             base: f.base,
             length: f.window,
         },
-        status: status_of(f.status),
+        status: Status::of(f.status as u32),
         control: Control(f.control),
         pointer: Pointer(f.pointer),
         phase: phase_of(f),
@@ -192,7 +145,7 @@ impl Machine {
         let control = self.control.0;
         Fields {
             edition: 1,
-            mode: mode_number(mode),
+            mode: mode.number(),
             phase: phase_number(phase),
             armed: has(control, Control::SW_RESET),
             pending: self.pending,

@@ -9,33 +9,33 @@ ghost use Rattle.words.specs.Orders.{bytesOf};
 ghost use Rattle.words.specs.Slices.{putAt};
 ghost use Rattle.bus.specs.Window.{inWindow};
 ghost use Rattle.image.specs.Rules.{asked as askedOf};
-ghost use Rattle.machine.specs.State.{modeNumber, withPhase, withPointer};
+ghost use Rattle.regs.specs.Modes.{modeNumber};
+ghost use Rattle.machine.specs.State.{withPhase, withPointer};
 ghost use Rattle.flow.specs.Beats.{outputBeat};
-ghost use Rattle.machine.specs.Step.{World, wantsLength, begun as begunOf, ended as endedOf, byteAddress, sourceOf, destinationOf, withByte, onward as onwardOf, beatFor, writtenControl, writtenBack, counted as countedOf, pends as pendsOf, afterBack, statusBack, completed as completedOf};
+ghost use Rattle.machine.specs.Step.{World, wantsLength, begun as begunOf, ended as endedOf, byteAddress, sourceOf, destinationOf, withByte, onward as onwardOf, beatFor, writtenControl, writtenBack, afterBack, completed as completedOf};
 ghost use Rattle.machine.specs.Step.{fetched as fetchedOf, fetchStep, copyStep, sendStep, receiveFrom, moveStep, writeBackStep, step as stepOf};
 ghost use Rattle.machine.specs.Run.{lentIf, lentOf, readyOf, Stepped};
 ghost use Rattle.machine.specs.declared.Phase.the-variants.{Move, WriteBack};
 ghost use Rattle.machine.specs.Turns.{world, progress, inFault, Waits, Goes, lentAs, Within, Still, Went, Ready};
-use crate::Control;
-use crate::Count;
 use crate::Fault;
 use crate::Machine;
-use crate::Mode;
 use crate::Phase;
-use crate::Pointer;
 use crate::Progress;
 use crate::Reason;
-use crate::Status;
 use crate::StepAnswer;
 use crate::Work;
-use crate::has;
 use bus::BusAddress;
 use bus::Located;
 use bus::Refusal;
 use descriptor::DescControl;
 use descriptor::Descriptor;
+use regs::Control;
+use regs::Count;
+use regs::Mode;
+use regs::Pointer;
 use words::Order;
 use words::get_u16;
+use words::has;
 use words::put_u16;
 
 // Input beats: error 7, EOP 1, data 8. Output beats: zero 6, SOP 1, EOP 1, data 8.
@@ -104,29 +104,6 @@ fn output_beat(sop: bool, eop: bool, byte: u8) -> u16
     weight(sop, SOP) + weight(eop, EOP) + byte as u16
 }
 
-// If MAX is 0 the count becomes 0; else one more, and on reaching MAX or more it becomes 0.
-fn counted(count: u8, max: u8) -> Count
-    ensures { λ r. ⌜ r ≡ countedOf count max ⌝ }
-{
-    let next = count as u32 + 1;
-    if max == 0 {
-        return Count {
-            count: 0,
-            full: false,
-        };
-    }
-    if max as u32 <= next {
-        return Count {
-            count: 0,
-            full: true,
-        };
-    }
-    Count {
-        count: next as u8,
-        full: false,
-    }
-}
-
 // RUN 0: Rest; errors with STOP_DMA_ER: Halted; else Fetch.
 fn after_back(run: bool, halts: bool) -> Phase
     ensures { λ r. ⌜ r ≡ afterBack run halts ⌝ }
@@ -146,33 +123,6 @@ fn phase_with(k: Work, done: bool) -> Phase
         Phase::WriteBack(k)
     } else {
         Phase::Move(k)
-    }
-}
-
-impl Control {
-    // Each event pends only under its own enable.
-    fn pends(self, eop: bool, failed: bool, full: bool) -> bool
-        ensures { λ r. ⌜ r ≡ pendsOf self eop failed full ⌝ }
-    {
-        has(self.0, Control::IE_DESCRIPTOR)
-            | (has(self.0, Control::IE_EOP) & eop)
-            | (has(self.0, Control::IE_ERROR) & failed)
-            | (has(self.0, Control::IE_MAX) & full)
-    }
-}
-
-impl Status {
-    // DESCRIPTOR_COMPLETED; EOP_ENCOUNTERED if the last beat had EOP; ERROR if errors are not 0.
-    fn after_back(self, eop: bool, failed: bool, busy: bool) -> Status
-        ensures { λ r. ⌜ r ≡ statusBack self eop failed busy ⌝ }
-    {
-        Status {
-            error: self.error | failed,
-            eop: self.eop | eop,
-            descriptor: true,
-            busy,
-            ..self
-        }
     }
 }
 
@@ -279,12 +229,12 @@ impl Machine {
         ensures { λ r. ⌜ r ≡ endedOf self ⌝ }
     {
         let pending = self.pending | has(self.control.0, Control::IE_CHAIN);
-        let mut m = self;
-        m.status.chain = true;
+        let status = self.status;
         Machine {
+            status: status.ended(),
             phase: Phase::Ended,
             pending,
-            ..m
+            ..self
         }
     }
 
@@ -329,7 +279,7 @@ impl Machine {
         let failed = k.errors != 0;
         let run = has(c, Control::RUN);
         let halts = failed & has(c, Control::STOP_DMA_ER);
-        let n = counted(self.count, (c / Control::MAX_DESC_PROCESSED % 256) as u8);
+        let n = Count::after(self.count, (c / Control::MAX_DESC_PROCESSED % 256) as u8);
         let control = self.control;
         let pending = self.pending | control.pends(k.eop, failed, n.full);
         let status = self.status;

@@ -12,11 +12,13 @@ use Rattle.descriptor.specs.Layout.{owned, descriptorAt}
 use Rattle.descriptor.specs.RoundTrip.{Typed, jobOf}
 use Rattle.image.specs.Rules.{asked, faultCode}
 use Rattle.image.proofs.Tests.{and-left}
+use Rattle.regs.specs.declared.Mode.{Mode}
+use Rattle.regs.specs.declared.Mode.the-variants.{MemoryToMemory, MemoryToStream, StreamToMemory}
+use Rattle.regs.specs.Modes.{modeNumber}
+use Rattle.regs.specs.Control.{run}
 use Rattle.machine.specs.declared.Machine.{Machine}
-use Rattle.machine.specs.declared.Mode.{Mode}
-use Rattle.machine.specs.declared.Mode.the-variants.{MemoryToMemory, MemoryToStream, StreamToMemory}
 use Rattle.machine.specs.declared.Phase.the-variants.{Rest, Move}
-use Rattle.machine.specs.State.{modeNumber, run, withPhase, withPointer}
+use Rattle.machine.specs.State.{withPhase, withPointer}
 use Rattle.machine.specs.Step.{World, ended, wantsLength, begun, fetched, fetchStep}
 use Rattle.met.proofs.Kept.{Kept, on}
 use Rattle.met.proofs.Memory.{descriptor-typed}

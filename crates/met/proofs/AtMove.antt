@@ -12,9 +12,9 @@ use lib.ListN.{length, length-set}
 use borrow.Author.Tests.{eqb-true, eqb-false}
 use Rattle.bus.specs.Window.{inWindow, placeOf}
 use Rattle.image.proofs.Tests.{else}
+use Rattle.regs.specs.declared.Mode.{Mode}
+use Rattle.regs.specs.declared.Mode.the-variants.{MemoryToMemory, MemoryToStream, StreamToMemory}
 use Rattle.machine.specs.declared.Machine.{Machine}
-use Rattle.machine.specs.declared.Mode.{Mode}
-use Rattle.machine.specs.declared.Mode.the-variants.{MemoryToMemory, MemoryToStream, StreamToMemory}
 use Rattle.machine.specs.declared.Work.{Work}
 use Rattle.machine.specs.declared.Phase.the-variants.{Move, WriteBack}
 use Rattle.flow.specs.Beats.{beatError, beatEop}

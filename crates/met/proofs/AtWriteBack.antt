@@ -11,12 +11,12 @@ use Rattle.words.specs.declared.Order.the-variants.{LeastFirst}
 use Rattle.bus.specs.declared.Window.{Window}
 use Rattle.bus.specs.Window.{placeOf}
 use Rattle.image.proofs.Tests.{and-left}
+use Rattle.regs.specs.declared.Mode.{Mode}
+use Rattle.regs.specs.declared.Count.{Count}
+use Rattle.regs.specs.Control.{run, stopDmaEr, maxDescProcessed, counted}
 use Rattle.machine.specs.declared.Machine.{Machine}
-use Rattle.machine.specs.declared.Mode.{Mode}
 use Rattle.machine.specs.declared.Work.{Work}
-use Rattle.machine.specs.declared.Count.{Count}
-use Rattle.machine.specs.State.{run, stopDmaEr, maxDescProcessed}
-use Rattle.machine.specs.Step.{World, wantsLength, writtenControl, writtenBack, counted, afterBack, completed, writeBackStep}
+use Rattle.machine.specs.Step.{World, wantsLength, writtenControl, writtenBack, afterBack, completed, writeBackStep}
 use Rattle.met.proofs.Kept.{Hand, InPhase, Kept, on, neither}
 use Rattle.met.proofs.Memory.{row-bytes, put-bytes, length-put-at}
 use Rattle.met.proofs.Worlds.{KeptWorld, After}

@@ -14,14 +14,17 @@ use Rattle.image.proofs.EachRule.{Each, each-rule, each-keeps}
 use Rattle.image.proofs.Facts as fact
 use Rattle.image.specs.Layout.{Typed}
 use Rattle.image.proofs.Answers.{keeps, kept-none}
+use Rattle.regs.specs.declared.Mode.{Mode}
+use Rattle.regs.specs.declared.Mode.the-variants.{MemoryToMemory, MemoryToStream, StreamToMemory}
+use Rattle.regs.specs.declared.Status.{Status}
+use Rattle.regs.specs.Modes.{modeNumber}
+use Rattle.regs.specs.Status.{statusNumber}
+use Rattle.regs.specs.Control.{run, swReset}
 use Rattle.machine.specs.declared.Machine.{Machine}
-use Rattle.machine.specs.declared.Mode.{Mode}
-use Rattle.machine.specs.declared.Mode.the-variants.{MemoryToMemory, MemoryToStream, StreamToMemory}
-use Rattle.machine.specs.declared.Status.{Status}
 use Rattle.machine.specs.declared.Work.{Work}
 use Rattle.machine.specs.declared.Phase.{Phase}
 use Rattle.machine.specs.declared.Phase.the-variants.{Rest, Fetch, Move, WriteBack, Ended, Halted, Faulted}
-use Rattle.machine.specs.State.{modeNumber, phaseNumber, statusNumber, run, swReset, withPhase}
+use Rattle.machine.specs.State.{phaseNumber, withPhase}
 use Rattle.machine.specs.Saved.{none, inHand, faultIn, fieldsOf}
 use Rattle.machine.specs.Step.{wantsLength}
 use Rattle.met.specs.Sound.{Sound}

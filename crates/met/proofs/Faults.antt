@@ -3,11 +3,13 @@
 -- Assumes nothing.
 use Prim.Native.Nat.{ℕ}
 use mathlib.Core.Path.{_≡_, refl, sym, ap, subst, _∙_}
-use mathlib.Core.Bool.{Bool, true, _&&_}
+use mathlib.Core.Bool.{_&&_}
 use lib.Dec.{eqb}
 use borrow.Author.Tests.{eqb-true}
 use Rattle.words.specs.Bits.{bit}
 use Rattle.image.proofs.Tests.{and-left, and-right}
+use Rattle.regs.specs.Control.{swReset}
+use Rattle.regs.specs.Offsets.{isRegister}
 use Rattle.machine.specs.declared.Machine.{Machine}
 use Rattle.machine.specs.declared.Fault.{Fault}
 use Rattle.machine.specs.declared.Phase.{Phase}
@@ -15,10 +17,9 @@ use Rattle.machine.specs.declared.Phase.the-variants.{Faulted}
 use Rattle.machine.specs.declared.Reason.the-variants as reason
 use Rattle.machine.specs.declared.registers.WroteRegister.{WroteRegister}
 use Rattle.machine.specs.declared.registers.WroteRegister.the-variants.{Done, Refused}
-use Rattle.machine.specs.State.{swReset, fresh}
 use Rattle.machine.specs.Saved.{keeps}
-use Rattle.machine.specs.Registers.{isRegister, stored, released, controlWritten, writeOf, WasWritten}
-use Rattle.machine.specs.Step.{World, stopped, step, stepIn}
+use Rattle.machine.specs.Registers.{stored, released, controlWritten, writeOf, WasWritten}
+use Rattle.machine.specs.Step.{World, step, stepIn}
 use Rattle.machine.specs.Run.{run}
 use Rattle.machine.proofs.RunLaws.{run-stopped}
 use Rattle.met.specs.Faults.{AfterWrite, stays, reset}

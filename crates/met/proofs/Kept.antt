@@ -7,12 +7,14 @@ use Rattle.bus.specs.declared.Window.{Window}
 use Rattle.bus.specs.Window.{keepsLimits, inWindow}
 use Rattle.descriptor.specs.Layout.{owned}
 use Rattle.image.specs.Rules.{asked, faultCode}
+use Rattle.regs.specs.declared.Mode.{Mode}
+use Rattle.regs.specs.Modes.{modeNumber}
+use Rattle.regs.specs.Control.{run}
 use Rattle.machine.specs.declared.Machine.{Machine}
-use Rattle.machine.specs.declared.Mode.{Mode}
 use Rattle.machine.specs.declared.Work.{Work}
 use Rattle.machine.specs.declared.Phase.{Phase}
 use Rattle.machine.specs.declared.Phase.the-variants.{Rest, Fetch, Move, WriteBack, Ended, Halted, Faulted}
-use Rattle.machine.specs.State.{modeNumber, run, withPhase, withBusy}
+use Rattle.machine.specs.State.{withPhase, withBusy}
 use Rattle.machine.specs.Step.{wantsLength}
 
 -- ---- the descriptor in hand

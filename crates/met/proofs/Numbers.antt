@@ -12,16 +12,18 @@ use Rattle.words.specs.Bits.{bit}
 use Rattle.words.proofs.Recode.{join-split}
 use Rattle.image.specs.Rules as rule
 use Rattle.image.proofs.RoundTrip.{flag-back, flag-there}
-use Rattle.machine.specs.declared.Mode.{Mode}
-use Rattle.machine.specs.declared.Mode.the-variants.{MemoryToMemory, MemoryToStream, StreamToMemory}
-use Rattle.machine.specs.declared.Status.{Status}
+use Rattle.regs.specs.declared.Mode.{Mode}
+use Rattle.regs.specs.declared.Mode.the-variants.{MemoryToMemory, MemoryToStream, StreamToMemory}
+use Rattle.regs.specs.declared.Status.{Status}
+use Rattle.regs.specs.Modes.{modeNumber, modeOf}
+use Rattle.regs.specs.Status.{statusNumber, statusOf}
 use Rattle.machine.specs.declared.Work.{Work}
 use Rattle.machine.specs.declared.Fault.{Fault}
 use Rattle.machine.specs.declared.Phase.{Phase}
 use Rattle.machine.specs.declared.Phase.the-variants.{Rest, Fetch, Move, WriteBack, Ended, Halted, Faulted}
 use Rattle.image.specs.Layout.{flag}
-use Rattle.machine.specs.State.{modeNumber, phaseNumber, statusNumber}
-use Rattle.machine.specs.Saved.{none, noFault, inHand, faultIn, modeOf, statusOf}
+use Rattle.machine.specs.State.{phaseNumber}
+use Rattle.machine.specs.Saved.{none, noFault, inHand, faultIn}
 
 pub mode-back : (mode : Mode) → modeOf (modeNumber mode) ≡ mode
 mode-back MemoryToMemory = refl

@@ -9,12 +9,12 @@ use lib.Dec.{eqb}
 use Rattle.bus.specs.Window.{inWindow}
 use Rattle.descriptor.specs.declared.Descriptor.{Descriptor}
 use Rattle.descriptor.specs.Layout.{owned}
-use Rattle.machine.specs.declared.Mode.{Mode}
-use Rattle.machine.specs.declared.Mode.the-variants.{MemoryToMemory, MemoryToStream, StreamToMemory}
+use Rattle.regs.specs.declared.Mode.{Mode}
+use Rattle.regs.specs.declared.Mode.the-variants.{MemoryToMemory, MemoryToStream, StreamToMemory}
+use Rattle.regs.specs.Control.{run}
 use Rattle.machine.specs.declared.Work.{Work}
 use Rattle.machine.specs.declared.Phase.{Phase}
 use Rattle.machine.specs.declared.Phase.the-variants.{Rest, Fetch, Move, WriteBack, Ended, Halted, Faulted}
-use Rattle.machine.specs.State.{run}
 use Rattle.machine.specs.Step.{World, Answer, wantsLength, restStep, fetched, fetchStep, sourceOf, destinationOf, copyStep, sendTo, sendStep, receiveFrom, moveStep, writeBackStep, stepIn, step}
 use Rattle.met.specs.Reading.{over, atPointer, Alike, both, neither}
 

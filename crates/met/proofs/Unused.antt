@@ -11,13 +11,14 @@ use Rattle.bus.specs.Window.{inWindow}
 use Rattle.flow.specs.Beats.{beatError, beatEop}
 use Rattle.descriptor.specs.declared.Descriptor.{Descriptor}
 use Rattle.descriptor.specs.Layout.{owned}
+use Rattle.regs.specs.declared.Mode.{Mode}
+use Rattle.regs.specs.declared.Mode.the-variants.{MemoryToMemory, MemoryToStream, StreamToMemory}
+use Rattle.regs.specs.Control.{park}
 use Rattle.machine.specs.declared.Machine.{Machine}
-use Rattle.machine.specs.declared.Mode.{Mode}
-use Rattle.machine.specs.declared.Mode.the-variants.{MemoryToMemory, MemoryToStream, StreamToMemory}
 use Rattle.machine.specs.declared.Work.{Work}
 use Rattle.machine.specs.declared.Phase.{Phase}
 use Rattle.machine.specs.declared.Phase.the-variants.{Fetch, Move, WriteBack}
-use Rattle.machine.specs.State.{park, withPhase}
+use Rattle.machine.specs.State.{withPhase}
 use Rattle.machine.specs.Step.{World, Answer, taken, wantsLength, fetched, sourceOf, destinationOf, whole, withByte, onward, copyStep, beatFor, sendTo, sendStep, receiveFrom, moveStep, writtenControl, writtenBack, completed, writeBackStep, stepIn, step}
 use Rattle.met.specs.Unused.{SameUse, descriptorUnder, workUnder, phaseUnder, worldUnder, answerUnder, answerOver}
 

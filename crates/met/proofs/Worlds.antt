@@ -6,10 +6,12 @@ use mathlib.Core.Bool.{Bool, true, false}
 use lib.ListN.{length}
 use Rattle.words.specs.Slices.{AllBytes}
 use Rattle.image.specs.Rules.{faultCode}
+use Rattle.regs.specs.Modes.{modeNumber}
+use Rattle.regs.specs.Control.{run}
 use Rattle.machine.specs.declared.Machine.{Machine}
 use Rattle.machine.specs.declared.Phase.{Phase}
 use Rattle.machine.specs.declared.Phase.the-variants.{Fetch, Faulted}
-use Rattle.machine.specs.State.{modeNumber, run, withPhase, withBusy}
+use Rattle.machine.specs.State.{withPhase, withBusy}
 use Rattle.machine.specs.Step.{World, Answer, taken, stopped, became, faulted, restStep}
 use Rattle.met.specs.Sound.{AllBeats, SoundWorld}
 use Rattle.met.proofs.Kept.{InPhase, Kept, moves-to, on}

@@ -9,15 +9,17 @@ use lib.Dec.{eqb}
 use Rattle.words.specs.Bits.{bit}
 use Rattle.bus.specs.declared.Window.{Window}
 use Rattle.bus.specs.Window.{keepsLimits}
+use Rattle.regs.specs.declared.Mode.{Mode}
+use Rattle.regs.specs.Control.{run, swReset}
+use Rattle.regs.specs.Offsets.{isRegister}
 use Rattle.machine.specs.declared.Machine.{Machine}
-use Rattle.machine.specs.declared.Mode.{Mode}
 use Rattle.machine.specs.declared.Phase.{Phase}
 use Rattle.machine.specs.declared.Phase.the-variants.{Rest, Fetch, Move, WriteBack, Ended, Halted, Faulted}
 use Rattle.machine.specs.declared.registers.WroteRegister.{WroteRegister}
 use Rattle.machine.specs.declared.registers.WroteRegister.the-variants.{Done, Refused}
-use Rattle.machine.specs.State.{run, swReset, withPointer, withPhase, withBusy, fresh}
+use Rattle.machine.specs.State.{withPointer, withPhase, withBusy, fresh}
 use Rattle.machine.specs.Saved.{keeps}
-use Rattle.machine.specs.Registers.{statusWritten, stored, released, controlWritten, writeOf, WasWritten, isRegister}
+use Rattle.machine.specs.Registers.{statusWritten, stored, released, controlWritten, writeOf, WasWritten}
 use Rattle.met.specs.Sound.{Sound}
 use Rattle.met.proofs.Kept.{InPhase, Suits, Kept, on, neither}
 use Rattle.met.proofs.ByParts.{kept-sound, sound-kept}

@@ -5,10 +5,11 @@ use Prim.Native.Nat.{ℕ}
 use mathlib.Core.Path.{_≡_}
 use mathlib.Core.Bool.{true}
 use Rattle.words.specs.Bits.{bit}
+use Rattle.regs.specs.Control.{swReset}
 use Rattle.machine.specs.declared.Machine.{Machine}
 use Rattle.machine.specs.declared.Fault.{Fault}
 use Rattle.machine.specs.declared.Phase.the-variants.{Faulted}
-use Rattle.machine.specs.State.{swReset, fresh}
+use Rattle.machine.specs.State.{fresh}
 
 -- it stays Faulted, with its code and address; or bit 16 of control is written and already reads 1, and it is fresh again
 pub data AfterWrite (m : Machine) (f : Fault) (offset v : ℕ) (n : Machine) : Type 0 where

@@ -7,8 +7,8 @@ use mathlib.Core.List.{List}
 use Rattle.words.specs.Slices.{AllBytes}
 use Rattle.bus.specs.declared.Window.{Window}
 use Rattle.bus.specs.Window.{keepsLimits}
+use Rattle.regs.specs.declared.Mode.{Mode}
 use Rattle.machine.specs.declared.Machine.{Machine}
-use Rattle.machine.specs.declared.Mode.{Mode}
 use Rattle.machine.specs.declared.Progress.{Progress}
 use Rattle.machine.specs.declared.Ran.{Ran}
 use Rattle.machine.specs.declared.LoadedMachine.the-variants.{Good}

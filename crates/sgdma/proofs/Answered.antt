@@ -17,6 +17,7 @@ use Rattle.descriptor.specs.Calls.{WasRead as ReadBack, readNumber as descripto
 use Rattle.image.proofs.WordByWord.{put-all}
 use Rattle.bus.specs.declared.Refusal.{Refusal}
 use Rattle.bus.specs.declared.Refusal.the-variants.{BadSize, BadImage}
+use Rattle.regs.specs.Control.{lineUp}
 use Rattle.machine.specs.declared.Machine.{Machine}
 use Rattle.machine.specs.declared.LoadedMachine.{LoadedMachine}
 use Rattle.machine.specs.declared.LoadedMachine.the-variants as loaded
@@ -25,7 +26,7 @@ use Rattle.machine.specs.declared.registers.ReadRegister.the-variants as regist
 use Rattle.machine.specs.declared.registers.Line.{Line}
 use Rattle.machine.specs.declared.registers.Line.the-variants as line
 use Rattle.machine.specs.Saved.{loadOf}
-use Rattle.machine.specs.Registers.{registerAt, lineUp, readNumber, lineNumber}
+use Rattle.machine.specs.Registers.{registerAt, readNumber, lineNumber}
 use Rattle.sgdma.specs.Calls.{registerOf, readCall, valueOver, RegisterRead, lineIn, lineCall, lineOver, LineRead, descriptorCall, answerOver, DescriptorRead}
 use Rattle.sgdma.proofs.Opened.{first-wrong, second-wrong, sizes-right, not-loaded, register-loaded, line-loaded}
 
@@ -83,7 +84,7 @@ module _ {xs value ys : List ℕ} {r : ℕ} where
       line-spoiled {why} e p q =
           line-says (line.Refused BadImage) (sizes-right _ _ 4 xs value l k ∙ ap lineIn (not-loaded xs why l e)) p q
 
-      pub line-answers : {m : Machine} {up : Bool} (b : Line) (v : ℕ) → loadOf xs ≡ loaded.Good m → Gives (lineUp m) up → cond up line.Up line.Down ≡ b
+      pub line-answers : {m : Machine} {up : Bool} (b : Line) (v : ℕ) → loadOf xs ≡ loaded.Good m → Gives (lineUp (m .control) (m .pending)) up → cond up line.Up line.Down ≡ b
           → r ≡ lineNumber b → bytesOf MostFirst 4 v ≡ lineOver b value → Leaves (putAt value 0 (bytesOf MostFirst 4 v)) ys → LineRead xs value r ys
       unfolding lineCall
       line-answers b v e g f p o q =

@@ -1,5 +1,9 @@
 -- Calls that change an image.
 -- Assumes nothing.
+use Rattle.regs.specs.declared.Mode.{Mode}
+use Rattle.regs.specs.declared.CheckedMode.the-variants as mode
+use Rattle.regs.specs.Modes.{modeOf, checkedMode}
+use Rattle.regs.specs.Offsets.{isRegister}
 use Rattle.machine.proofs.Answers.{was-loaded, was-written}
 use Prim.Native.Nat.{ℕ, _^_, _<_}
 use mathlib.Core.Path.{_≡_, refl, sym, ap, _∙_}
@@ -18,15 +22,13 @@ use Rattle.bus.proofs.Limits.{checked-is}
 use Rattle.image.proofs.Answers.{read-size}
 use Rattle.image.proofs.Windows.{refused-breaks}
 use Rattle.machine.specs.declared.Machine.{Machine}
-use Rattle.machine.specs.declared.Mode.{Mode}
-use Rattle.machine.specs.declared.CheckedMode.the-variants as mode
 use Rattle.machine.specs.declared.LoadedMachine.{LoadedMachine}
 use Rattle.machine.specs.declared.LoadedMachine.the-variants.{Good, Refused}
 use Rattle.machine.specs.declared.registers.WroteRegister.{WroteRegister}
 use Rattle.machine.specs.declared.registers.WroteRegister.the-variants as wrote
 use Rattle.machine.specs.State.{fresh}
-use Rattle.machine.specs.Saved.{keeps, modeOf, checkedMode, loadedAs, loadOf, WasLoaded}
-use Rattle.machine.specs.Registers.{isRegister, writtenTo, wroteNumber}
+use Rattle.machine.specs.Saved.{keeps, loadedAs, loadOf, WasLoaded}
+use Rattle.machine.specs.Registers.{writtenTo, wroteNumber}
 use Rattle.met.specs.Sound.{Sound}
 use Rattle.met.proofs.RoundTrip.{loaded-keeps, loaded-typed}
 use Rattle.met.proofs.Writes.{fresh-keeps, write-keeps}

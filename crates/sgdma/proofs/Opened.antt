@@ -1,5 +1,7 @@
 -- The sizes of what is lent, an image that does not load, and the registers of one that does.
 -- Assumes nothing.
+use Rattle.regs.specs.Control.{lineUp}
+use Rattle.regs.specs.Offsets.{isRegister}
 use Rattle.machine.proofs.Answers.{was-loaded, was-register}
 use Prim.Native.Nat.{ℕ}
 use mathlib.Core.Path.{_≡_, refl, sym, ap, _∙_}
@@ -22,7 +24,7 @@ use Rattle.machine.specs.declared.registers.ReadRegister.{ReadRegister}
 use Rattle.machine.specs.declared.registers.WroteRegister.the-variants as wrote
 use Rattle.machine.specs.Saved.{keeps, loadedAs, loadOf, WasLoaded}
 use Rattle.machine.specs.declared.registers.Line.the-variants as line
-use Rattle.machine.specs.Registers.{isRegister, registerAt, readOf, writtenTo, writeOf, lineUp, lineOf, WasRead}
+use Rattle.machine.specs.Registers.{registerAt, readOf, writtenTo, writeOf, lineOf, WasRead}
 use Rattle.met.proofs.RoundTrip.{loaded-keeps}
 use Rattle.words.specs.Promise.{Gives}
 use Rattle.sgdma.specs.Calls.{isSize}
@@ -65,6 +67,6 @@ module _ (xs : List ℕ) {m : Machine} (e : loadOf xs ≡ Good m) where
   unfolding writeOf
   write-loaded offset v e = rw (keeps-loaded, e)
 
-  pub line-loaded : {up : Bool} → Gives (lineUp m) up → lineOf m ≡ cond up line.Up line.Down
+  pub line-loaded : {up : Bool} → Gives (lineUp (m .control) (m .pending)) up → lineOf m ≡ cond up line.Up line.Down
   unfolding lineOf
   line-loaded g = rw (keeps-loaded, sym (g .value))

@@ -20,6 +20,7 @@ use Rattle.descriptor.specs.declared.ReadDescriptor.the-variants as descriptor
 use Rattle.descriptor.specs.Calls.{slotOf, found, built, withJob, builtNumber, readNumber as descriptorNumber}
 use Rattle.image.specs.Layout.{image}
 use Rattle.image.specs.Promise.{sized}
+use Rattle.regs.specs.Modes.{modeOf}
 use Rattle.machine.specs.declared.Machine.{Machine}
 use Rattle.machine.specs.declared.LoadedMachine.{LoadedMachine}
 use Rattle.machine.specs.declared.LoadedMachine.the-variants as loaded
@@ -33,7 +34,7 @@ use Rattle.machine.specs.declared.RunAnswer.{RunAnswer}
 use Rattle.machine.specs.declared.RunAnswer.the-variants as ran
 use Rattle.machine.specs.State.{fresh}
 use Rattle.machine.specs.Run.{run, reasonNumber, lentOf, worldOf, runAnswer, windowAfter, outAfter, runNumber}
-use Rattle.machine.specs.Saved.{fieldsOf, modeOf, loadOf}
+use Rattle.machine.specs.Saved.{fieldsOf, loadOf}
 use Rattle.machine.specs.Registers.{readOf, writeOf, lineOf, readNumber, wroteNumber, lineNumber}
 
 -- the 44 bytes of a machine

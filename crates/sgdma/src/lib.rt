@@ -22,15 +22,15 @@ use descriptor::DescControl;
 use descriptor::Descriptor;
 use descriptor::Job;
 use descriptor::ReadDescriptor;
-use machine::CheckedMode;
 use machine::LoadedMachine;
 use machine::Machine;
-use machine::Mode;
 use machine::Ran;
 use machine::Reason;
 use machine::RunAnswer;
 use machine::registers::ReadRegister;
-use machine::registers::is_register;
+use regs::CheckedMode;
+use regs::Mode;
+use regs::is_register;
 use words::Order;
 use words::put_u16;
 use words::put_u32;
@@ -128,7 +128,8 @@ pub extern "C" fn sgdma_line(image: &[u8], value: &mut [u8]) -> u32
     let LoadedMachine::Good(m) = Machine::load(image) else {
         return Refusal::BadImage.number();
     };
-    if m.up() {
+    let control = m.control;
+    if control.raises(m.pending) {
         put_u32(Order::MostFirst, value, 0, 1);
         return 0;
     }

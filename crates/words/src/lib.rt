@@ -1,10 +1,11 @@
-// Numbers in lent bytes, the most significant byte first or the least.
+// Numbers in lent bytes, the most significant byte first or the least; and the bits of a number.
 //
 // Every call is total: a number that would not stand wholly in the slice is read as 0 and not written. The end `at + n` is
 // never summed, so that it cannot wrap.
 ghost use mathlib.Core.List.{[], _∷_};
 ghost use mathlib.Core.Path.{_≡_};
 ghost use Prim.Native.Nat.{_/_, _%_, _<_};
+ghost use Rattle.words.specs.Bits.{hasBit};
 ghost use Rattle.words.specs.Numbers.{join, bytes};
 ghost use Rattle.words.specs.Orders.{inOrder, bytesOf, wordBytes};
 ghost use Rattle.words.specs.Slices.{putAt, numberAt};
@@ -15,6 +16,16 @@ ghost use Rattle.words.specs.declared.Order.the-variants.{LeastFirst};
 pub enum Order {
     MostFirst,
     LeastFirst,
+}
+
+// Whether the bit of this weight is set; none has the weight 0.
+pub fn has(n: u32, weight: u32) -> bool
+    ensures { λ r. ⌜ Gives (hasBit weight n) r ⌝ }
+{
+    if weight == 0 {
+        return false;
+    }
+    n / weight % 2 == 1
 }
 
 // Two bytes as one number, the first foremost.

@@ -9,11 +9,11 @@ has-requires c κs = search needs
 has-requires-2 : tie.Need-has-requires-2
 has-requires-2 c κs = search needs
 
-cast-counted : tie.Need-cast-counted
-cast-counted c = search needs
+cast-after : tie.Need-cast-after
+cast-after c = search needs
 
-counted-requires : tie.Need-counted-requires
-counted-requires c κs = search needs
+after-requires : tie.Need-after-requires
+after-requires c κs = search needs
 
 pends-requires : tie.Need-pends-requires
 pends-requires c κs = search needs
@@ -26,7 +26,7 @@ after-back-requires-2 c κs = search needs
 
 returns : tie.Need-returns
 unfolding completed
-returns c = simp (c .before .before .before .after-back2 .ensures, c .before .before .before .before .after-back .ensures, c .before .before .before .before .before .before .before .pends .ensures, c .before .before .before .before .before .before .before .before .before .counted .ensures, c .before .before .before .before .before .before .before .before .before .before .has2 .ensures, c .before .before .before .before .before .before .before .before .before .before .before .has .ensures)
+returns c = simp (c .before .before .before .after-back2 .ensures, c .before .before .before .before .after-back .ensures .value, c .before .before .before .before .before .before .before .pends .ensures .value, c .before .before .before .before .before .before .before .before .before .after .ensures .value, c .before .before .before .before .before .before .before .before .before .before .has2 .ensures .value, c .before .before .before .before .before .before .before .before .before .before .before .has .ensures .value)
 
 pub completed-spec : {M : Type 1} → statement M
 completed-spec =
@@ -34,8 +34,8 @@ completed-spec =
     (tie.spec
     has-requires
     has-requires-2
-    cast-counted
-    counted-requires
+    cast-after
+    after-requires
     pends-requires
     after-back-requires
     after-back-requires-2

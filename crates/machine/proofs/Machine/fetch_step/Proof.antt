@@ -42,7 +42,7 @@ returns c =
     let t = l .before in
     let h = t .before .before in
     let a = h .before .before .args in
-    no-descriptor (a .self) (a .window .now) (sym (h .has .ensures) ∙ t .before .if1 .taken) (eq-eqb _ _ (t .if2 .taken))
+    no-descriptor (a .self) (a .window .now) (sym (h .has .ensures .value) ∙ t .before .if1 .taken) (eq-eqb _ _ (t .if2 .taken))
     (outside (l .locate .ensures) refl (c .before .enum-told .given .1)) (c .faulted .ensures)
 
 returns-2 : tie.Need-returns-2
@@ -52,20 +52,20 @@ returns-2 c =
     let h = t .before .before in
     let a = h .before .before .args in
     let e = c .before .before .before .found .given .1 in
-    fetches (a .self) (a .window .now) (sym (h .has .ensures) ∙ t .before .if1 .taken) (eq-eqb _ _ (t .if2 .taken)) (inside (l .locate .ensures) refl e)
+    fetches (a .self) (a .window .now) (sym (h .has .ensures .value) ∙ t .before .if1 .taken) (eq-eqb _ _ (t .if2 .taken)) (inside (l .locate .ensures) refl e)
     (place (l .locate .ensures) refl e) (c .before .at .ensures .value) (c .fetched .ensures (a .window .now))
 
 returns-3 : tie.Need-returns-3
 returns-3 c =
     let h = c .before .before .before in
     let a = h .before .before .args in
-    misaligned (a .self) (a .window .now) (sym (h .has .ensures) ∙ c .before .before .if1 .taken) (ne-eqb _ _ (c .before .if2 .left)) (c .faulted2 .ensures)
+    misaligned (a .self) (a .window .now) (sym (h .has .ensures .value) ∙ c .before .before .if1 .taken) (ne-eqb _ _ (c .before .if2 .left)) (c .faulted2 .ensures)
 
 returns-4 : tie.Need-returns-4
 returns-4 c =
     let h = c .before .before in
     let a = h .before .before .args in
-    not-running (a .self) (a .window .now) (sym (h .has .ensures) ∙ c .before .if1 .left) (c .rested .ensures)
+    not-running (a .self) (a .window .now) (sym (h .has .ensures .value) ∙ c .before .if1 .left) (c .rested .ensures)
 
 pub fetch-step-spec : {M : Type 1} → statement M
 fetch-step-spec =

@@ -1,8 +1,8 @@
+use Rattle.regs.specs.declared.Mode.{Mode}
 use Rattle.machine.proofs.Waiting.{goes-room, goes-beat}
 use Rattle.machine.proofs.Turning.{went-still, went-as}
 use Rattle.machine.specs.Turns.{world, Went}
 use Rattle.machine.specs.Step.{World, moveStep}
-use Rattle.machine.specs.declared.Mode.{Mode}
 use mathlib.Core.Path.{_≡_, ap}
 use mathlib.Core.List.{List}
 use Prim.Native.Nat.{ℕ}

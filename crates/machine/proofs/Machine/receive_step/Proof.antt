@@ -92,7 +92,7 @@ returns-2 c =
     let at = i .index .ensures .value ∙ place (l .locate .ensures) to e in (
       (rw (c .at2 .ensures) (past some), ap (λ (r : Progress). r .made) (c .at2 .ensures)),
       λ out.
-          receive-in (a .self) (a .k) (a .window .now) (a .beats .now) (a .next) out (a .made) some inside-it (c .before .before .before .get-u16 .ensures .value) (c .before .before .has .ensures) at (c .before .onward .ensures) (c .at2 .ensures),
+          receive-in (a .self) (a .k) (a .window .now) (a .beats .now) (a .next) out (a .made) some inside-it (c .before .before .before .get-u16 .ensures .value) (c .before .before .has .ensures .value) at (c .before .onward .ensures) (c .at2 .ensures),
     )
 
 pub receive-step-spec : {M : Type 1} → statement M

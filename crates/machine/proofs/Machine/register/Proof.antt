@@ -1,5 +1,5 @@
+use Rattle.regs.proofs.Offsets.{at-status, at-control, at-pointer, at-none}
 use Rattle.machine.specs.declared.registers.ReadRegister.the-variants.{Value}
-use Rattle.machine.proofs.Offsets.{at-status, at-control, at-pointer, at-none}
 use mathlib.Core.Path.{sym, ap, _∙_}
 use borrow.Author.Needs.{needs}
 use Rattle.machine.proofs.Machine.register.Statement.{statement}
@@ -9,7 +9,7 @@ number-requires : tie.Need-number-requires
 number-requires c κs = search needs
 
 returns : tie.Need-returns
-returns c = record { value = ap Value (c .number .ensures .0) ∙ sym (at-status _ _ _ _ _ (c .before .before .if1 .taken)) }
+returns c = record { value = ap Value (c .number .ensures .value) ∙ sym (at-status _ _ _ _ _ (c .before .before .if1 .taken)) }
 
 returns-2 : tie.Need-returns-2
 returns-2 c = record { value = sym (at-control _ _ _ _ _ (c .if2 .taken)) }

@@ -36,12 +36,12 @@ enum-told-6 c = search needs
 returns : tie.Need-returns
 unfolding restStep
 returns c =
-    λ memory input output left p q. sym (ap waitOf (at-phase (world (c .before .before .before .before .args .self) memory input output left) (c .before .before .enum-told .given .1)) ∙ simp (sym (c .before .has .ensures) ∙ c .if1 .taken))
+    λ memory input output left p q. sym (ap waitOf (at-phase (world (c .before .before .before .before .args .self) memory input output left) (c .before .before .enum-told .given .1)) ∙ simp (sym (c .before .has .ensures .value) ∙ c .if1 .taken))
 
 returns-2 : tie.Need-returns-2
 unfolding restStep
 returns-2 c =
-    λ memory input output left p q. sym (ap waitOf (at-phase (world (c .before .before .before .before .args .self) memory input output left) (c .before .before .enum-told .given .1)) ∙ simp (sym (c .before .has .ensures) ∙ c .if1 .left))
+    λ memory input output left p q. sym (ap waitOf (at-phase (world (c .before .before .before .before .args .self) memory input output left) (c .before .before .enum-told .given .1)) ∙ simp (sym (c .before .has .ensures .value) ∙ c .if1 .left))
 
 returns-3 : tie.Need-returns-3
 returns-3 c =

@@ -1,7 +1,7 @@
 use Rattle.machine.proofs.Answers.{was-written}
 use mathlib.Core.Path.{sym, _∙_}
 use borrow.Author.Tests.{not-true, not-false}
-use Rattle.machine.proofs.Offsets.{write-broken, write-none, write-done}
+use Rattle.machine.proofs.Writes.{write-broken, write-none, write-done}
 use borrow.Author.Needs.{needs}
 use Rattle.machine.proofs.Machine.write_register.Statement.{statement}
 use Rattle.machine.proofs.Machine.write_register.Tie as tie

@@ -1,8 +1,8 @@
 use mathlib.Core.Bool.{Bool, not, _&&_}
 use mathlib.Core.Path.{_≡_, sym, ap, _∙_}
-use Rattle.machine.specs.declared.Status.{Status}
+use Rattle.regs.specs.declared.Status.{Status}
+use Rattle.regs.proofs.Offsets.{at-status, at-control, at-pointer, at-none}
 use Rattle.machine.specs.State.{withStatus, rested}
-use Rattle.machine.proofs.Offsets.{at-status, at-control, at-pointer, at-none}
 use Rattle.machine.proofs.Writes.{stored-by, write-resets, write-ends, write-stays}
 use borrow.Author.Needs.{needs}
 use Rattle.machine.proofs.Machine.written.Statement.{statement}
@@ -19,7 +19,7 @@ returns : tie.Need-returns
 returns c =
     let m = c .before .before .before .args .self in
     record {
-      value = ap (λ (s : Status). withStatus s m) (c .cleared .ensures) ∙ sym (at-status _ _ _ _ _ (c .before .before .if1 .taken));
+      value = ap (λ (s : Status). withStatus s m) (c .cleared .ensures .value) ∙ sym (at-status _ _ _ _ _ (c .before .before .if1 .taken));
     }
 
 returns-2 : tie.Need-returns-2
@@ -40,7 +40,7 @@ returns-4 c =
     record {
       value =
           c .fresh .ensures .value
-          ∙ sym (write-resets _ _ (sym (reset .resets .ensures) ∙ c .before .before .if4 .taken))
+          ∙ sym (write-resets _ _ (sym (reset .resets .ensures .value) ∙ c .before .before .if4 .taken))
           ∙ sym (at-control _ _ _ _ _ (reset .before .before .if3 .left));
     }
 
@@ -68,8 +68,8 @@ returns-5 c =
     record {
       value =
           c .rested .ensures
-          ∙ ap rested (stored-by (a .value) (a .self) (cleared .has2 .ensures) (cleared .before .count-from .ensures))
-          ∙ sym (write-ends (a .value) (a .self) (sym (reset .resets .ensures) ∙ ended .before .if4 .left) (ends (ended .stands .ensures) (cleared .before .before .has .ensures) (c .before .if5 .taken)))
+          ∙ ap rested (stored-by (a .value) (a .self) (cleared .has2 .ensures .value) (cleared .before .count-from .ensures .value))
+          ∙ sym (write-ends (a .value) (a .self) (sym (reset .resets .ensures .value) ∙ ended .before .if4 .left) (ends (ended .stands .ensures) (cleared .before .before .has .ensures .value) (c .before .if5 .taken)))
           ∙ sym (at-control _ _ _ _ _ (reset .before .before .if3 .left));
     }
 
@@ -81,8 +81,8 @@ returns-6 c =
     let a = reset .before .before .before .before .before .args in
     record {
       value =
-          stored-by (a .value) (a .self) (cleared .has2 .ensures) (cleared .before .count-from .ensures)
-          ∙ sym (write-stays (a .value) (a .self) (sym (reset .resets .ensures) ∙ ended .before .if4 .left) (ends (ended .stands .ensures) (cleared .before .before .has .ensures) (c .if5 .left)))
+          stored-by (a .value) (a .self) (cleared .has2 .ensures .value) (cleared .before .count-from .ensures .value)
+          ∙ sym (write-stays (a .value) (a .self) (sym (reset .resets .ensures .value) ∙ ended .before .if4 .left) (ends (ended .stands .ensures) (cleared .before .before .has .ensures .value) (c .if5 .left)))
           ∙ sym (at-control _ _ _ _ _ (reset .before .before .if3 .left));
     }
 

@@ -9,11 +9,11 @@ has-requires c κs = search needs
 
 returns : tie.Need-returns
 unfolding writtenControl
-returns c = simp (sym (c .before .has .ensures) ∙ c .if1 .taken)
+returns c = simp (sym (c .before .has .ensures .value) ∙ c .if1 .taken)
 
 returns-2 : tie.Need-returns-2
 unfolding writtenControl
-returns-2 c = simp (sym (c .before .before .has .ensures) ∙ c .before .if1 .left)
+returns-2 c = simp (sym (c .before .before .has .ensures .value) ∙ c .before .if1 .left)
 
 pub written-control-spec : {M : Type 1} → statement M
 written-control-spec = tie.close (tie.spec has-requires returns returns-2)

@@ -1,0 +1,4 @@
+pub mod Modes
+pub mod Status
+pub mod Control
+pub mod Offsets
