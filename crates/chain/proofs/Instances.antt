@@ -1,24 +1,20 @@
 -- The premises can be met, and what is concluded there in numbers: known run 1 of the paper; and a chain of three with an EOP in
 -- the second and a fixed destination in the third.
 -- Assumes nothing.
-use Prim.Native.Nat.{ℕ, suc, _+_, _≤_, _<_}
+use Prim.Native.Nat.{ℕ, suc, _≤_, _<_}
 use mathlib.Core.Path.{_≡_, refl}
 use mathlib.Core.Logic.{_≢_}
 use mathlib.Core.Bool.{Bool, true, not, _&&_}
-use mathlib.Core.List.{List, [], _∷_, _++_}
+use mathlib.Core.List.{List, [], _∷_}
 use native.Mathlib.Omega.{arith}
 use lib.Dec.{eqb, ltb}
-use lib.ListN.{length, getD, take, drop, replicate}
+use lib.ListN.{length, getD, take, drop}
 use lib.Seq.{split-at}
 use borrow.Author.Tests.{ltb-true, eqb-false, not-true}
-use Rattle.words.specs.Slices.{part}
 use Rattle.bus.specs.Window.{inWindow, placeOf}
-use Rattle.descriptor.specs.declared.Job.{Job}
 use Rattle.descriptor.specs.Layout.{bytesFor, descriptorAt}
 use Rattle.image.proofs.Tests.{and-left, and-right}
 use Rattle.machine.specs.declared.Ran.{Ran}
-use Rattle.machine.specs.declared.Reason.the-variants.{Ended}
-use Rattle.machine.specs.Run.{run, ranAs}
 use Rattle.chain.specs.Chain.{All, Given, everyLink, Off, Sent, sent, Premises, Outcome}
 use Rattle.chain.specs.Known.{after, told, InNumbers, known, three}
 use Rattle.chain.proofs.Theorem.{chain-theorem}

@@ -15,7 +15,7 @@ use Rattle.machine.specs.declared.Work.{Work}
 use Rattle.machine.specs.declared.Phase.the-variants.{Move, WriteBack}
 use Rattle.machine.specs.State.{withPhase}
 use Rattle.flow.specs.Beats.{beatEop}
-use Rattle.machine.specs.Step.{World, taken, whole, destinationOf}
+use Rattle.machine.specs.Step.{World, whole, destinationOf}
 use Rattle.machine.specs.Laws.{Along, here, more}
 use Rattle.chain.specs.Chain.{All, takes, enough, Sent, sentFrom, gathered}
 use Rattle.chain.proofs.Memory.{writes}

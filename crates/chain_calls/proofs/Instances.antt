@@ -3,10 +3,10 @@
 use Prim.Native.Nat.{ℕ, zero, suc, _*_, _%_, _^_, _<_}
 use mathlib.Core.Path.{_≡_, refl, _∙_}
 use mathlib.Core.Bool.{true}
-use mathlib.Core.List.{List, [], _∷_, _++_}
+use mathlib.Core.List.{List, [], _∷_}
 use native.Mathlib.Nat.{mod-lt}
 use native.Mathlib.Omega.{arith}
-use lib.ListN.{length, take, replicate, length-replicate}
+use lib.ListN.{length, replicate, length-replicate}
 use borrow.Author.Tests.{eq-eqb}
 use Rattle.words.specs.Slices.{putAt, AllBytes}
 use Rattle.bus.specs.Window.{keepsLimits, inWindow}
@@ -24,7 +24,7 @@ use Rattle.sgdma.specs.Calls.{imageOf}
 use Rattle.chain.specs.Chain.{Given, machineFor, worldFor, Premises}
 use Rattle.chain.specs.Known.{known, three}
 use Rattle.chain.proofs.Instances.{known-run-1}
-use Rattle.chain_calls.specs.InC.{RunLent, RunLeft, Lends, WellLent, runLent, Called, NoneRefused}
+use Rattle.chain_calls.specs.InC.{RunLeft, WellLent, Called, NoneRefused}
 use Rattle.chain_calls.specs.Known.{lends, lentTo, knownLeft}
 use Rattle.chain_calls.specs.Useless.{InBytes}
 use Rattle.chain_calls.proofs.OfCalls.{are-all-bytes, run-is, run-memory, run-image, none-refused, chain-of-calls}

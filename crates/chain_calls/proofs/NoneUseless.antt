@@ -3,7 +3,6 @@
 use Rattle.machine.proofs.Answers.{was-loaded}
 use Prim.Native.Nat.{ℕ, _<_}
 use mathlib.Core.Path.{_≡_, refl, sym, ap, _∙_}
-use mathlib.Core.Bool.{cond, _&&_}
 use mathlib.Core.List.{List}
 use native.Mathlib.Nat.{mod-eq-of-lt}
 use native.Mathlib.Omega.{arith}
@@ -11,15 +10,14 @@ use lib.ListN.{length, getD}
 use Rattle.words.specs.declared.Order.the-variants.{MostFirst}
 use Rattle.words.proofs.Orders.{number-bytes}
 use Rattle.descriptor.specs.Layout.{bytesFor, descriptorAt}
-use Rattle.image.specs.Promise.{sized}
 use Rattle.image.proofs.RoundTrip.{length-image}
 use Rattle.machine.specs.declared.RunAnswer.{RunAnswer}
 use Rattle.machine.specs.declared.LoadedMachine.the-variants.{Good}
-use Rattle.machine.specs.Saved.{fieldsOf, loadOf, WasLoaded}
-use Rattle.machine.specs.Run.{Lent, serves, run, worldOf, runAnswer, runNumber}
+use Rattle.machine.specs.Saved.{fieldsOf, WasLoaded}
+use Rattle.machine.specs.Run.{Lent, serves, run, worldOf, runAnswer}
 use Rattle.machine.proofs.RunLaws.{run-tells}
 use Rattle.met.proofs.RoundTrip.{loaded-typed, loads-exactly}
-use Rattle.sgdma.specs.Calls.{isSize, runCall, ranOver, reportOver, windowIn, outIn}
+use Rattle.sgdma.specs.Calls.{runCall, reportOver}
 use Rattle.chain.specs.Known.{known, three}
 use Rattle.chain.proofs.Instances.{known-run-1, chain-of-three, landed-nth}
 use Rattle.chain_calls.specs.InC.{Found}

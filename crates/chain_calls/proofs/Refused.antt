@@ -2,9 +2,9 @@
 -- refusals that apply to it.
 -- Assumes nothing.
 use Prim.Native.Nat.{ℕ, _%_}
-use mathlib.Core.Path.{_≡_, refl, sym, ap, _∙_}
+use mathlib.Core.Path.{_≡_, refl, sym, _∙_}
 use mathlib.Core.Bool.{Bool, true, false, not, cond, _&&_}
-use mathlib.Core.List.{List, [], _∷_}
+use mathlib.Core.List.{List}
 use lib.Dec.{eqb, leb}
 use lib.ListN.{length}
 use Rattle.bus.specs.declared.Refusal.{Refusal}
@@ -12,7 +12,7 @@ use Rattle.bus.specs.declared.Refusal.the-variants.{OtherWindow, BadSize, BadIm
 use Rattle.bus.specs.Refusal.{refusalNumber}
 use Rattle.bus.specs.Window.{keepsLimits, inWindow}
 use Rattle.descriptor.specs.declared.Job.{Job}
-use Rattle.descriptor.specs.Calls.{slotOf, slotNumber, found, readNumber as descriptorNumber}
+use Rattle.descriptor.specs.Calls.{slotOf, slotNumber, readNumber as descriptorNumber}
 use Rattle.descriptor.proofs.Slots.{by-tests, built-number, found-number}
 use Rattle.image.specs.declared.ReadImage.the-variants as read
 use Rattle.image.proofs.Tests.{and-left}
@@ -24,17 +24,13 @@ use Rattle.regs.specs.Offsets.{isRegister}
 use Rattle.machine.specs.declared.Machine.{Machine}
 use Rattle.machine.specs.declared.LoadedMachine.{LoadedMachine}
 use Rattle.machine.specs.declared.LoadedMachine.the-variants as loaded
-use Rattle.machine.specs.declared.registers.ReadRegister.the-variants as register
-use Rattle.machine.specs.declared.registers.Line.the-variants as line
-use Rattle.machine.specs.declared.RunAnswer.the-variants as many
-use Rattle.descriptor.specs.declared.ReadDescriptor.the-variants as descriptor
 use Rattle.machine.specs.Saved.{keeps, machineOf, loadedAs, loadOf}
-use Rattle.machine.specs.Registers.{readOf, writeOf, lineOf, readNumber, wroteNumber, lineNumber, registerNumber}
-use Rattle.machine.specs.Run.{Lent, serves, refused, even, lentOf, worldOf, runNumber, lentNumber}
+use Rattle.machine.specs.Registers.{readOf, writeOf, readNumber, wroteNumber, lineNumber}
+use Rattle.machine.specs.Run.{serves, refused, even, lentOf, runNumber, lentNumber}
 use Rattle.machine.proofs.Answers.{was-loaded, was-register, was-written, was-line, run-number}
 use Rattle.met.proofs.RoundTrip.{loaded-keeps}
 use Rattle.sgdma.specs.Calls.{isSize, Created, registerOf, readCall, RegisterRead, writtenIn, RegisterWritten, lineIn, lineCall, LineRead, runIn, runCall, RunMade, DescriptorBuilt, descriptorCall, DescriptorRead}
-use Rattle.chain_calls.specs.Refused.{first, badWindow, misaligned, outside, FirstThatApplies, createTests, readTests, writeTests, lineTests, runTests, buildTests, descriptorTests}
+use Rattle.chain_calls.specs.Refused.{first, FirstThatApplies, createTests, readTests, writeTests, lineTests, runTests, buildTests, descriptorTests}
 
 -- ---- tests one after the other
 

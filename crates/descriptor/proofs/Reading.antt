@@ -1,7 +1,7 @@
 -- The descriptor at a place, met field by field.
 -- Assumes nothing.
 use Prim.Native.Nat.{ℕ, _+_, _≤_, _<_}
-use mathlib.Core.Path.{_≡_, refl, sym, ap, _∙_}
+use mathlib.Core.Path.{_≡_, sym, ap, _∙_}
 use mathlib.Core.List.{List, []}
 use native.Mathlib.Nat.{add-zero}
 use native.Mathlib.Omega.{arith}
@@ -11,7 +11,6 @@ use Rattle.words.specs.declared.Order.the-variants.{LeastFirst}
 use Rattle.words.specs.Orders.{numberOf}
 use Rattle.words.specs.Slices.{part, numberAt}
 use Rattle.words.proofs.Slices.{row-from, number-in-part, byte-in-part}
-use Rattle.descriptor.specs.declared.Descriptor.{Descriptor}
 use Rattle.descriptor.specs.declared.ReadDescriptor.{ReadDescriptor}
 use Rattle.descriptor.specs.Layout.{widths, named, descriptorOf, descriptorAt}
 use Rattle.descriptor.specs.Calls.{slotOf, found, readNumber, WasRead}

@@ -7,7 +7,6 @@ use mathlib.Core.List.{List}
 use lib.ListN.{length}
 use lib.Dec.{eqb}
 use Rattle.words.specs.Slices.{put}
-use Rattle.bus.specs.declared.Refusal.{Refusal}
 use Rattle.bus.specs.declared.Refusal.the-variants as refusal
 use Rattle.bus.specs.declared.CheckedWindow.{CheckedWindow}
 use Rattle.bus.specs.declared.CheckedWindow.the-variants as checked

@@ -8,7 +8,7 @@ use lib.Dec.{leb}
 use Rattle.words.specs.declared.Order.the-variants.{LeastFirst}
 use Rattle.words.specs.Bits.{bit}
 use Rattle.words.specs.Orders.{rowBytes, rowNumbers}
-use Rattle.words.specs.Slices.{part, putAt}
+use Rattle.words.specs.Slices.{part}
 use Rattle.descriptor.specs.declared.Job.{Job}
 use Rattle.descriptor.specs.declared.Descriptor.{Descriptor}
 

@@ -7,7 +7,7 @@ use mathlib.Core.List.{List, [], _∷_, _++_}
 use native.Mathlib.Numerals.{add-one}
 use native.Mathlib.Omega.{arith}
 use lib.Bits.{bitOr}
-use lib.ListN.{length, take, drop, getD, set, length-set, length-append}
+use lib.ListN.{length, take, drop, getD, length-set, length-append}
 use lib.Seq.{take-suc, drop-cons}
 use Rattle.flow.specs.Beats.{beatError, beatEop}
 use Rattle.flow.specs.Rows.{landing, calm, gathered, spread, plain}

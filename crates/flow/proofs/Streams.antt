@@ -2,7 +2,6 @@
 -- Assumes nothing.
 use Prim.Native.Nat.{ℕ, zero, suc, _+_, _*_, _/_, _%_, _^_, _≤_, _<_}
 use mathlib.Core.Path.{_≡_, refl, sym, ap, _∙_}
-use mathlib.Core.Bool.{Bool, true, false}
 use mathlib.Core.List.{List, [], _∷_, _++_}
 use native.Mathlib.Nat.{add-zero, mul-one}
 use native.Mathlib.Omega.{arith}
@@ -10,9 +9,9 @@ use lib.Dec.{eqb}
 use lib.ListN.{length, drop, getD}
 use lib.Seq.{getD-drop}
 use Rattle.words.specs.declared.Order.the-variants.{MostFirst}
-use Rattle.words.specs.Orders.{bytesOf, numberOf}
+use Rattle.words.specs.Orders.{bytesOf}
 use Rattle.words.specs.Slices.{numberAt}
-use Rattle.words.proofs.Slices.{number-in, elements, elements-number}
+use Rattle.words.proofs.Slices.{number-in, elements-number}
 use Rattle.flow.specs.Beats.{beatError, beatEop, beatData, beatsIn, beatBytes}
 
 half : (n : ℕ) → suc (suc n) / 2 ≡ suc (n / 2)

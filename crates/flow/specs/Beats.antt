@@ -1,6 +1,6 @@
 -- The paper's stream: a beat is 16 bits, most significant first, two bytes in a lent slice.
 -- Assumes nothing.
-use Prim.Native.Nat.{ℕ, _+_, _*_, _/_, _%_}
+use Prim.Native.Nat.{ℕ, _+_, _/_, _%_}
 use mathlib.Core.Bool.{Bool, cond}
 use mathlib.Core.List.{List, [], _∷_, _++_}
 use Rattle.words.specs.declared.Order.the-variants.{MostFirst}

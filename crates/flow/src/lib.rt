@@ -1,7 +1,6 @@
 // Beats and bytes in a row: the tight loops of bulk moves. A row of places may be fixed to one. Each call looks at its ranges once,
 // and does nothing where they do not fit.
 ghost use mathlib.Core.Path.{_≡_};
-ghost use mathlib.Core.Bool.{false};
 ghost use Prim.Native.Nat.{_+_, _*_, _/_, _^_, _≤_, _<_};
 ghost use lib.Dec.{leb};
 ghost use lib.ListN.{length, take, drop};

@@ -7,8 +7,9 @@ use native.Mathlib.Omega.{arith}
 use lib.Dec.{leb, ltb, eqb}
 use borrow.Author.Tests.{leb-true, ltb-true, eqb-true, eqb-false, eq-eqb, ne-eqb, not-true}
 use Rattle.bus.specs.Window.{keepsLimits, inWindow}
+use Rattle.descriptor.specs.Layout.{owned}
 use Rattle.image.specs.declared.Fields.{Fields}
-use Rattle.image.specs.Rules.{_⇒_, _exactly_, _outside_, either, between, zeroFrom, zeroOutside, inMove, inWriteBack, inEnded, inHalted, inFaulted, inHand, error, eopEncountered, busy, run, swReset, ownedByHw, faultCode, asked, movedKept, eopKept, lowestBroken}
+use Rattle.image.specs.Rules.{_⇒_, _exactly_, _outside_, either, between, zeroFrom, zeroOutside, inMove, inWriteBack, inEnded, inHalted, inFaulted, inHand, error, eopEncountered, busy, run, swReset, faultCode, asked, movedKept, eopKept, lowestBroken}
 use Rattle.image.proofs.Tests.{and-left, and-right, second, three, four, both, then, else, exactly-same}
 use Rattle.image.proofs.EachRule.{each-rule}
 
@@ -144,7 +145,7 @@ module _ (f : Fields) (e : lowestBroken f ≡ 0) where
     pub address-inside : inWindow (record { base = f .base; length = f .window }) (f .address) 32 ≡ true
     address-inside = and-right (eqb (f .address % 4) 0) _ placed
 
-    pub dcontrol-owned : ownedByHw (f .dcontrol) ≡ true
+    pub dcontrol-owned : owned (f .dcontrol) ≡ true
     dcontrol-owned = then _ _ (and-right (zeroOutside (inHand (f .phase)) (f .dcontrol)) _ (each-rule f e .dcontrol)) h
 
   -- in modes 0 and 1 length not 0, errors and EOP seen 0

@@ -6,9 +6,10 @@ use mathlib.Core.Bool.{Bool, true, false, _&&_}
 use native.Mathlib.Omega.{arith}
 use borrow.Author.Needs.{needs}
 use borrow.Author.Tests.{ltb-true}
+use Rattle.words.specs.Bits.{flag}
 use Rattle.words.specs.Numbers.{Fit}
 use Rattle.image.specs.declared.Fields.{Fields}
-use Rattle.image.specs.Layout.{flag, values, widths, Typed}
+use Rattle.image.specs.Layout.{values, widths, Typed}
 use Rattle.image.specs.Rules.{zeroFrom, lowestBroken}
 use Rattle.image.specs.Promise.{fits}
 use Rattle.image.proofs.Tests.{and-left, and-right}

@@ -1,10 +1,10 @@
 -- The paper's "Saved image": 44 bytes, the fields side by side in this order, bits most significant first.
 -- Assumes nothing.
 use Prim.Native.Nat.{ℕ, _<_}
-use mathlib.Core.Bool.{Bool, cond}
 use mathlib.Core.List.{List, [], _∷_, map}
 use lib.ListN.{getD}
 use lib.Dec.{eqb}
+use Rattle.words.specs.Bits.{flag}
 use Rattle.words.specs.Numbers.{recode, bytes}
 use Rattle.image.specs.declared.Fields.{Fields}
 
@@ -16,10 +16,6 @@ pub record Field : Type 0 where
 infix 70 _bits_
 abbrev pub _bits_ : ℕ → ℕ → Field
 w bits v = record { width = w; value = v }
-
--- a flag as a number
-abbrev pub flag : Bool → ℕ
-flag b = cond b 1 0
 
 -- the table: each field's width and value
 abbrev pub layout : Fields → List Field

@@ -5,8 +5,10 @@ use Prim.Native.Nat.{ℕ, suc, _%_, _^_}
 use mathlib.Core.Bool.{Bool, true, false, not, cond, _&&_, _||_, Bool·beq}
 use mathlib.Core.List.{List, [], _∷_}
 use lib.Dec.{eqb, leb, ltb}
-use Rattle.words.specs.Bits.{bit}
 use Rattle.bus.specs.Window.{keepsLimits, inWindow}
+use Rattle.descriptor.specs.Layout.{owned}
+use Rattle.regs.specs.Status.{statusOf}
+use Rattle.regs.specs.Control as register
 use Rattle.image.specs.declared.Fields.{Fields}
 
 -- ---- tests put together
@@ -59,24 +61,21 @@ inFaulted phase = eqb phase 6
 abbrev pub inHand : ℕ → Bool
 inHand phase = inMove phase || inWriteBack phase
 
+-- bits of the registers, of their numbers
 abbrev pub error : ℕ → Bool
-error status = bit 0 status
+error status = statusOf status .error
 
 abbrev pub eopEncountered : ℕ → Bool
-eopEncountered status = bit 1 status
+eopEncountered status = statusOf status .eop
 
 abbrev pub busy : ℕ → Bool
-busy status = bit 4 status
+busy status = statusOf status .busy
 
 abbrev pub run : ℕ → Bool
-run control = bit 5 control
+run control = register.run (record { 0 = control })
 
 abbrev pub swReset : ℕ → Bool
-swReset control = bit 16 control
-
--- the bit that crate descriptor, which this one does not use, has as `owned`; crate met takes the one for the other
-abbrev pub ownedByHw : ℕ → Bool
-ownedByHw dcontrol = bit 7 dcontrol
+swReset control = register.swReset (record { 0 = control })
 
 -- ---- the rules
 
@@ -130,7 +129,7 @@ sizeKept mode hand size = zeroOutside hand size && (hand && either 0 1 mode ⇒ 
 
 -- zero outside; there control bit 7 set
 abbrev pub dcontrolKept : (hand : Bool) (dcontrol : ℕ) → Bool
-dcontrolKept hand dcontrol = zeroOutside hand dcontrol && (hand ⇒ ownedByHw dcontrol)
+dcontrolKept hand dcontrol = zeroOutside hand dcontrol && (hand ⇒ owned dcontrol)
 
 -- zero outside; in modes 0 and 1 errors 0; errors bit 7 zero
 abbrev pub errorsKept : (mode : ℕ) (hand : Bool) (errors : ℕ) → Bool

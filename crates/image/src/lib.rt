@@ -2,14 +2,14 @@
 ghost use mathlib.Core.Bool.{true};
 ghost use mathlib.Core.Path.{_≡_};
 ghost use mathlib.Core.List.{[], _∷_};
-ghost use lib.Dec.{eqb};
 ghost use lib.ListN.{length};
+ghost use Rattle.words.specs.Bits.{flag};
 ghost use Rattle.words.specs.Numbers.{join, Fit};
 ghost use Rattle.words.specs.Promise.{Gives, Leaves};
 ghost use Rattle.words.specs.Slices.{numberAt};
 ghost use Rattle.words.specs.declared.Order.the-variants.{MostFirst};
 ghost use Rattle.bus.specs.Window.{keepsLimits, inWindow};
-ghost use Rattle.image.specs.Layout.{flag, values, widths, image, fields};
+ghost use Rattle.image.specs.Layout.{values, widths, image, fields};
 ghost use Rattle.image.specs.InGroups.{coreKept, handKept, nothingKept};
 ghost use Rattle.image.specs.InWords.{headWidths, sizesWidths, doneWidths, ofWords};
 ghost use Rattle.image.specs.Rules.{zeroOutside, phaseKept, faultKept, statusKept, controlKept, addressKept, sizeKept, dcontrolKept, errorsKept, asked, movedKept, eopKept, rules, firstFalse, lowestBroken, keepsRules};
@@ -19,7 +19,11 @@ use bus::CheckedWindow;
 use bus::Located;
 use bus::Refusal;
 use bus::Window;
+use descriptor::DescControl;
+use regs::Control;
+use regs::Status;
 use words::Order;
+use words::has;
 
 // The image's fields in layout order. A field of one bit is a bool, so that it fits by its type.
 pub struct Fields {
@@ -72,19 +76,6 @@ const HALTED: u8 = 5;
 
 const FAULTED: u8 = 6;
 
-// The register bits that the rules speak of, by their weights.
-const ERROR: u8 = 1;
-
-const EOP_ENCOUNTERED: u8 = 2;
-
-const BUSY: u8 = 16;
-
-const RUN: u32 = 0x20;
-
-const SW_RESET: u32 = 0x1_0000;
-
-const OWNED_BY_HW: u8 = 128;
-
 // A function for each rule of several parts. The definition that it ensures has the paper's sentence. `hand` is true in Move and
 // WriteBack, where a descriptor is in hand; `reads` in the modes 0 and 1, which read memory; `writes` in 0 and 2. Where a phase
 // needs much of a rule and the others little, the phase is branched on: from call to call it is nearly always the same.
@@ -110,9 +101,10 @@ fn fault_kept(mode: u8, phase: u8, fault: u8) -> bool
 fn status_kept(mode: u8, phase: u8, status: u8) -> bool
     ensures { λ r. ⌜ r ≡ statusKept mode phase status ⌝ }
 {
-    let error = status / ERROR % 2 == 1;
-    let eop = status / EOP_ENCOUNTERED % 2 == 1;
-    let busy = status / BUSY % 2 == 1;
+    let bits = status as u32;
+    let error = has(bits, Status::ERROR);
+    let eop = has(bits, Status::EOP_ENCOUNTERED);
+    let busy = has(bits, Status::BUSY);
     let active = (FETCH <= phase) & (phase <= ENDED);
     (status < 32) & (busy == active) & ((mode == 2) | !(error | eop))
 }
@@ -120,9 +112,11 @@ fn status_kept(mode: u8, phase: u8, status: u8) -> bool
 fn control_kept(phase: u8, armed: bool, control: u32) -> bool
     ensures { λ r. ⌜ r ≡ controlKept phase armed control ⌝ }
 {
-    let reset = control / SW_RESET % 2 == 1;
-    let run = control / RUN % 2 == 1;
-    (control < 0x4_0000) & (reset == armed) & (!((phase == ENDED) | (phase == HALTED)) | run)
+    let reset = has(control, Control::SW_RESET);
+    let run = has(control, Control::RUN);
+    (control < Control::NOT_STORED)
+        & (reset == armed)
+        & (!((phase == ENDED) | (phase == HALTED)) | run)
 }
 
 fn limits_kept(base: u32, window: u32) -> bool
@@ -174,7 +168,8 @@ fn size_kept(mode: u8, hand: bool, size: u16) -> bool
 fn dcontrol_kept(hand: bool, dcontrol: u8) -> bool
     ensures { λ r. ⌜ r ≡ dcontrolKept hand dcontrol ⌝ }
 {
-    (hand | (dcontrol == 0)) & (!hand | (dcontrol / OWNED_BY_HW % 2 == 1))
+    let owned = DescControl(dcontrol).has(DescControl::OWNED_BY_HW);
+    (hand | (dcontrol == 0)) & (!hand | owned)
 }
 
 fn errors_kept(mode: u8, hand: bool, errors: u8) -> bool

@@ -2,7 +2,7 @@
 -- 256 bytes at 4096, unless said; `held` are the bytes from 4224 on. A chain of descriptors of one byte each goes to 4224.
 -- Assumes nothing.
 use Prim.Native.Nat.{ℕ}
-use mathlib.Core.Bool.{Bool, true, false}
+use mathlib.Core.Bool.{true, false}
 use mathlib.Core.List.{List, [], _∷_, _++_}
 use Rattle.words.specs.Slices.{put}
 use Rattle.known_runs.specs.Scene.{Act, write, go, Fact, reason, steps, taken, out, status, control, pointer, phase, pending, line, count, fault, bytes, Scene, desc, zeros, window}

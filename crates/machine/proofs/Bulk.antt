@@ -7,8 +7,8 @@ use mathlib.Core.List.{List, [], _++_, append-nil}
 use native.Mathlib.Nat.{sub-zero}
 use native.Mathlib.Omega.{arith}
 use lib.Dec.{eqb}
-use lib.ListN.{length, take, drop, getD, length-drop}
-use lib.Seq.{length-take-le, drop-drop}
+use lib.ListN.{length, take, drop, getD}
+use lib.Seq.{drop-drop}
 use borrow.Author.Tests.{ne-eqb, eqb-false}
 use Rattle.words.specs.Slices.{put}
 use Rattle.bus.specs.declared.Window.{Window}
@@ -22,7 +22,6 @@ use Rattle.flow.specs.Beats.{beatEop, beatsIn, beatBytes}
 use Rattle.flow.specs.Rows.{extent, fit, calm, gathered, spread, copied, plain, absorbedCount, Absorbs, copiedOver, sentOver}
 use Rattle.flow.proofs.Fitting.{both-fit}
 use Rattle.flow.proofs.Longer.{calm-most, calm-before, length-plain}
-use Rattle.flow.proofs.Streams.{length-beats}
 use Rattle.regs.specs.declared.Mode.{Mode}
 use Rattle.regs.specs.declared.Mode.the-variants.{MemoryToMemory, MemoryToStream, StreamToMemory}
 use Rattle.regs.specs.Modes.{modeNumber}

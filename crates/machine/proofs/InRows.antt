@@ -1,9 +1,9 @@
 -- Bytes moved at once are as many steps: a row of worlds, each a step after the one before. What the modes share, and then the row
 -- of each mode.
 -- Assumes nothing.
-use Prim.Native.Nat.{ℕ, zero, suc, _+_, _-_, _*_, _/_, _≤_, _<_}
-use mathlib.Core.Path.{_≡_, refl, sym, ap, subst, _∙_}
-use mathlib.Core.Bool.{Bool, true, false, cond, _||_}
+use Prim.Native.Nat.{ℕ, zero, suc, _+_, _-_, _≤_, _<_}
+use mathlib.Core.Path.{_≡_, refl, sym, ap, _∙_}
+use mathlib.Core.Bool.{Bool, true, false}
 use mathlib.Core.List.{List, [], _∷_, _++_, append-assoc, append-nil}
 use native.Mathlib.Nat.{add-zero, sub-zero}
 use native.Mathlib.Numerals.{add-one}
@@ -20,12 +20,12 @@ use Rattle.regs.specs.declared.Mode.the-variants.{MemoryToMemory, MemoryToStrea
 use Rattle.machine.specs.declared.Machine.{Machine}
 use Rattle.machine.specs.declared.Work.{Work}
 use Rattle.machine.specs.declared.Phase.{Phase}
-use Rattle.machine.specs.declared.Phase.the-variants.{Move, WriteBack}
+use Rattle.machine.specs.declared.Phase.the-variants.{Move}
 use Rattle.machine.specs.State.{withPhase}
 use Rattle.flow.specs.Beats.{beatError, beatEop, beatData}
 use Rattle.flow.specs.Rows.{landing, gathered, spread, copied, plain}
 use Rattle.flow.proofs.Longer.{gathered-next}
-use Rattle.machine.specs.Step.{World, Answer, taken, step, whole, byteAddress, sourceOf, destinationOf, withByte, onward, copyStep, sendStep, receiveFrom, moveStep, beatFor}
+use Rattle.machine.specs.Step.{World, taken, step, whole, byteAddress, sourceOf, destinationOf, withByte, onward, copyStep, sendStep, receiveFrom, moveStep, beatFor}
 use Rattle.machine.specs.Turns.{world, stepsOn, steps, movedBy, Moving, Row, Unmarked}
 use Rattle.machine.proofs.Places.{further}
 

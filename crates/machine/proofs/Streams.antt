@@ -1,7 +1,7 @@
 -- Beats in lent bytes: the next one, and those made.
 -- Assumes nothing.
-use Prim.Native.Nat.{ℕ, zero, suc, _+_, _-_, _*_, _/_, _≤_, _<_}
-use mathlib.Core.Path.{_≡_, refl, sym, ap, _∙_}
+use Prim.Native.Nat.{ℕ, _+_, _-_, _*_, _/_, _≤_, _<_}
+use mathlib.Core.Path.{_≡_, refl, sym}
 use mathlib.Core.Bool.{Bool, true, false}
 use mathlib.Core.List.{List, [], _∷_, _++_}
 use native.Mathlib.Nat.{add-zero}
@@ -11,8 +11,8 @@ use lib.Dec.{ltb}
 use borrow.Author.Tests.{lt-ltb, le-ltb, ltb-true, ltb-false}
 use Rattle.words.specs.declared.Order.the-variants.{MostFirst}
 use Rattle.words.specs.Orders.{bytesOf}
-use Rattle.words.specs.Slices.{put, putAt, numberAt}
-use Rattle.words.proofs.Slices.{put-in, number-in}
+use Rattle.words.specs.Slices.{put, putAt}
+use Rattle.words.proofs.Slices.{put-in}
 use Rattle.flow.specs.Beats.{beatsIn, beatBytes}
 use Rattle.flow.proofs.Streams.{length-beats, next-beat}
 use Rattle.machine.specs.Turns.{some}

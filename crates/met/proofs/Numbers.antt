@@ -21,7 +21,7 @@ use Rattle.machine.specs.declared.Work.{Work}
 use Rattle.machine.specs.declared.Fault.{Fault}
 use Rattle.machine.specs.declared.Phase.{Phase}
 use Rattle.machine.specs.declared.Phase.the-variants.{Rest, Fetch, Move, WriteBack, Ended, Halted, Faulted}
-use Rattle.image.specs.Layout.{flag}
+use Rattle.words.specs.Bits.{flag}
 use Rattle.machine.specs.State.{phaseNumber}
 use Rattle.machine.specs.Saved.{none, noFault, inHand, faultIn}
 

@@ -19,7 +19,7 @@ use Rattle.machine.specs.declared.Work.{Work}
 use Rattle.machine.specs.declared.Phase.{Phase}
 use Rattle.machine.specs.declared.Phase.the-variants.{Fetch, Move, WriteBack}
 use Rattle.machine.specs.State.{withPhase}
-use Rattle.machine.specs.Step.{World, Answer, taken, wantsLength, fetched, sourceOf, destinationOf, whole, withByte, onward, copyStep, beatFor, sendTo, sendStep, receiveFrom, moveStep, writtenControl, writtenBack, completed, writeBackStep, stepIn, step}
+use Rattle.machine.specs.Step.{World, Answer, wantsLength, fetched, sourceOf, destinationOf, whole, withByte, onward, copyStep, beatFor, sendTo, sendStep, receiveFrom, moveStep, writtenControl, writtenBack, completed, writeBackStep, stepIn, step}
 use Rattle.met.specs.Unused.{SameUse, descriptorUnder, workUnder, phaseUnder, worldUnder, answerUnder, answerOver}
 
 -- ---- they have no effect

@@ -3,7 +3,7 @@
 use Prim.Native.Nat.{_≤_, _<_}
 use mathlib.Core.Bool.{Bool, true, false}
 use native.Mathlib.Omega.{arith}
-use Rattle.image.specs.Layout.{flag}
+use Rattle.words.specs.Bits.{flag}
 use Rattle.regs.specs.declared.Status.{Status}
 use Rattle.regs.specs.Status.{statusNumber}
 

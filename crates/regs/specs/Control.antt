@@ -4,7 +4,6 @@ use Prim.Native.Nat.{ℕ, _+_, _/_, _%_}
 use mathlib.Core.Bool.{Bool, true, false, not, cond, _&&_, _||_}
 use lib.Dec.{eqb, leb}
 use Rattle.words.specs.Bits.{bit}
-use Rattle.image.specs.Rules as rule
 use Rattle.regs.specs.declared.Control.{Control}
 use Rattle.regs.specs.declared.Count.{Count}
 
@@ -24,7 +23,7 @@ abbrev pub ieGlobal : Control → Bool
 ieGlobal c = bit 4 (c .0)
 
 abbrev pub run : Control → Bool
-run c = rule.run (c .0)
+run c = bit 5 (c .0)
 
 abbrev pub stopDmaEr : Control → Bool
 stopDmaEr c = bit 6 (c .0)
@@ -37,7 +36,7 @@ abbrev pub maxDescProcessed : Control → ℕ
 maxDescProcessed c = c .0 / 256 % 256
 
 abbrev pub swReset : Control → Bool
-swReset c = rule.swReset (c .0)
+swReset c = bit 16 (c .0)
 
 abbrev pub park : Control → Bool
 park c = bit 17 (c .0)

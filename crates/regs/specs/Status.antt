@@ -2,8 +2,7 @@
 -- Assumes nothing.
 use Prim.Native.Nat.{ℕ, _+_, _*_}
 use mathlib.Core.Bool.{Bool, true, not, _&&_, _||_}
-use Rattle.words.specs.Bits.{bit}
-use Rattle.image.specs.Layout.{flag}
+use Rattle.words.specs.Bits.{bit, flag}
 use Rattle.regs.specs.declared.Status.{Status}
 
 -- 0 ERROR, 1 EOP_ENCOUNTERED, 2 DESCRIPTOR_COMPLETED, 3 CHAIN_COMPLETED, 4 BUSY; others 0

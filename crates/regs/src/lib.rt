@@ -3,7 +3,7 @@
 ghost use mathlib.Core.Path.{_≡_};
 ghost use Prim.Native.Nat.{_≤_};
 ghost use Rattle.words.specs.Promise.{Gives};
-ghost use Rattle.image.specs.Layout.{flag as flagOf};
+ghost use Rattle.words.specs.Bits.{flag as flagOf};
 ghost use Rattle.regs.specs.Modes.{modeNumber, modeOf, checkedMode};
 ghost use Rattle.regs.specs.Status.{statusNumber, statusOf, clearedBy, chainEnded, statusBack};
 ghost use Rattle.regs.specs.Control.{resetBy, countFrom, pends as pendsOf, lineUp, counted};

@@ -14,7 +14,7 @@ use lib.Dec.{leb}
 use lib.ListN.{length}
 use borrow.Author.Tests.{eq-eqb, ne-eqb}
 use Rattle.bus.specs.declared.Refusal.{Refusal}
-use Rattle.bus.specs.declared.Refusal.the-variants.{NoRegister, BadMode, BadWindow, BadSize, BadImage}
+use Rattle.bus.specs.declared.Refusal.the-variants.{NoRegister, BadMode, BadSize, BadImage}
 use Rattle.bus.specs.declared.Window.{Window}
 use Rattle.bus.specs.declared.CheckedWindow.the-variants as window
 use Rattle.bus.specs.Window.{keepsLimits, checkedOf}

@@ -4,14 +4,14 @@ use Rattle.regs.specs.Control.{lineUp}
 use Rattle.regs.specs.Offsets.{isRegister}
 use Rattle.machine.proofs.Answers.{was-loaded, was-register}
 use Prim.Native.Nat.{ℕ}
-use mathlib.Core.Path.{_≡_, refl, sym, ap, _∙_}
+use mathlib.Core.Path.{_≡_, sym, ap, _∙_}
 use mathlib.Core.Bool.{Bool, true, false, cond, _&&_}
 use mathlib.Core.List.{List}
 use native.Mathlib.Omega.{arith}
 use lib.ListN.{length}
 use borrow.Author.Tests.{eq-eqb, ne-eqb}
 use Rattle.bus.specs.declared.Refusal.{Refusal}
-use Rattle.bus.specs.declared.Refusal.the-variants.{NoRegister, BadSize, BadImage}
+use Rattle.bus.specs.declared.Refusal.the-variants.{NoRegister, BadImage}
 use Rattle.image.specs.declared.Fields.{Fields}
 use Rattle.image.specs.declared.ReadImage.the-variants as read
 use Rattle.image.specs.Layout.{fields}
@@ -22,7 +22,7 @@ use Rattle.machine.specs.declared.Machine.{Machine}
 use Rattle.machine.specs.declared.LoadedMachine.the-variants.{Good, Refused}
 use Rattle.machine.specs.declared.registers.ReadRegister.{ReadRegister}
 use Rattle.machine.specs.declared.registers.WroteRegister.the-variants as wrote
-use Rattle.machine.specs.Saved.{keeps, loadedAs, loadOf, WasLoaded}
+use Rattle.machine.specs.Saved.{keeps, loadedAs, loadOf}
 use Rattle.machine.specs.declared.registers.Line.the-variants as line
 use Rattle.machine.specs.Registers.{registerAt, readOf, writtenTo, writeOf, lineOf, WasRead}
 use Rattle.met.proofs.RoundTrip.{loaded-keeps}

@@ -16,9 +16,9 @@ use Rattle.machine.specs.declared.RunAnswer.{RunAnswer}
 use Rattle.machine.specs.declared.RunAnswer.the-variants as ran
 use Rattle.machine.specs.declared.LoadedMachine.{LoadedMachine}
 use Rattle.machine.specs.declared.LoadedMachine.the-variants.{Good, Refused}
-use Rattle.machine.specs.Saved.{keeps, loadOf, WasLoaded}
+use Rattle.machine.specs.Saved.{keeps, loadOf}
 use Rattle.machine.specs.Step.{World}
-use Rattle.machine.specs.Run.{run, Lent, serves, refused, lentIf, worldOf, takenSince, ranAs, runAnswer, runNumber, HasRun, readyOf, Resumed}
+use Rattle.machine.specs.Run.{run, Lent, serves, refused, lentIf, worldOf, ranAs, runAnswer, runNumber, HasRun, readyOf, Resumed}
 use Rattle.machine.proofs.StepLaws.{took-since}
 use Rattle.machine.proofs.RunLaws.{run-tells}
 use Rattle.machine.proofs.Outcomes.{resumed-runs}

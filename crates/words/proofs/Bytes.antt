@@ -1,7 +1,7 @@
 -- Lists whose elements are bytes.
 -- Assumes nothing.
 use Prim.Native.Nat.{ℕ, zero, suc, _<_}
-use mathlib.Core.List.{List, [], _∷_, _++_, reverseAux, reverse}
+use mathlib.Core.List.{List, [], _∷_, _++_, reverseAux}
 use lib.ListN.{length, take, drop, getD}
 use Rattle.words.specs.declared.Order.{Order}
 use Rattle.words.specs.declared.Order.the-variants.{MostFirst, LeastFirst}

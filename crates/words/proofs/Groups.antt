@@ -1,7 +1,7 @@
 -- A long run of fields, read in groups that end at the same bits. With it a packer works a word at a time, and never meets
 -- the one long number.
 -- Assumes nothing.
-use Prim.Native.Nat.{ℕ, zero, suc, _+_, _*_, _<_, _≤_, _^_}
+use Prim.Native.Nat.{ℕ, _+_, _≤_}
 use mathlib.Core.Path.{_≡_, refl, sym, ap, _∙_, subst}
 use mathlib.Core.List.{List, [], _∷_, _++_, map}
 use native.Mathlib.Nat.{suc-ne-zero, suc-inj}
@@ -9,7 +9,7 @@ use native.Mathlib.Omega.{arith}
 use lib.ListN.{length, take, drop, take-append-drop, length-drop}
 use lib.Seq.{length-take-le}
 use Rattle.words.specs.declared.Order.the-variants.{MostFirst}
-use Rattle.words.specs.Numbers.{total, join, split, recode, bytes, Fit}
+use Rattle.words.specs.Numbers.{total, join, recode, bytes, Fit}
 use Rattle.words.specs.Orders.{wordBytes}
 use Rattle.words.proofs.Recode.{total-append, recode-append}
 use Rattle.words.specs.Slices.{AllBytes}

@@ -4,7 +4,7 @@
 use Prim.Native.Nat.{ℕ, suc, _+_, _*_, _%_, _^_}
 use mathlib.Core.Path.{_≡_, refl, sym, ap, subst, _∙_}
 use mathlib.Core.List.{List, [], _∷_, _++_, append-assoc, reverse, reverse-reverse}
-use native.Mathlib.Nat.{mod-lt, mod-eq-of-lt, suc-ne-zero, suc-inj}
+use native.Mathlib.Nat.{mod-lt, mod-eq-of-lt, suc-ne-zero}
 use native.Mathlib.Omega.{arith}
 use lib.ListN.{length, take, drop, length-append, length-replicate, length-reverse, length-drop, take-append-drop}
 use lib.Seq.{take-at, drop-at, length-take-le}

@@ -1,16 +1,14 @@
 -- The laws of `recode`, over any widths: reading at other widths and back gives the same values, and two runs of fields
 -- that end at the same bit are read one after the other.
 -- Assumes nothing.
-use Prim.Native.Nat.{ℕ, zero, suc, _+_, _*_, _/_, _%_, _^_, _<_, _≤_}
-use mathlib.Core.Path.{_≡_, refl, sym, ap, _∙_, subst, subst⁻¹}
+use Prim.Native.Nat.{ℕ, suc, _+_, _*_, _/_, _%_, _^_, _<_}
+use mathlib.Core.Path.{_≡_, refl, sym, ap}
 use mathlib.Core.List.{List, [], _∷_, _++_}
-use native.Mathlib.Nat.{add-assoc, mul-assoc, add-mul, mod-lt, mod-one, mod-eq-of-lt, mul-add-div-right, mul-add-mod-self-right, lt-of-lt-of-le, le-of-eq, suc-mul, mul-le-mul-right, add-zero, zero-add, zero-mul, add-comm, mul-one, suc-ne-zero, suc-inj}
+use native.Mathlib.Nat.{add-assoc, mul-assoc, add-mul, mod-lt, mod-one, mod-eq-of-lt, mul-add-div-right, mul-add-mod-self-right, suc-mul, mul-le-mul-right, zero-add, zero-mul, add-comm, suc-ne-zero, suc-inj}
 use native.Mathlib.Omega.{arith}
-use lib.ListN.{length, take, drop, replicate, length-append, take-append-drop}
-use lib.Seq.{drop-drop, length-take-le}
-use lib.Pow.{pow-add, pow-pos, high, low, shr-lt, shr-shr, mod-pow-add}
-use lib.Pow as Pow
-use Rattle.words.specs.Numbers.{total, join, split, recode, bytes, Fit}
+use lib.ListN.{length}
+use lib.Pow.{pow-add, pow-pos, high, shr-shr, mod-pow-add}
+use Rattle.words.specs.Numbers.{total, join, split, recode, Fit}
 
 pub fit-length : (ws vs : List ℕ) → Fit ws vs → length vs ≡ length ws
 fit-length [] [] f = refl

@@ -2,9 +2,8 @@ use Rattle.descriptor.proofs.Reading.{there, not-there}
 use Rattle.descriptor.specs.Layout.{descriptorOf}
 use Rattle.words.specs.Slices.{part}
 use Prim.Native.Nat.{ℕ}
-use mathlib.Core.List.{List}
 use native.Mathlib.Omega.{arith}
-use mathlib.Core.Path.{_≡_, sym, ap, _∙_}
+use mathlib.Core.Path.{sym, ap, _∙_}
 use borrow.Author.Needs.{needs}
 use Rattle.descriptor.proofs.at.Statement.{statement}
 use Rattle.descriptor.proofs.at.Tie as tie

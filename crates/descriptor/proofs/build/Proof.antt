@@ -5,7 +5,7 @@ use Rattle.descriptor.specs.declared.Slot.{Slot}
 use lib.ListN.{length}
 use Rattle.words.specs.Slices.{putAt}
 use Prim.Native.Nat.{ℕ}
-use mathlib.Core.Path.{_≡_, sym, ap, subst, _∙_}
+use mathlib.Core.Path.{sym, ap, subst, _∙_}
 use borrow.Author.Needs.{needs}
 use Rattle.descriptor.proofs.build.Statement.{statement}
 use Rattle.descriptor.proofs.build.Tie as tie

@@ -1,4 +1,4 @@
-use mathlib.Core.Path.{_≡_, ap, _∙_}
+use mathlib.Core.Path.{ap, _∙_}
 use Rattle.words.specs.Slices.{putAt}
 use Rattle.descriptor.proofs.Writing.{eight-words}
 use borrow.Author.Needs.{needs}

@@ -1,8 +1,7 @@
 use Rattle.descriptor.proofs.Reading.{was-read}
 use Rattle.descriptor.specs.Calls.{found}
-use Rattle.descriptor.specs.declared.Slot.{Slot}
 use Rattle.descriptor.specs.declared.ReadDescriptor.the-variants.{Good}
-use mathlib.Core.Path.{_≡_, sym, ap, _∙_}
+use mathlib.Core.Path.{sym, ap, _∙_}
 use borrow.Author.Needs.{needs}
 use Rattle.descriptor.proofs.read.Statement.{statement}
 use Rattle.descriptor.proofs.read.Tie as tie

@@ -1,8 +1,7 @@
 use Rattle.bus.specs.declared.Located.{Located}
 use Rattle.bus.specs.Window.{Within}
 use Rattle.descriptor.proofs.Slots.{no-window, misaligned, outside, at-place}
-use native.Mathlib.Omega.{arith}
-use mathlib.Core.Path.{_≡_, sym, subst, _∙_}
+use mathlib.Core.Path.{sym, subst, _∙_}
 use borrow.Author.Needs.{needs}
 use Rattle.descriptor.proofs.slot_of.Statement.{statement}
 use Rattle.descriptor.proofs.slot_of.Tie as tie

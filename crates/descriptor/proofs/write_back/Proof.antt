@@ -4,7 +4,7 @@ use Rattle.words.proofs.Slices.{put-out}
 use Rattle.words.specs.Slices.{putAt}
 use native.Mathlib.Omega.{arith}
 use Prim.Native.Nat.{ℕ, _+_}
-use mathlib.Core.Path.{_≡_, sym, ap, _∙_}
+use mathlib.Core.Path.{sym, ap, _∙_}
 use borrow.Author.Needs.{needs}
 use Rattle.descriptor.proofs.write_back.Statement.{statement}
 use Rattle.descriptor.proofs.write_back.Tie as tie

@@ -1,7 +1,7 @@
 use mathlib.Core.Path.{_≡_, refl}
 use mathlib.Core.Bool.{Bool, true, false}
 use mir.Val.{boolByte}
-use Rattle.image.specs.Layout.{flag}
+use Rattle.words.specs.Bits.{flag}
 use borrow.Author.Needs.{needs}
 use Rattle.image.proofs.bit.Statement.{statement}
 use Rattle.image.proofs.bit.Tie as tie

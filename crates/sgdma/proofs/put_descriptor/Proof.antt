@@ -3,7 +3,7 @@ use Rattle.words.specs.Orders.{bytesOf}
 use Rattle.words.specs.declared.Order.the-variants.{MostFirst}
 use Prim.Native.Nat.{ℕ, _+_, _*_}
 use mathlib.Core.List.{List}
-use mathlib.Core.Path.{_≡_, ap, _∙_}
+use mathlib.Core.Path.{ap, _∙_}
 use Rattle.sgdma.proofs.Filled.{answer-filled}
 use borrow.Author.Needs.{needs}
 use Rattle.sgdma.proofs.put_descriptor.Statement.{statement}

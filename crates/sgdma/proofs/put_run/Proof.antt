@@ -1,8 +1,8 @@
 use Rattle.words.specs.Orders.{rowBytes}
 use Rattle.words.specs.declared.Order.the-variants.{MostFirst}
 use Prim.Native.Nat.{ℕ}
-use mathlib.Core.List.{List, [], _∷_}
-use mathlib.Core.Path.{_≡_, ap, _∙_}
+use mathlib.Core.List.{[], _∷_}
+use mathlib.Core.Path.{ap, _∙_}
 use borrow.Author.Needs.{needs}
 use Rattle.sgdma.proofs.put_run.Statement.{statement}
 use Rattle.sgdma.proofs.put_run.Tie as tie

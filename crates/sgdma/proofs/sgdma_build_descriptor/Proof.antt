@@ -1,5 +1,5 @@
 use Rattle.descriptor.specs.Calls.{builtNumber}
-use mathlib.Core.Path.{_≡_, sym, ap, _∙_}
+use mathlib.Core.Path.{sym, ap, _∙_}
 use borrow.Author.Needs.{needs}
 use Rattle.sgdma.proofs.sgdma_build_descriptor.Statement.{statement}
 use Rattle.sgdma.proofs.sgdma_build_descriptor.Tie as tie

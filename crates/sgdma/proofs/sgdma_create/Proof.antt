@@ -1,6 +1,6 @@
 use Rattle.sgdma.proofs.Changed.{create-short, create-no-mode, create-no-window, create-keeps, create-done}
 use Rattle.sgdma.specs.Calls.{imageOf}
-use mathlib.Core.Path.{_≡_, refl, sym, ap, _∙_}
+use mathlib.Core.Path.{refl, sym, ap, _∙_}
 use borrow.Author.Needs.{needs}
 use Rattle.sgdma.proofs.sgdma_create.Statement.{statement}
 use Rattle.sgdma.proofs.sgdma_create.Tie as tie

@@ -1,5 +1,5 @@
 use Rattle.sgdma.proofs.Answered.{answer-short, descriptor-answers}
-use mathlib.Core.Path.{_≡_, refl, sym, _∙_}
+use mathlib.Core.Path.{refl}
 use borrow.Author.Needs.{needs}
 use Rattle.sgdma.proofs.sgdma_read_descriptor.Statement.{statement}
 use Rattle.sgdma.proofs.sgdma_read_descriptor.Tie as tie

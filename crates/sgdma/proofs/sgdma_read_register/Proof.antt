@@ -1,5 +1,5 @@
 use Rattle.sgdma.proofs.Answered.{value-put, register-short, value-short, register-spoiled, register-answers}
-use mathlib.Core.Path.{_≡_, refl, sym, _∙_}
+use mathlib.Core.Path.{refl, sym, _∙_}
 use borrow.Author.Needs.{needs}
 use Rattle.sgdma.proofs.sgdma_read_register.Statement.{statement}
 use Rattle.sgdma.proofs.sgdma_read_register.Tie as tie

@@ -1,6 +1,6 @@
 use Rattle.sgdma.proofs.Running.{ran-fits, ran-keeps, run-short, report-short, run-spoiled, run-answers}
 use Rattle.words.proofs.Bytes.{all-bytes}
-use mathlib.Core.Path.{_≡_, refl, sym, _∙_}
+use mathlib.Core.Path.{refl, sym, _∙_}
 use borrow.Author.Needs.{needs}
 use Rattle.sgdma.proofs.sgdma_run.Statement.{statement}
 use Rattle.sgdma.proofs.sgdma_run.Tie as tie

@@ -1,4 +1,4 @@
-use mathlib.Core.Path.{_≡_, refl, sym, _∙_}
+use mathlib.Core.Path.{refl, sym, _∙_}
 use borrow.Author.Tests.{not-true, not-false}
 use Rattle.sgdma.proofs.Changed.{written-keeps, image-short, image-spoiled, no-register, written-done}
 use borrow.Author.Needs.{needs}

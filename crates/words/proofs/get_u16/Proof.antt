@@ -1,8 +1,8 @@
 use native.Mathlib.Numerals.{towards-suc}
 use Rattle.words.proofs.Slices.{elements-number}
-use mathlib.Core.Path.{_≡_, sym, ap, _∙_}
+use mathlib.Core.Path.{sym, _∙_}
 use native.Mathlib.Omega.{arith}
-use Rattle.words.proofs.Slices.{number-in, number-out}
+use Rattle.words.proofs.Slices.{number-out}
 use borrow.Author.Needs.{needs}
 use Rattle.words.proofs.get_u16.Statement.{statement}
 use Rattle.words.proofs.get_u16.Tie as tie

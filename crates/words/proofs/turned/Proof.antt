@@ -1,6 +1,5 @@
 use Rattle.words.proofs.Recode.{join-split}
 use Rattle.words.specs.Numbers.{bytes}
-use native.Mathlib.Omega.{arith}
 use native.Mathlib.Nat.{div-one, mod-eq-of-lt}
 use mathlib.Core.Path.{sym, _∙_}
 use Prim.Native.Nat.{_<_}

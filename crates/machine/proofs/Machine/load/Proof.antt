@@ -1,7 +1,7 @@
 use Rattle.machine.proofs.Answers.{was-loaded}
 use Rattle.machine.specs.Saved.{loadedAs, loadOf}
 use Rattle.machine.specs.declared.LoadedMachine.the-variants.{Good}
-use mathlib.Core.Path.{_≡_, sym, ap, _∙_}
+use mathlib.Core.Path.{sym, ap, _∙_}
 use borrow.Author.Needs.{needs}
 use Rattle.machine.proofs.Machine.load.Statement.{statement}
 use Rattle.machine.proofs.Machine.load.Tie as tie

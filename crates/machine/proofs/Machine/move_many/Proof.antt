@@ -1,4 +1,3 @@
-use Prim.Native.Nat.{_≤_}
 use native.Mathlib.Omega.{arith}
 use Rattle.machine.proofs.Bulk.{moving, burst-told}
 use borrow.Author.Needs.{needs}

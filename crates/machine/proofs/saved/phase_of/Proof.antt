@@ -4,7 +4,7 @@ use Rattle.machine.specs.declared.Phase.the-variants.{Rest, Fetch, Move,
 use Prim.Native.Nat.{_≤_}
 use lib.ListN.{List·getD-eq-default}
 use native.Mathlib.Omega.{arith}
-use mathlib.Core.Path.{sym, ap, _∙_}
+use mathlib.Core.Path.{sym}
 use borrow.Author.Needs.{needs}
 use Rattle.machine.proofs.saved.phase_of.Statement.{statement}
 use Rattle.machine.proofs.saved.phase_of.Tie as tie
