@@ -10,13 +10,13 @@ use mathlib.Core.List.{List, [], _∷_, _++_}
 use lib.Bits.{bitOr}
 use lib.Dec.{eqb}
 use lib.ListN.{length, getD, take, drop}
-use Rattle.words.specs.Bits.{bit}
 use Rattle.words.specs.Slices.{part}
 use Rattle.bus.specs.declared.Window.{Window}
 use Rattle.bus.specs.Window.{inWindow, placeOf}
 use Rattle.descriptor.specs.declared.Descriptor.{Descriptor}
 use Rattle.descriptor.specs.Layout.{writeFixed, owned, descriptorAt, lastFour}
 use Rattle.regs.specs.declared.Mode.the-variants.{StreamToMemory}
+use Rattle.regs.specs.Control as register
 use Rattle.machine.specs.declared.Machine.{Machine}
 use Rattle.machine.specs.declared.Reason.the-variants.{Ended, Budget}
 use Rattle.machine.specs.declared.Ran.{Ran}
@@ -175,9 +175,9 @@ sent g = sentByAll (shares g)
 
 pub record Premises (g : Given) : Type 0 where
   -- "RUN set with PARK and STOP_DMA_ER clear"
-  pub run-set : bit 5 (g .control) ≡ true
-  pub park-clear : bit 17 (g .control) ≡ false
-  pub stop-clear : bit 6 (g .control) ≡ false
+  pub run-set : register.run (register.asControl (g .control)) ≡ true
+  pub park-clear : register.park (register.asControl (g .control)) ≡ false
+  pub stop-clear : register.stopDmaEr (register.asControl (g .control)) ≡ false
   -- the window is lent whole, and what it holds is bytes
   pub lent : length (g .memory) ≡ g .window .length
   pub bytes : All (λ x. x < 256) (g .memory)

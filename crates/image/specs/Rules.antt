@@ -72,10 +72,10 @@ abbrev pub busy : ℕ → Bool
 busy status = statusOf status .busy
 
 abbrev pub run : ℕ → Bool
-run control = register.run (record { 0 = control })
+run control = register.run (register.asControl control)
 
 abbrev pub swReset : ℕ → Bool
-swReset control = register.swReset (record { 0 = control })
+swReset control = register.swReset (register.asControl control)
 
 -- ---- the rules
 

@@ -3,7 +3,6 @@ ghost use mathlib.Core.Bool.{true};
 ghost use mathlib.Core.Path.{_≡_};
 ghost use mathlib.Core.List.{[], _∷_};
 ghost use lib.ListN.{length};
-ghost use Rattle.words.specs.Bits.{flag};
 ghost use Rattle.words.specs.Numbers.{join, Fit};
 ghost use Rattle.words.specs.Promise.{Gives, Leaves};
 ghost use Rattle.words.specs.Slices.{numberAt};
@@ -23,6 +22,7 @@ use descriptor::DescControl;
 use regs::Control;
 use regs::Status;
 use words::Order;
+use words::flag;
 use words::has;
 
 // The image's fields in layout order. A field of one bit is a bool, so that it fits by its type.
@@ -320,13 +320,6 @@ pub fn keeps(f: Fields) -> bool
     nothing_kept(f)
 }
 
-// A bool as its bit.
-fn bit(b: bool) -> u8
-    ensures { λ r. ⌜ r ≡ flag b ⌝ }
-{
-    b as u8
-}
-
 // The first word's fields side by side, in order.
 fn head(
     edition: u8,
@@ -381,8 +374,8 @@ fn pack(f: Fields, to: &mut [u8])
             f.edition,
             f.mode,
             f.phase,
-            bit(f.armed),
-            bit(f.pending),
+            flag(f.armed),
+            flag(f.pending),
             f.fault,
             f.status,
             f.count,
@@ -395,7 +388,7 @@ fn pack(f: Fields, to: &mut [u8])
         f.source,
         f.destination,
         sizes(f.size, f.dcontrol, f.errors),
-        done(f.moved, bit(f.eop), f.rest),
+        done(f.moved, flag(f.eop), f.rest),
         f.faultat,
     ];
     words::put_words(Order::MostFirst, to, 0, &words);

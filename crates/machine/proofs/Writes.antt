@@ -3,10 +3,9 @@
 use Prim.Native.Nat.{ℕ, _%_, _^_}
 use mathlib.Core.Path.{_≡_, refl, ap, _∙_}
 use mathlib.Core.Bool.{Bool, true, false, not, cond, _&&_}
-use Rattle.words.specs.Bits.{bit}
 use Rattle.bus.specs.declared.Refusal.the-variants.{NoRegister, BadImage}
 use Rattle.regs.specs.Offsets.{isRegister}
-use Rattle.regs.specs.Control.{resetBy, countFrom}
+use Rattle.regs.specs.Control.{run, clearInterrupt, asControl, resetBy, countFrom}
 use Rattle.machine.specs.declared.Machine.{Machine}
 use Rattle.machine.specs.declared.registers.WroteRegister.the-variants as wrote
 use Rattle.machine.specs.Saved.{keeps}
@@ -31,7 +30,7 @@ module _ (v : ℕ) (m : Machine) where
   unfolding controlWritten
   write-resets e = rw e
 
-  pub stored-by : {clears : Bool} {count : ℕ} → clears ≡ bit 31 v → count ≡ countFrom v (m .control) (m .count)
+  pub stored-by : {clears : Bool} {count : ℕ} → clears ≡ clearInterrupt (asControl v) → count ≡ countFrom v (m .control) (m .count)
       → withControl (v % 2 ^ 18) (m .pending && not clears) count m ≡ stored v m
   stored-by p n = rw (p, n)
 
@@ -44,18 +43,18 @@ module _ (v : ℕ) (m : Machine) where
   ends false false p e = released-if p (stored v m) ∙ rw e
 
   module _ (e : resetBy v (m .control) ≡ false) where
-    pub write-runs : bit 5 v ≡ true → controlWritten v m ≡ stored v m
+    pub write-runs : run (asControl v) ≡ true → controlWritten v m ≡ stored v m
     unfolding controlWritten
     write-runs f = rw (e, f)
 
-    written : controlWritten v m ≡ cond (stands (m .phase) && not (bit 5 v)) (rested (stored v m)) (stored v m)
+    written : controlWritten v m ≡ cond (stands (m .phase) && not (run (asControl v))) (rested (stored v m)) (stored v m)
     unfolding controlWritten
-    written = rw e (ends (bit 5 v) _ (m .phase) refl)
+    written = rw e (ends (run (asControl v)) _ (m .phase) refl)
 
-    pub write-ends : (stands (m .phase) && not (bit 5 v)) ≡ true → controlWritten v m ≡ rested (stored v m)
+    pub write-ends : (stands (m .phase) && not (run (asControl v))) ≡ true → controlWritten v m ≡ rested (stored v m)
     write-ends h = written ∙ rw h
 
-    pub write-stays : (stands (m .phase) && not (bit 5 v)) ≡ false → controlWritten v m ≡ stored v m
+    pub write-stays : (stands (m .phase) && not (run (asControl v))) ≡ false → controlWritten v m ≡ stored v m
     write-stays h = written ∙ rw h
 
 -- ---- a register write, by the tests that led there

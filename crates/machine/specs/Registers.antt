@@ -3,11 +3,10 @@
 use Prim.Native.Nat.{ℕ, _%_, _^_}
 use mathlib.Core.Path.{_≡_, sym, _∙_}
 use mathlib.Core.Bool.{Bool, true, not, cond, _&&_}
-use Rattle.words.specs.Bits.{bit}
 use Rattle.bus.specs.Refusal.{refusalNumber}
 use Rattle.bus.specs.declared.Refusal.the-variants.{NoRegister, BadImage}
 use Rattle.regs.specs.Status.{statusNumber, clearedBy}
-use Rattle.regs.specs.Control.{resetBy, countFrom, lineUp}
+use Rattle.regs.specs.Control.{run, clearInterrupt, asControl, resetBy, countFrom, lineUp}
 use Rattle.regs.specs.Offsets.{chosen, isRegister}
 use Rattle.machine.specs.declared.Machine.{Machine}
 use Rattle.machine.specs.declared.Phase.{Phase}
@@ -29,7 +28,7 @@ statusWritten v m = withStatus (clearedBy v (m .status)) m
 -- bits 0..17 are stored; bit 31 clears the pending interrupt; RUN going 0 to 1 sets the descriptor count to 0
 abbrev pub stored : ℕ → Machine → Machine
 stored v m =
-    withControl (v % 2 ^ 18) (m .pending && not (bit 31 v)) (countFrom v (m .control) (m .count)) m
+    withControl (v % 2 ^ 18) (m .pending && not (clearInterrupt (asControl v))) (countFrom v (m .control) (m .count)) m
 
 -- RUN 0: Ended or Halted goes to Rest with BUSY 0. Faulted stays: only reset leaves it
 abbrev pub released : Phase → Machine → Machine
@@ -46,7 +45,7 @@ released (Faulted f) m = m
 unfoldable pub controlWritten : ℕ → Machine → Machine
 controlWritten v m =
     cond (resetBy v (m .control)) (fresh (m .mode) (m .window))
-    (cond (bit 5 v) (stored v m) (released (m .phase) (stored v m)))
+    (cond (run (asControl v)) (stored v m) (released (m .phase) (stored v m)))
 
 -- at an offset that is none nothing is written
 abbrev pub writtenTo : Machine → (offset v : ℕ) → Machine

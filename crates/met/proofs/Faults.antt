@@ -3,12 +3,9 @@
 -- Assumes nothing.
 use Prim.Native.Nat.{ℕ}
 use mathlib.Core.Path.{_≡_, refl, sym, ap, subst, _∙_}
-use mathlib.Core.Bool.{_&&_}
 use lib.Dec.{eqb}
 use borrow.Author.Tests.{eqb-true}
-use Rattle.words.specs.Bits.{bit}
-use Rattle.image.proofs.Tests.{and-left, and-right}
-use Rattle.regs.specs.Control.{swReset}
+use Rattle.regs.specs.Control as register
 use Rattle.regs.specs.Offsets.{isRegister}
 use Rattle.machine.specs.declared.Machine.{Machine}
 use Rattle.machine.specs.declared.Fault.{Fault}
@@ -42,9 +39,8 @@ module _ (m : Machine) (f : Fault) (p : m .phase ≡ Faulted f) (v : ℕ) where
   after-control : (offset : ℕ) → offset ≡ 4 → AfterWrite m f offset v (controlWritten v m)
   unfolding controlWritten
   after-control offset e =
-      on (AfterWrite m f offset v) (bit 16 v && swReset (m .control))
-      (λ r. reset e (and-left _ _ r) (and-right (bit 16 v) _ r) refl)
-      (λ r. on (AfterWrite m f offset v) (bit 5 v) (λ g. stays p) (λ g. stays released-stays))
+      on (AfterWrite m f offset v) (register.resetBy v (m .control)) (λ r. reset e r refl)
+      (λ r. on (AfterWrite m f offset v) (register.run (register.asControl v)) (λ g. stays p) (λ g. stays released-stays))
 
   after : (offset : ℕ) → After m f v offset (writeOf m offset v)
   unfolding writeOf

@@ -4,8 +4,7 @@
 use Prim.Native.Nat.{ℕ}
 use mathlib.Core.Path.{_≡_}
 use mathlib.Core.Bool.{true}
-use Rattle.words.specs.Bits.{bit}
-use Rattle.regs.specs.Control.{swReset}
+use Rattle.regs.specs.Control.{resetBy}
 use Rattle.machine.specs.declared.Machine.{Machine}
 use Rattle.machine.specs.declared.Fault.{Fault}
 use Rattle.machine.specs.declared.Phase.the-variants.{Faulted}
@@ -14,4 +13,4 @@ use Rattle.machine.specs.State.{fresh}
 -- it stays Faulted, with its code and address; or bit 16 of control is written and already reads 1, and it is fresh again
 pub data AfterWrite (m : Machine) (f : Fault) (offset v : ℕ) (n : Machine) : Type 0 where
   stays : n .phase ≡ Faulted f → AfterWrite m f offset v n
-  reset : offset ≡ 4 → bit 16 v ≡ true → swReset (m .control) ≡ true → n ≡ fresh (m .mode) (m .window) → AfterWrite m f offset v n
+  reset : offset ≡ 4 → resetBy v (m .control) ≡ true → n ≡ fresh (m .mode) (m .window) → AfterWrite m f offset v n

@@ -41,15 +41,22 @@ swReset c = bit 16 (c .0)
 abbrev pub park : Control → Bool
 park c = bit 17 (c .0)
 
+abbrev pub clearInterrupt : Control → Bool
+clearInterrupt c = bit 31 (c .0)
+
+-- a number, such as the value of a write, by its bits
+abbrev pub asControl : ℕ → Control
+asControl n = record { 0 = n }
+
 -- ---- a write
 
 -- the reset: bit 16 is written and already reads 1
 abbrev pub resetBy : ℕ → Control → Bool
-resetBy v c = bit 16 v && swReset c
+resetBy v c = swReset (asControl v) && swReset c
 
 -- RUN going 0 to 1 sets the descriptor count to 0
 abbrev pub countFrom : ℕ → Control → (count : ℕ) → ℕ
-countFrom v c count = cond (not (run c) && bit 5 v) 0 count
+countFrom v c count = cond (not (run c) && run (asControl v)) 0 count
 
 -- ---- a descriptor written back
 

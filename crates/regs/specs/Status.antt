@@ -15,11 +15,12 @@ statusOf n = record { error = bit 0 n; eop = bit 1 n; descriptor = bit 2 n; chai
 -- writing 1 clears bits 0 to 3; other written bits do nothing
 abbrev pub clearedBy : ℕ → Status → Status
 clearedBy v s =
+    let written = statusOf v in
     record {
-      error = s .error && not (bit 0 v);
-      eop = s .eop && not (bit 1 v);
-      descriptor = s .descriptor && not (bit 2 v);
-      chain = s .chain && not (bit 3 v);
+      error = s .error && not (written .error);
+      eop = s .eop && not (written .eop);
+      descriptor = s .descriptor && not (written .descriptor);
+      chain = s .chain && not (written .chain);
       busy = s .busy;
     }
 

@@ -1,14 +1,12 @@
 // The mode that a core is made in, and its three registers: their numbers and bits, and what becomes of each when it is written, when a
 // descriptor is written back and when the chain ends. (Altera, Embedded Peripherals, chapter 23, as the paper states it.)
-ghost use mathlib.Core.Path.{_≡_};
-ghost use Prim.Native.Nat.{_≤_};
 ghost use Rattle.words.specs.Promise.{Gives};
-ghost use Rattle.words.specs.Bits.{flag as flagOf};
 ghost use Rattle.regs.specs.Modes.{modeNumber, modeOf, checkedMode};
 ghost use Rattle.regs.specs.Status.{statusNumber, statusOf, clearedBy, chainEnded, statusBack};
 ghost use Rattle.regs.specs.Control.{resetBy, countFrom, pends as pendsOf, lineUp, counted};
 ghost use Rattle.regs.specs.Offsets.{isRegister};
 use bus::Refusal;
+use words::flag;
 use words::has;
 
 // What moves where; numbered 0, 1, 2.
@@ -66,13 +64,6 @@ pub struct Status {
     pub busy: bool,
 }
 
-// A flag as its bit.
-fn flag(b: bool) -> u32
-    ensures { λ r. ⌜ (r ≡ flagOf b) × (r ≤ 1) ⌝ }
-{
-    if b { 1 } else { 0 }
-}
-
 impl Status {
     pub const OFFSET: u32 = 0;
 
@@ -90,11 +81,11 @@ impl Status {
     pub fn number(self) -> u32
         ensures { λ r. ⌜ Gives (statusNumber self) r ⌝ }
     {
-        flag(self.error) * Status::ERROR
-            + flag(self.eop) * Status::EOP_ENCOUNTERED
-            + flag(self.descriptor) * Status::DESCRIPTOR_COMPLETED
-            + flag(self.chain) * Status::CHAIN_COMPLETED
-            + flag(self.busy) * Status::BUSY
+        flag(self.error) as u32 * Status::ERROR
+            + flag(self.eop) as u32 * Status::EOP_ENCOUNTERED
+            + flag(self.descriptor) as u32 * Status::DESCRIPTOR_COMPLETED
+            + flag(self.chain) as u32 * Status::CHAIN_COMPLETED
+            + flag(self.busy) as u32 * Status::BUSY
     }
 
     // The register of a number; its bits above 4 are none.

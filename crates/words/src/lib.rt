@@ -5,7 +5,7 @@
 ghost use mathlib.Core.List.{[], _∷_};
 ghost use mathlib.Core.Path.{_≡_};
 ghost use Prim.Native.Nat.{_/_, _%_, _<_};
-ghost use Rattle.words.specs.Bits.{hasBit};
+ghost use Rattle.words.specs.Bits.{hasBit, flag as flagOf};
 ghost use Rattle.words.specs.Numbers.{join, bytes};
 ghost use Rattle.words.specs.Orders.{inOrder, bytesOf, wordBytes};
 ghost use Rattle.words.specs.Slices.{putAt, numberAt};
@@ -26,6 +26,13 @@ pub fn has(n: u32, weight: u32) -> bool
         return false;
     }
     n / weight % 2 == 1
+}
+
+// A flag as its bit.
+pub fn flag(b: bool) -> u8
+    ensures { λ r. ⌜ Gives (flagOf b) r ⌝ }
+{
+    b as u8
 }
 
 // Two bytes as one number, the first foremost.

@@ -4,11 +4,11 @@ use borrow.Author.Needs.{needs}
 use Rattle.image.proofs.pack.Statement.{statement}
 use Rattle.image.proofs.pack.Tie as tie
 
-bit-requires : tie.Need-bit-requires
-bit-requires c κs = search needs
+flag-requires : tie.Need-flag-requires
+flag-requires c κs = search needs
 
-bit-requires-2 : tie.Need-bit-requires-2
-bit-requires-2 c κs = search needs
+flag-requires-2 : tie.Need-flag-requires-2
+flag-requires-2 c κs = search needs
 
 head-requires : tie.Need-head-requires
 head-requires c κs = search needs
@@ -16,11 +16,14 @@ head-requires c κs = search needs
 sizes-requires : tie.Need-sizes-requires
 sizes-requires c κs = search needs
 
-bit-requires-3 : tie.Need-bit-requires-3
-bit-requires-3 c κs = search needs
+flag-requires-3 : tie.Need-flag-requires-3
+flag-requires-3 c κs = search needs
 
 done-requires : tie.Need-done-requires
-done-requires c κs = search needs
+done-requires c κs =
+    let told = c .flag3 .ensures .value in
+    let fit = c .before .before .before .before .before .before .pre .1 in
+    search needs
 
 slice-aggregate-put-words : tie.Need-slice-aggregate-put-words
 slice-aggregate-put-words c = search needs
@@ -47,9 +50,9 @@ returns c =
             done .done .ensures,
             sizes .sizes .ensures,
             head .head .ensures,
-            eop .bit3 .ensures,
-            pending .bit2 .ensures,
-            armed .bit .ensures,
+            eop .flag3 .ensures .value,
+            pending .flag2 .ensures .value,
+            armed .flag .ensures .value,
           ) (sym (image-words (start .args .f) (start .pre .1)));
     }
 
@@ -57,11 +60,11 @@ pub pack-spec : {M : Type 1} → statement M
 pack-spec =
     tie.close
     (tie.spec
-    bit-requires
-    bit-requires-2
+    flag-requires
+    flag-requires-2
     head-requires
     sizes-requires
-    bit-requires-3
+    flag-requires-3
     done-requires
     slice-aggregate-put-words
     put-words-requires
