@@ -10,11 +10,11 @@ use lib.ListN.{length, set, drop}
 use borrow.Author.Tests.{eq-eqb, ne-eqb}
 use Rattle.bus.specs.Window.{inWindow, placeOf}
 use Rattle.descriptor.specs.Layout.{writeFixed}
+use Rattle.flow.specs.Beats.{beatEop}
 use Rattle.machine.specs.declared.Machine.{Machine}
 use Rattle.machine.specs.declared.Work.{Work}
 use Rattle.machine.specs.declared.Phase.the-variants.{Move, WriteBack}
 use Rattle.machine.specs.State.{withPhase}
-use Rattle.flow.specs.Beats.{beatEop}
 use Rattle.machine.specs.Step.{World, whole, destinationOf}
 use Rattle.machine.specs.Laws.{Along, here, more}
 use Rattle.chain.specs.Chain.{All, takes, enough, Sent, sentFrom, gathered}

@@ -11,10 +11,10 @@ use Rattle.words.specs.Bits.{bit}
 use Rattle.bus.specs.declared.Window.{Window}
 use Rattle.bus.specs.declared.Refusal.the-variants.{BadImage}
 use Rattle.bus.specs.Window.{keepsLimits}
+use Rattle.regs.specs.declared.Mode.the-variants.{StreamToMemory}
 use Rattle.image.specs.declared.Fields.{Fields}
 use Rattle.image.specs.Rules.{keepsRules, lowestBroken}
 use Rattle.image.proofs.EachRule.{each-rule, each-keeps}
-use Rattle.regs.specs.declared.Mode.the-variants.{StreamToMemory}
 use Rattle.machine.specs.declared.Machine.{Machine}
 use Rattle.machine.specs.declared.registers.WroteRegister.{WroteRegister}
 use Rattle.machine.specs.declared.registers.WroteRegister.the-variants as wrote

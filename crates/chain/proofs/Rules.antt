@@ -9,18 +9,18 @@ use lib.ListN.{set}
 use borrow.Author.Tests.{eq-eqb}
 use Rattle.words.specs.Slices.{putAt}
 use Rattle.bus.specs.Window.{inWindow, placeOf}
-use Rattle.descriptor.specs.Layout.{owned, lastFour, descriptorAt}
 use Rattle.descriptor.specs.declared.Descriptor.{Descriptor}
+use Rattle.descriptor.specs.Layout.{owned, lastFour, descriptorAt}
 use Rattle.regs.specs.declared.Mode.{Mode}
 use Rattle.regs.specs.declared.Mode.the-variants.{StreamToMemory}
 use Rattle.regs.specs.declared.Control.{Control}
 use Rattle.regs.specs.Control.{run, stopDmaEr, park}
+use Rattle.flow.specs.Beats.{beatError, beatEop, beatData}
 use Rattle.machine.specs.declared.Machine.{Machine}
 use Rattle.machine.specs.declared.Work.{Work}
 use Rattle.machine.specs.declared.Phase.{Phase}
 use Rattle.machine.specs.declared.Phase.the-variants.{Rest, Fetch, Move, WriteBack}
 use Rattle.machine.specs.State.{withPointer, withPhase, withBusy}
-use Rattle.flow.specs.Beats.{beatError, beatEop, beatData}
 use Rattle.machine.specs.Step.{World, taken, became, restStep, ended, wantsLength, begun, fetched, fetchStep, whole, destinationOf, withByte, onward, receiveFrom, moveStep, writtenControl, writtenBack, completed, writeBackStep, stepIn, step}
 use Rattle.chain.specs.Chain.{Link, linkAt}
 

@@ -18,8 +18,8 @@ use Rattle.machine.specs.State.{withPointer, withPhase, withBusy, fresh}
 use Rattle.machine.specs.Registers.{stored}
 use Rattle.machine.specs.Step.{World, became}
 use Rattle.machine.specs.Run.{Report, run, takenSince, ranAs}
-use Rattle.machine.proofs.Writes.{write-runs}
 use Rattle.machine.specs.Laws.{Along, more}
+use Rattle.machine.proofs.Writes.{write-runs}
 use Rattle.machine.proofs.RunLaws.{along-first, along-map, run-to-end, run-short, run-on-way}
 use Rattle.chain.specs.Chain.{All, Given, worldFor, Link, links, last, everyLink, sharesOf, shares, given, cost, Sent, sent, Off, Premises, Done, FirstFew, AtEveryStep, counts, Outcome}
 use Rattle.chain.proofs.Lists.{all-map, all-left, all-right, all-shares}

@@ -12,15 +12,15 @@ use Rattle.words.proofs.Slices.{put-in, part-put}
 use Rattle.bus.specs.declared.Window.{Window}
 use Rattle.bus.specs.Window.{inWindow, placeOf}
 use Rattle.descriptor.specs.Layout.{owned, lastFour}
-use Rattle.image.specs.Rules.{asked}
 use Rattle.regs.specs.declared.Mode.{Mode}
 use Rattle.regs.specs.Modes.{modeNumber}
+use Rattle.image.specs.Rules.{asked}
 use Rattle.machine.specs.declared.Work.{Work}
 use Rattle.machine.specs.declared.Phase.the-variants.{Fetch}
 use Rattle.machine.specs.declared.Reason.the-variants.{Ended}
 use Rattle.machine.specs.Step.{World, taken, stopped, became, ended, begun, whole, step}
-use Rattle.machine.proofs.Puts.{length-put-at, put-off}
 use Rattle.machine.specs.Laws.{Along, here, more}
+use Rattle.machine.proofs.Puts.{length-put-at, put-off}
 use Rattle.machine.proofs.RunLaws.{join, along-map, along-last}
 use Rattle.chain.specs.Chain.{All, Pairwise, Link, linkAt, Off, Apart, wants, takes, Enough, Share, sharesOf, given, cost, gathered, Sent, sentBy, sentByAll, Done}
 use Rattle.chain.proofs.Lists.{all-map, all-map2, all-left, all-right, all-drop, all-each, all-swap, all-shares}

@@ -9,6 +9,7 @@ use lib.ListN.{length}
 use Rattle.words.specs.Promise.{Gives}
 use Rattle.bus.specs.declared.Window.{Window}
 use Rattle.regs.specs.declared.Mode.the-variants.{StreamToMemory}
+use Rattle.flow.specs.Beats.{beatsIn}
 use Rattle.machine.specs.declared.Machine.{Machine}
 use Rattle.machine.specs.declared.registers.WroteRegister.the-variants as wrote
 use Rattle.machine.specs.declared.Ran.{Ran}
@@ -16,7 +17,6 @@ use Rattle.machine.specs.declared.RunAnswer.{RunAnswer}
 use Rattle.machine.specs.declared.RunAnswer.the-variants as many
 use Rattle.machine.specs.State.{fresh}
 use Rattle.machine.specs.Registers.{WasWritten}
-use Rattle.flow.specs.Beats.{beatsIn}
 use Rattle.machine.specs.Run.{even, HasRun}
 use Rattle.chain.specs.Chain.{Given, Outcome}
 

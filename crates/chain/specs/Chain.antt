@@ -17,12 +17,12 @@ use Rattle.descriptor.specs.declared.Descriptor.{Descriptor}
 use Rattle.descriptor.specs.Layout.{writeFixed, owned, descriptorAt, lastFour}
 use Rattle.regs.specs.declared.Mode.the-variants.{StreamToMemory}
 use Rattle.regs.specs.Control as register
+use Rattle.flow.specs.Beats.{beatError, beatEop, beatData}
 use Rattle.machine.specs.declared.Machine.{Machine}
 use Rattle.machine.specs.declared.Reason.the-variants.{Ended, Budget}
 use Rattle.machine.specs.declared.Ran.{Ran}
 use Rattle.machine.specs.State.{withPointer, fresh}
 use Rattle.machine.specs.Registers.{controlWritten}
-use Rattle.flow.specs.Beats.{beatError, beatEop, beatData}
 use Rattle.machine.specs.Step.{World}
 use Rattle.machine.specs.Run.{run}
 

@@ -11,19 +11,19 @@ use borrow.Author.Tests.{eq-eqb}
 use Rattle.words.specs.Slices.{putAt, AllBytes}
 use Rattle.bus.specs.Window.{keepsLimits, inWindow}
 use Rattle.descriptor.specs.Layout.{bytesFor, descriptorAt}
-use Rattle.flow.specs.Beats.{beatBytes}
-use Rattle.flow.proofs.Streams.{length-beat-bytes}
+use Rattle.regs.specs.Control.{counted}
 use Rattle.image.specs.Layout.{image}
 use Rattle.image.proofs.RoundTrip.{image-bytes}
-use Rattle.regs.specs.Control.{counted}
+use Rattle.flow.specs.Beats.{beatBytes}
+use Rattle.flow.proofs.Streams.{length-beat-bytes}
 use Rattle.machine.specs.Saved.{fieldsOf}
 use Rattle.machine.specs.Registers.{controlWritten}
 use Rattle.machine.specs.Step.{restStep, fetched, fetchStep, sourceOf, destinationOf, onward, copyStep, beatFor, sendStep, writtenControl, writtenBack, completed, writeBackStep, step}
 use Rattle.machine.specs.Run.{run, even}
-use Rattle.sgdma.specs.Calls.{imageOf}
 use Rattle.chain.specs.Chain.{Given, machineFor, worldFor, Premises}
 use Rattle.chain.specs.Known.{known, three}
 use Rattle.chain.proofs.Instances.{known-run-1}
+use Rattle.sgdma.specs.Calls.{imageOf}
 use Rattle.chain_calls.specs.InC.{RunLeft, WellLent, Called, NoneRefused}
 use Rattle.chain_calls.specs.Known.{lends, lentTo, knownLeft}
 use Rattle.chain_calls.specs.Useless.{InBytes}

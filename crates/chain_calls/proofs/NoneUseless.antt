@@ -1,6 +1,5 @@
 -- None of the useless models keeps the promise of sgdma_run, though it can be kept.
 -- Assumes nothing.
-use Rattle.machine.proofs.Answers.{was-loaded}
 use Prim.Native.Nat.{ℕ, _<_}
 use mathlib.Core.Path.{_≡_, refl, sym, ap, _∙_}
 use mathlib.Core.List.{List}
@@ -15,15 +14,16 @@ use Rattle.machine.specs.declared.RunAnswer.{RunAnswer}
 use Rattle.machine.specs.declared.LoadedMachine.the-variants.{Good}
 use Rattle.machine.specs.Saved.{fieldsOf, WasLoaded}
 use Rattle.machine.specs.Run.{Lent, serves, run, worldOf, runAnswer}
+use Rattle.machine.proofs.Answers.{was-loaded}
 use Rattle.machine.proofs.RunLaws.{run-tells}
 use Rattle.met.proofs.RoundTrip.{loaded-typed, loads-exactly}
-use Rattle.sgdma.specs.Calls.{runCall, reportOver}
 use Rattle.chain.specs.Known.{known, three}
 use Rattle.chain.proofs.Instances.{known-run-1, chain-of-three, landed-nth}
+use Rattle.sgdma.specs.Calls.{runCall, reportOver}
 use Rattle.chain_calls.specs.InC.{Found}
 use Rattle.chain_calls.specs.Useless.{Model, Keeps, honest, RefusesEverything, OneFixedAnswer, NeverMoves, OnlyMarksTheOthers, stepsTold, MakesUpSteps}
-use Rattle.chain_calls.proofs.OfCalls.{runs-as, run-not-refused, run-finds}
 use Rattle.chain_calls.specs.Known.{lends, lentTo}
+use Rattle.chain_calls.proofs.OfCalls.{runs-as, run-not-refused, run-finds}
 use Rattle.chain_calls.proofs.Instances.{in-bytes, known-lent, three-lent}
 
 -- ---- the promise can be kept

@@ -1,8 +1,6 @@
 -- Demand 3 of the C calls. The image between two calls is that of a machine met in use, and loads back as it: so what the calls
 -- promise over images is what the methods promise over machines, of which the chain theorem is proved.
 -- Assumes nothing.
-use Rattle.regs.specs.declared.Mode.the-variants.{StreamToMemory}
-use Rattle.machine.proofs.Answers.{was-written, run-number}
 use Prim.Native.Nat.{ℕ, _+_, _≤_, _<_}
 use mathlib.Core.Path.{_≡_, refl, sym, ap, subst, _∙_}
 use mathlib.Core.List.{List, [], _∷_}
@@ -11,6 +9,7 @@ use borrow.Author.Tests.{eq-eqb}
 use Rattle.words.specs.declared.Order.the-variants.{MostFirst}
 use Rattle.words.specs.Orders.{rowBytes}
 use Rattle.words.specs.Slices.{AllBytes}
+use Rattle.regs.specs.declared.Mode.the-variants.{StreamToMemory}
 use Rattle.image.proofs.RoundTrip.{length-image}
 use Rattle.machine.specs.declared.Machine.{Machine}
 use Rattle.machine.specs.declared.Ran.{Ran}
@@ -24,17 +23,18 @@ use Rattle.machine.specs.State.{withPointer, fresh}
 use Rattle.machine.specs.Saved.{fieldsOf, loadOf}
 use Rattle.machine.specs.Registers.{controlWritten, writeOf, wroteNumber}
 use Rattle.machine.specs.Run.{Lent, run, reasonNumber, lentOf, worldOf, ranAs, runAnswer, runNumber, HasRun}
+use Rattle.machine.proofs.Answers.{was-written, run-number}
 use Rattle.met.specs.Met.{Met}
 use Rattle.met.specs.Met as met
 use Rattle.met.proofs.RoundTrip.{loads}
 use Rattle.met.proofs.InUse.{met-sound}
-use Rattle.sgdma.specs.Calls.{imageOf, createNumber, ifDone, writtenIn, writtenOver, RegisterWritten, runIn, runCall, windowIn, outIn, ranOver, reportOver}
-use Rattle.sgdma.proofs.Opened.{sizes-right}
 use Rattle.chain.specs.Chain.{All, Given, machineFor, worldFor, shares, cost, given, Premises, Outcome}
 use Rattle.chain.specs.Calls.{Finished}
 use Rattle.chain.specs.Calls as methods
 use Rattle.chain.proofs.Theorem.{chain-at-every-step}
 use Rattle.chain.proofs.OfRun.{pointer-done, control-done, served, ends-as, chain-of-run, chain-of-run-at-every-step}
+use Rattle.sgdma.specs.Calls.{imageOf, createNumber, ifDone, writtenIn, writtenOver, RegisterWritten, runIn, runCall, windowIn, outIn, ranOver, reportOver}
+use Rattle.sgdma.proofs.Opened.{sizes-right}
 use Rattle.chain_calls.specs.InC.{RunLent, RunLeft, Promised, Lends, WellLent, givenIn, runLent, Called, NoneRefused, Found, FoundAtEveryStep}
 
 -- what a window holds is bytes

@@ -14,13 +14,13 @@ use Rattle.bus.specs.Window.{keepsLimits, inWindow}
 use Rattle.descriptor.specs.declared.Job.{Job}
 use Rattle.descriptor.specs.Calls.{slotOf, slotNumber, readNumber as descriptorNumber}
 use Rattle.descriptor.proofs.Slots.{by-tests, built-number, found-number}
+use Rattle.regs.specs.Offsets.{isRegister}
 use Rattle.image.specs.declared.ReadImage.the-variants as read
-use Rattle.image.proofs.Tests.{and-left}
 use Rattle.image.specs.Layout.{fields}
 use Rattle.image.specs.Rules.{keepsRules}
 use Rattle.image.specs.Promise.{sized}
 use Rattle.image.specs.Promise as image
-use Rattle.regs.specs.Offsets.{isRegister}
+use Rattle.image.proofs.Tests.{and-left}
 use Rattle.machine.specs.declared.Machine.{Machine}
 use Rattle.machine.specs.declared.LoadedMachine.{LoadedMachine}
 use Rattle.machine.specs.declared.LoadedMachine.the-variants as loaded

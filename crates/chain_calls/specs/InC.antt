@@ -16,9 +16,9 @@ use Rattle.machine.specs.declared.Ran.{Ran}
 use Rattle.machine.specs.declared.LoadedMachine.the-variants.{Good}
 use Rattle.machine.specs.Saved.{loadOf}
 use Rattle.machine.specs.Run.{run, even, ranAs}
-use Rattle.sgdma.specs.Calls.{imageOf, Created, RegisterWritten, RunMade}
 use Rattle.chain.specs.Chain.{Given, worldFor, shares, cost, given, FirstFew, Outcome}
 use Rattle.chain.specs.Calls.{givenBy}
+use Rattle.sgdma.specs.Calls.{imageOf, Created, RegisterWritten, RunMade}
 
 -- ---- one call of sgdma_run
 

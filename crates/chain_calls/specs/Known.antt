@@ -4,9 +4,9 @@ use Prim.Native.Nat.{_*_}
 use mathlib.Core.List.{[], _∷_, _++_}
 use lib.ListN.{take, replicate}
 use Rattle.flow.specs.Beats.{beatBytes}
-use Rattle.sgdma.specs.Calls.{imageOf}
 use Rattle.chain.specs.Chain.{Given, machineFor}
 use Rattle.chain.specs.Known.{known}
+use Rattle.sgdma.specs.Calls.{imageOf}
 use Rattle.chain_calls.specs.InC.{RunLent, RunLeft, Lends, runLent}
 
 -- ---- what is lent: zeros where nothing is said, budget 100

@@ -8,10 +8,10 @@ use mathlib.Core.List.{List, [], _∷_}
 use lib.Dec.{eqb, leb}
 use lib.ListN.{length}
 use Rattle.bus.specs.Window.{keepsLimits, inWindow}
+use Rattle.regs.specs.Offsets.{isRegister}
 use Rattle.image.specs.Layout.{fields}
 use Rattle.image.specs.Rules.{keepsRules}
 use Rattle.image.specs.Promise.{sized}
-use Rattle.regs.specs.Offsets.{isRegister}
 use Rattle.machine.specs.Run.{even}
 use Rattle.sgdma.specs.Calls.{isSize}
 

@@ -15,8 +15,8 @@ use Rattle.machine.specs.declared.Machine.{Machine}
 use Rattle.machine.specs.declared.LoadedMachine.the-variants.{Good}
 use Rattle.machine.specs.Saved.{loadOf}
 use Rattle.machine.specs.Run.{run, serves, lentOf, worldOf, runNumber}
-use Rattle.sgdma.specs.Calls.{imageOf, isSize, runCall, ranOver, reportOver, windowIn, outIn}
 use Rattle.chain.specs.Chain.{All, machineFor, links, Share, shares, Sent, sentByAll, Premises}
+use Rattle.sgdma.specs.Calls.{imageOf, isSize, runCall, ranOver, reportOver, windowIn, outIn}
 use Rattle.chain_calls.specs.InC.{RunLent, RunLeft, Promised, Lends, WellLent, givenIn, runLent}
 
 -- a model: what it leaves of whatever it is lent

@@ -1,13 +1,55 @@
-// Beats and bytes in a row: the tight loops of bulk moves. A row of places may be fixed to one. Each call looks at its ranges once,
-// and does nothing where they do not fit.
+// Beats; and beats and bytes in a row: the tight loops of bulk moves. A row of places may be fixed to one. Each call looks at its
+// ranges once, and does nothing where they do not fit.
+ghost use mathlib.Core.Bool.{cond};
 ghost use mathlib.Core.Path.{_≡_};
 ghost use Prim.Native.Nat.{_+_, _*_, _/_, _^_, _≤_, _<_};
 ghost use lib.Dec.{leb};
 ghost use lib.ListN.{length, take, drop};
-ghost use Rattle.words.specs.Promise.{Leaves};
+ghost use Rattle.words.specs.Promise.{Gives, Leaves};
 ghost use Rattle.words.specs.Slices.{put};
-ghost use Rattle.flow.specs.Beats.{beatsIn, beatBytes};
+ghost use Rattle.flow.specs.Beats.{beatOf, outputBeat, beatsIn, beatBytes};
 ghost use Rattle.flow.specs.Rows.{landing as landingOf, extent as extentOf, calm, gathered, spread, copied, plain, Absorbs, copiedOver, sentOver};
+
+// Input beats: error 7, EOP 1, data 8. Output beats: zero 6, SOP 1, EOP 1, data 8.
+const ERROR: u16 = 512;
+
+const SOP: u16 = 512;
+
+const EOP: u16 = 256;
+
+// An input beat, taken apart.
+pub struct Beat {
+    pub errors: u8,
+    pub eop: bool,
+    pub byte: u8,
+}
+
+impl Beat {
+    // Every 16-bit number is one.
+    pub fn of(b: u16) -> Beat
+        ensures { λ r. ⌜ Gives (beatOf b) r ⌝ }
+    {
+        Beat {
+            errors: (b / ERROR) as u8,
+            eop: b / EOP % 2 == 1,
+            byte: (b % 256) as u8,
+        }
+    }
+}
+
+// The weight of a flag of an output beat, where it is set.
+fn weight(flag: bool, weight: u16) -> u16
+    ensures { λ r. ⌜ (r ≡ cond flag weight 0) × (r ≤ weight) ⌝ }
+{
+    if flag { weight } else { 0 }
+}
+
+// An output beat.
+pub fn output_beat(sop: bool, eop: bool, byte: u8) -> u16
+    ensures { λ r. ⌜ Gives (outputBeat sop eop byte) r ⌝ }
+{
+    weight(sop, SOP) + weight(eop, EOP) + byte as u16
+}
 
 // How many beats were taken, and their errors with those before.
 pub struct Absorbed {

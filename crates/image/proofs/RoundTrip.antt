@@ -10,9 +10,9 @@ use lib.ListN.{length}
 use lib.Dec.{eqb}
 use Rattle.words.specs.Bits.{flag}
 use Rattle.words.specs.Numbers.{join, split, recode, bytes, Fit}
+use Rattle.words.specs.Slices.{AllBytes}
 use Rattle.words.proofs.Recode.{recode-back, recode-fit}
 use Rattle.words.proofs.Orders.{length-split}
-use Rattle.words.specs.Slices.{AllBytes}
 use Rattle.words.proofs.Bytes.{bytes-fit}
 use Rattle.image.specs.declared.Fields.{Fields}
 use Rattle.image.specs.Layout.{values, widths, fieldsOf, image, fields}

@@ -2,11 +2,11 @@
 -- Assumes nothing.
 use mathlib.Core.Path.{_≡_, refl}
 use mathlib.Core.List.{[]}
-use Rattle.image.specs.Rules.{rules, lowestBroken, keepsRules}
-use Rattle.bus.specs.Window.{keepsLimits, inWindow}
 use Rattle.words.specs.Slices.{putAt}
+use Rattle.bus.specs.Window.{keepsLimits, inWindow}
 use Rattle.descriptor.specs.Layout.{descriptorAt}
 use Rattle.regs.specs.Control.{counted}
+use Rattle.image.specs.Rules.{rules, lowestBroken, keepsRules}
 use Rattle.machine.specs.Registers.{controlWritten, writeOf}
 use Rattle.machine.specs.Step.{restStep, fetched, fetchStep, sourceOf, destinationOf, onward, copyStep, beatFor, sendStep, writtenControl, writtenBack, completed, writeBackStep, step}
 use Rattle.machine.specs.Run.{run}

@@ -6,24 +6,24 @@ use mathlib.Core.Bool.{Bool, true, false, cond, _&&_}
 use mathlib.Core.List.{List}
 use lib.Dec.{eqb}
 use Rattle.bus.specs.declared.Refusal.the-variants.{NoRegister, BadImage}
+use Rattle.regs.specs.declared.ReadRegister.{ReadRegister}
+use Rattle.regs.specs.declared.ReadRegister.the-variants as reg
+use Rattle.regs.specs.Control.{lineUp}
+use Rattle.regs.specs.Offsets.{isRegister, registerAt}
 use Rattle.image.specs.declared.Fields.{Fields}
 use Rattle.image.specs.declared.ReadImage.{ReadImage}
 use Rattle.image.specs.declared.ReadImage.the-variants as read
 use Rattle.image.specs.declared.WroteImage.{WroteImage}
 use Rattle.image.specs.declared.WroteImage.the-variants as wrote
 use Rattle.image.specs.Promise.{Wrote, readOf, wroteOf, imageOver, readNumber, wroteNumber}
-use Rattle.regs.specs.Control.{lineUp}
-use Rattle.regs.specs.Offsets.{isRegister}
 use Rattle.machine.specs.declared.Machine.{Machine}
 use Rattle.machine.specs.declared.LoadedMachine.{LoadedMachine}
-use Rattle.machine.specs.declared.registers.ReadRegister.{ReadRegister}
-use Rattle.machine.specs.declared.registers.ReadRegister.the-variants as reg
 use Rattle.machine.specs.declared.registers.WroteRegister.{WroteRegister}
 use Rattle.machine.specs.declared.registers.WroteRegister.the-variants as done
 use Rattle.machine.specs.declared.registers.Line.{Line}
 use Rattle.machine.specs.declared.registers.Line.the-variants as line
 use Rattle.machine.specs.Saved.{fieldsOf, keeps, loadedAs, loadOf, savedAs, saveOf, loadNumber, saveNumber, WasLoaded, WasSaved}
-use Rattle.machine.specs.Registers.{registerAt, writtenTo, writeOf, lineOf, lineNumber, registerNumber, WasWritten, WasLine}
+use Rattle.machine.specs.Registers.{writtenTo, writeOf, lineOf, lineNumber, registerNumber, WasWritten, WasLine}
 use Rattle.machine.specs.Registers as registers
 use Rattle.machine.specs.Step.{World, Answer, taken, stopped}
 use Rattle.machine.specs.Run.{Lent, serves, refused, steppedAs, runAnswer, stepNumber, runNumber, lentNumber}
@@ -70,7 +70,7 @@ module _ {m : Machine} {offset : ℕ} where
   unfolding registers.readOf
   was-register e = record { answer = e; number = ap registers.readNumber e ∙ number (keeps m) }
     where
-      number : (k : Bool) → registers.readNumber (cond k (registerAt m offset) (reg.Refused BadImage)) ≡ registerNumber k (isRegister offset)
+      number : (k : Bool) → registers.readNumber (cond k (registerAt (m .status) (m .control) (m .pointer) offset) (reg.Refused BadImage)) ≡ registerNumber k (isRegister offset)
       number true = known (eqb offset 0) (eqb offset 4) (eqb offset 8) _ _ _
       number false = refl
 

@@ -17,21 +17,21 @@ use Rattle.bus.specs.declared.Located.{Located}
 use Rattle.bus.specs.declared.Located.the-variants.{At}
 use Rattle.bus.specs.Window.{Sought}
 use Rattle.descriptor.specs.Layout.{generateEop, readFixed, writeFixed}
+use Rattle.regs.specs.declared.Mode.{Mode}
+use Rattle.regs.specs.declared.Mode.the-variants.{MemoryToMemory, MemoryToStream, StreamToMemory}
+use Rattle.regs.specs.Modes.{modeNumber}
+use Rattle.image.specs.Rules.{asked}
 use Rattle.flow.specs.declared.Absorbed.{Absorbed}
 use Rattle.flow.specs.Beats.{beatEop, beatsIn, beatBytes}
 use Rattle.flow.specs.Rows.{extent, fit, calm, gathered, spread, copied, plain, absorbedCount, Absorbs, copiedOver, sentOver}
 use Rattle.flow.proofs.Fitting.{both-fit}
 use Rattle.flow.proofs.Longer.{calm-most, calm-before, length-plain}
-use Rattle.regs.specs.declared.Mode.{Mode}
-use Rattle.regs.specs.declared.Mode.the-variants.{MemoryToMemory, MemoryToStream, StreamToMemory}
-use Rattle.regs.specs.Modes.{modeNumber}
 use Rattle.machine.specs.declared.Machine.{Machine}
 use Rattle.machine.specs.declared.Work.{Work}
 use Rattle.machine.specs.declared.Phase.the-variants.{Move}
 use Rattle.machine.specs.declared.Progress.{Progress}
 use Rattle.machine.specs.declared.bursts.Reach.{Reach}
 use Rattle.machine.specs.declared.runs.Advanced.{Advanced}
-use Rattle.image.specs.Rules.{asked}
 use Rattle.machine.specs.Step.{World, taken, step, whole, sourceOf, destinationOf, onward, beatFor}
 use Rattle.machine.specs.Turns.{world, worldAt, progress, Within, steps, Went, Advances, movedBy, Moving, Bursts, Reaches, Unmarked}
 use Rattle.machine.proofs.Places.{inside, place, fits}

@@ -17,14 +17,14 @@ use Rattle.bus.specs.Window.{inWindow, placeOf}
 use Rattle.descriptor.specs.Layout.{readFixed, writeFixed}
 use Rattle.regs.specs.declared.Mode.{Mode}
 use Rattle.regs.specs.declared.Mode.the-variants.{MemoryToMemory, MemoryToStream, StreamToMemory}
+use Rattle.flow.specs.Beats.{beatError, beatEop, beatData}
+use Rattle.flow.specs.Rows.{landing, gathered, spread, copied, plain}
+use Rattle.flow.proofs.Longer.{gathered-next}
 use Rattle.machine.specs.declared.Machine.{Machine}
 use Rattle.machine.specs.declared.Work.{Work}
 use Rattle.machine.specs.declared.Phase.{Phase}
 use Rattle.machine.specs.declared.Phase.the-variants.{Move}
 use Rattle.machine.specs.State.{withPhase}
-use Rattle.flow.specs.Beats.{beatError, beatEop, beatData}
-use Rattle.flow.specs.Rows.{landing, gathered, spread, copied, plain}
-use Rattle.flow.proofs.Longer.{gathered-next}
 use Rattle.machine.specs.Step.{World, taken, step, whole, byteAddress, sourceOf, destinationOf, withByte, onward, copyStep, sendStep, receiveFrom, moveStep, beatFor}
 use Rattle.machine.specs.Turns.{world, stepsOn, steps, movedBy, Moving, Row, Unmarked}
 use Rattle.machine.proofs.Places.{further}

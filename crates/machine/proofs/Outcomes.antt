@@ -12,6 +12,8 @@ use borrow.Author.Tests.{eqb-true}
 use Rattle.words.specs.Slices.{put}
 use Rattle.bus.specs.declared.Refusal.{Refusal}
 use Rattle.bus.specs.declared.Refusal.the-variants.{BadImage, OddStream, OtherWindow}
+use Rattle.flow.specs.Beats.{beatsIn, beatBytes}
+use Rattle.flow.proofs.Streams.{length-beats, length-beat-bytes}
 use Rattle.machine.specs.declared.Machine.{Machine}
 use Rattle.machine.specs.declared.Progress.{Progress}
 use Rattle.machine.specs.declared.Reason.{Reason}
@@ -20,12 +22,10 @@ use Rattle.machine.specs.declared.StepAnswer.the-variants as one
 use Rattle.machine.specs.declared.RunAnswer.{RunAnswer}
 use Rattle.machine.specs.declared.steps.Wait.the-variants.{Stop}
 use Rattle.machine.specs.Saved.{keeps}
-use Rattle.flow.specs.Beats.{beatsIn, beatBytes}
 use Rattle.machine.specs.Step.{Answer, taken, stopped, step}
-use Rattle.machine.proofs.Answers.{stepped-number}
 use Rattle.machine.specs.Run.{Lent, serves, refused, even, lentIf, lentOf, worldOf, outputOver, steppedAs, worldAfter, stepAnswer, windowAfter, outAfter, stepNumber, lentNumber, Stepped, Runs, HasRun, readyOf, Resumed}
 use Rattle.machine.specs.Turns.{worldAt, waitOf, Within, Went, Ready}
-use Rattle.flow.proofs.Streams.{length-beats, length-beat-bytes}
+use Rattle.machine.proofs.Answers.{stepped-number}
 use Rattle.machine.proofs.Readiness.{keeps-ready, keeps-tested}
 
 -- ---- what is lent

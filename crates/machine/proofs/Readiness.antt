@@ -10,14 +10,15 @@ use borrow.Author.Tests.{eqb-true, eqb-false, ltb-true, lt-ltb, not-true}
 use Rattle.bus.specs.Window.{inWindow}
 use Rattle.descriptor.specs.declared.Descriptor.{Descriptor}
 use Rattle.descriptor.specs.Layout.{owned}
-use Rattle.image.specs.Rules.{asked, keepsRules, lowestBroken}
-use Rattle.image.specs.Rules as rules
-use Rattle.image.proofs.Facts.{move-lt, move-eop, address-inside}
-use Rattle.image.proofs.Tests.{and-left, and-right, neither}
 use Rattle.regs.specs.declared.Mode.{Mode}
 use Rattle.regs.specs.declared.Mode.the-variants.{MemoryToMemory, MemoryToStream, StreamToMemory}
 use Rattle.regs.specs.Modes.{modeNumber}
 use Rattle.regs.specs.Control.{run, stopDmaEr}
+use Rattle.image.specs.Rules.{asked, keepsRules, lowestBroken}
+use Rattle.image.specs.Rules as rules
+use Rattle.image.proofs.Facts.{move-lt, move-eop, address-inside}
+use Rattle.image.proofs.Tests.{and-left, and-right, neither}
+use Rattle.flow.specs.Beats.{beatError, beatEop}
 use Rattle.machine.specs.declared.Machine.{Machine}
 use Rattle.machine.specs.declared.Work.{Work}
 use Rattle.machine.specs.declared.Phase.{Phase}
@@ -25,7 +26,6 @@ use Rattle.machine.specs.declared.Phase.the-variants.{Rest, Fetch, Move,
 use Rattle.machine.specs.declared.Reason.{Reason}
 use Rattle.machine.specs.State.{phaseNumber, withPhase}
 use Rattle.machine.specs.Saved.{inHand, fieldsOf, keeps}
-use Rattle.flow.specs.Beats.{beatError, beatEop}
 use Rattle.machine.specs.Step.{World, Answer, taken, stopped, step, stepIn, restStep, fetchStep, fetched, wantsLength, moveStep, copyStep, sendStep, sendTo, receiveFrom, writeBackStep, completed, afterBack, onward, withByte, whole, sourceOf, destinationOf}
 use Rattle.machine.specs.Run.{readyIn, readyOf}
 use Rattle.machine.specs.Turns.{Left, Placed, Ready, stepsOn, steps}

@@ -9,16 +9,16 @@ use lib.ListN.{length, drop, length-append}
 use Rattle.words.specs.Slices.{put}
 use Rattle.words.proofs.Slices.{put-put}
 use Rattle.bus.specs.declared.Refusal.{Refusal}
+use Rattle.flow.specs.Beats.{beatsIn, beatBytes}
+use Rattle.flow.proofs.Streams.{length-beat-bytes}
 use Rattle.machine.specs.declared.Machine.{Machine}
 use Rattle.machine.specs.declared.Reason.{Reason}
 use Rattle.machine.specs.declared.Reason.the-variants as reason
 use Rattle.machine.specs.declared.RunAnswer.the-variants as many
 use Rattle.machine.specs.declared.steps.Wait.the-variants.{Go, Stop}
-use Rattle.flow.specs.Beats.{beatsIn, beatBytes}
 use Rattle.machine.specs.Step.{World, taken, step}
 use Rattle.machine.specs.Run.{Report, run, Lent, serves, refused, worldOf, outputOver, ranAs, runAnswer, windowAfter, outAfter, lentNumber, Runs}
 use Rattle.machine.specs.Turns.{worldAt, progress, waitOf, steps, Within, Went, Ready}
-use Rattle.flow.proofs.Streams.{length-beat-bytes}
 use Rattle.machine.proofs.Streams.{beat-bytes-append, none-made}
 use Rattle.machine.proofs.Readiness.{steps-ready}
 use Rattle.machine.proofs.LoopLaws.{report, moreBy, run-stops, run-out, run-steps, more-none, more-more}

@@ -2,7 +2,7 @@
 -- Assumes nothing.
 use Prim.Native.Nat.{ℕ, suc, _+_, _-_, _*_, _/_, _%_, _^_, _≤_, _<_}
 use mathlib.Core.Path.{_≡_, refl, sym, ap, _∙_}
-use mathlib.Core.Bool.{Bool, true, false}
+use mathlib.Core.Bool.{true, false}
 use mathlib.Core.List.{List, [], _∷_, append-nil}
 use native.Mathlib.Nat.{add-zero}
 use native.Mathlib.Omega.{arith}
@@ -12,15 +12,16 @@ use Rattle.words.specs.Orders.{bytesOf}
 use Rattle.words.specs.Slices.{putAt}
 use Rattle.bus.specs.Window.{inWindow, placeOf}
 use Rattle.regs.specs.Control.{run}
+use Rattle.flow.specs.declared.Beat.{Beat}
+use Rattle.flow.specs.Beats.{beatsIn, beatOf}
+use Rattle.flow.proofs.Streams.{beatAt, next-beat}
 use Rattle.machine.specs.declared.Machine.{Machine}
 use Rattle.machine.specs.declared.Progress.{Progress}
 use Rattle.machine.specs.declared.Work.{Work}
 use Rattle.machine.specs.declared.Phase.the-variants.{Fetch}
 use Rattle.machine.specs.State.{withPhase, withBusy}
-use Rattle.flow.specs.Beats.{beatsIn, beatError, beatEop, beatData}
 use Rattle.machine.specs.Step.{World, Answer, taken, sourceOf, destinationOf, onward, withByte, beatFor, restStep, sendStep, receiveFrom}
 use Rattle.machine.specs.Turns.{world, worldAt, progress, inFault, Still, Went}
-use Rattle.flow.proofs.Streams.{beatAt, next-beat}
 use Rattle.machine.proofs.Streams.{none-made, beat-made}
 
 module _ (rule : World → Answer) (m m' : Machine) (window window' beats : List ℕ) (took : ℕ) (out : List ℕ) (made : ℕ) where
@@ -92,9 +93,9 @@ module _ (m : Machine) (k : Work) (window beats : List ℕ) (took : ℕ) (out : 
       (went-none (λ (w : World). receiveFrom w k (w .input)) m _ window window beats took out made took
       (λ o. rw (next-beat beats took h, e, f)))
 
-  pub receive-in : inWindow (m .window) (destinationOf k) 1 ≡ true → {b at : ℕ} {eop : Bool} → b ≡ beatAt beats took → eop ≡ beatEop b
-      → at ≡ placeOf (m .window) (destinationOf k) → m' ≡ onward m (withByte (beatError b) eop k) → r ≡ progress m' (took + 1) made
-      → Went (λ (w : World). receiveFrom w k (w .input)) m window beats took out made r (set window at (beatData b)) out
+  pub receive-in : inWindow (m .window) (destinationOf k) 1 ≡ true → {b at : ℕ} {beat : Beat} → b ≡ beatAt beats took → beat ≡ beatOf b
+      → at ≡ placeOf (m .window) (destinationOf k) → m' ≡ onward m (withByte (beat .errors) (beat .eop) k) → r ≡ progress m' (took + 1) made
+      → Went (λ (w : World). receiveFrom w k (w .input)) m window beats took out made r (set window at (beat .byte)) out
   receive-in e p q s f g =
       rw g
       (went-none (λ (w : World). receiveFrom w k (w .input)) m _ window _ beats took out made (took + 1)

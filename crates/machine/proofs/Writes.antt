@@ -8,9 +8,9 @@ use Rattle.regs.specs.Offsets.{isRegister}
 use Rattle.regs.specs.Control.{run, clearInterrupt, asControl, resetBy, countFrom}
 use Rattle.machine.specs.declared.Machine.{Machine}
 use Rattle.machine.specs.declared.registers.WroteRegister.the-variants as wrote
-use Rattle.machine.specs.Saved.{keeps}
 use Rattle.machine.specs.declared.Phase.{Phase}
 use Rattle.machine.specs.declared.Phase.the-variants.{Rest, Fetch, Move, WriteBack, Ended, Halted, Faulted}
+use Rattle.machine.specs.Saved.{keeps}
 use Rattle.machine.specs.State.{withControl, rested, fresh}
 use Rattle.machine.specs.Registers.{stored, released, controlWritten, writtenTo, writeOf}
 use Rattle.machine.specs.Turns.{stands}

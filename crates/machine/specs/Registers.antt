@@ -3,16 +3,16 @@
 use Prim.Native.Nat.{ℕ, _%_, _^_}
 use mathlib.Core.Path.{_≡_, sym, _∙_}
 use mathlib.Core.Bool.{Bool, true, not, cond, _&&_}
-use Rattle.bus.specs.Refusal.{refusalNumber}
 use Rattle.bus.specs.declared.Refusal.the-variants.{NoRegister, BadImage}
-use Rattle.regs.specs.Status.{statusNumber, clearedBy}
+use Rattle.bus.specs.Refusal.{refusalNumber}
+use Rattle.regs.specs.declared.ReadRegister.{ReadRegister}
+use Rattle.regs.specs.declared.ReadRegister.the-variants as read
+use Rattle.regs.specs.Status.{clearedBy}
 use Rattle.regs.specs.Control.{run, clearInterrupt, asControl, resetBy, countFrom, lineUp}
-use Rattle.regs.specs.Offsets.{chosen, isRegister}
+use Rattle.regs.specs.Offsets.{chosen, isRegister, registerAt}
 use Rattle.machine.specs.declared.Machine.{Machine}
 use Rattle.machine.specs.declared.Phase.{Phase}
 use Rattle.machine.specs.declared.Phase.the-variants.{Rest, Fetch, Move, WriteBack, Ended, Halted, Faulted}
-use Rattle.machine.specs.declared.registers.ReadRegister.{ReadRegister}
-use Rattle.machine.specs.declared.registers.ReadRegister.the-variants as read
 use Rattle.machine.specs.declared.registers.WroteRegister.{WroteRegister}
 use Rattle.machine.specs.declared.registers.WroteRegister.the-variants as wrote
 use Rattle.machine.specs.declared.registers.Line.{Line}
@@ -58,13 +58,9 @@ writeOf m offset v =
 
 -- ---- reading changes nothing
 
-abbrev pub registerAt : Machine → (offset : ℕ) → ReadRegister
-registerAt m offset =
-    chosen offset (read.Value (statusNumber (m .status))) (read.Value (m .control .0)) (read.Value (m .pointer .0)) (read.Refused NoRegister)
-
 -- a machine that breaks a rule comes before an offset that is none
 unfoldable pub readOf : Machine → (offset : ℕ) → ReadRegister
-readOf m offset = cond (keeps m) (registerAt m offset) (read.Refused BadImage)
+readOf m offset = cond (keeps m) (registerAt (m .status) (m .control) (m .pointer) offset) (read.Refused BadImage)
 
 -- ---- the line
 

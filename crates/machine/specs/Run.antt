@@ -6,10 +6,11 @@ use mathlib.Core.Bool.{Bool, true, not, cond, _&&_}
 use mathlib.Core.List.{List, [], _++_}
 use lib.Dec.{eqb, ltb}
 use lib.ListN.{length, drop}
-use Rattle.bus.specs.Refusal.{refusalNumber}
-use Rattle.bus.specs.Window.{inWindow}
 use Rattle.bus.specs.declared.Refusal.{Refusal}
 use Rattle.bus.specs.declared.Refusal.the-variants.{BadImage, OddStream, OtherWindow}
+use Rattle.bus.specs.Refusal.{refusalNumber}
+use Rattle.bus.specs.Window.{inWindow}
+use Rattle.flow.specs.Beats.{beatsIn, beatBytes}
 use Rattle.machine.specs.declared.Machine.{Machine}
 use Rattle.machine.specs.declared.Phase.{Phase}
 use Rattle.machine.specs.declared.Phase.the-variants as phase
@@ -22,7 +23,6 @@ use Rattle.machine.specs.declared.StepAnswer.the-variants as one
 use Rattle.machine.specs.declared.RunAnswer.{RunAnswer}
 use Rattle.machine.specs.declared.RunAnswer.the-variants as many
 use Rattle.machine.specs.Saved.{keeps}
-use Rattle.flow.specs.Beats.{beatsIn, beatBytes}
 use Rattle.machine.specs.Step.{World, Answer, taken, stopped, whole, step}
 
 -- ---- the run

@@ -6,6 +6,10 @@ use mathlib.Core.Bool.{Bool, false}
 use mathlib.Core.List.{List, [], _∷_}
 use lib.ListN.{getD}
 use Rattle.bus.specs.Refusal.{refusalNumber}
+use Rattle.regs.specs.declared.CheckedMode.the-variants as mode
+use Rattle.regs.specs.Modes.{modeNumber, modeOf}
+use Rattle.regs.specs.Status.{statusNumber, statusOf}
+use Rattle.regs.specs.Control.{swReset}
 use Rattle.image.specs.declared.Fields.{Fields}
 use Rattle.image.specs.declared.ReadImage.{ReadImage}
 use Rattle.image.specs.declared.ReadImage.the-variants as read
@@ -13,10 +17,6 @@ use Rattle.image.specs.declared.WroteImage.{WroteImage}
 use Rattle.image.specs.declared.WroteImage.the-variants as wrote
 use Rattle.image.specs.Rules.{keepsRules}
 use Rattle.image.specs.Promise.{readOf, wroteOf, imageOver, readNumber, wroteNumber}
-use Rattle.regs.specs.declared.CheckedMode.the-variants as mode
-use Rattle.regs.specs.Modes.{modeNumber, modeOf}
-use Rattle.regs.specs.Status.{statusNumber, statusOf}
-use Rattle.regs.specs.Control.{swReset}
 use Rattle.machine.specs.declared.Machine.{Machine}
 use Rattle.machine.specs.declared.Work.{Work}
 use Rattle.machine.specs.declared.Fault.{Fault}

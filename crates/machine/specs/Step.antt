@@ -10,13 +10,14 @@ use Rattle.words.specs.Slices.{putAt}
 use Rattle.bus.specs.Window.{inWindow, placeOf}
 use Rattle.descriptor.specs.declared.Descriptor.{Descriptor}
 use Rattle.descriptor.specs.Layout.{generateEop, readFixed, writeFixed, owned, descriptorAt, lastFour}
-use Rattle.image.specs.Rules.{asked}
 use Rattle.regs.specs.declared.Mode.{Mode}
 use Rattle.regs.specs.declared.Mode.the-variants.{MemoryToMemory, MemoryToStream, StreamToMemory}
 use Rattle.regs.specs.declared.Count.{Count}
 use Rattle.regs.specs.Modes.{modeNumber}
 use Rattle.regs.specs.Status.{chainEnded, statusBack}
 use Rattle.regs.specs.Control.{ieChain, run, stopDmaEr, maxDescProcessed, park, counted, pends}
+use Rattle.image.specs.Rules.{asked}
+use Rattle.flow.specs.Beats.{beatError, beatEop, beatData, outputBeat}
 use Rattle.machine.specs.declared.Machine.{Machine}
 use Rattle.machine.specs.declared.Work.{Work}
 use Rattle.machine.specs.declared.Phase.{Phase}
@@ -24,7 +25,6 @@ use Rattle.machine.specs.declared.Phase.the-variants.{Rest, Fetch, Move,
 use Rattle.machine.specs.declared.Reason.{Reason}
 use Rattle.machine.specs.declared.Reason.the-variants as reason
 use Rattle.machine.specs.State.{withStatus, withPointer, withPhase, withBusy, pend, rested}
-use Rattle.flow.specs.Beats.{beatError, beatEop, beatData, outputBeat}
 
 -- the world of a step: the machine; the window's bytes; the beats not yet taken; the beats made, and the room for more
 pub record World : Type 0 where

@@ -11,6 +11,8 @@ use Rattle.words.specs.Slices.{put}
 use Rattle.bus.specs.declared.Window.{Window}
 use Rattle.bus.specs.Window.{inWindow, placeOf}
 use Rattle.regs.specs.declared.Mode.{Mode}
+use Rattle.flow.specs.Beats.{beatsIn, beatBytes}
+use Rattle.flow.specs.Rows.{extent}
 use Rattle.machine.specs.declared.Machine.{Machine}
 use Rattle.machine.specs.declared.Work.{Work}
 use Rattle.machine.specs.declared.Progress.{Progress}
@@ -23,8 +25,6 @@ use Rattle.machine.specs.declared.steps.Wait.the-variants.{Go, Stop}
 use Rattle.machine.specs.declared.steps.Lent as code
 use Rattle.machine.specs.declared.steps.Lent.the-variants as lent
 use Rattle.machine.specs.State.{withPhase, withBusy}
-use Rattle.flow.specs.Beats.{beatsIn, beatBytes}
-use Rattle.flow.specs.Rows.{extent}
 use Rattle.machine.specs.Step.{World, Answer, taken, stopped, step, whole, onward, beatFor}
 use Rattle.machine.specs.Run.{Lent, serves, refused}
 

@@ -3,7 +3,7 @@ ghost use mathlib.Core.Path.{_≡_};
 ghost use Rattle.words.specs.Promise.{Gives};
 ghost use Rattle.machine.specs.State.{fresh as freshOf, withPhase, withBusy, rested as restedOf};
 ghost use Rattle.machine.specs.Turns.{stands};
-ghost use Rattle.machine.specs.Registers.{registerAt, writtenTo, WasRead, WasWritten, WasLine};
+ghost use Rattle.machine.specs.Registers.{writtenTo, WasRead, WasWritten, WasLine};
 use crate::Machine;
 use crate::Phase;
 use bus::Refusal;
@@ -11,15 +11,11 @@ use bus::Window;
 use regs::Control;
 use regs::Mode;
 use regs::Pointer;
+use regs::ReadRegister;
 use regs::Status;
 use regs::is_register;
+use regs::read;
 use words::has;
-
-// What a register read answers.
-pub enum ReadRegister {
-    Value(u32),
-    Refused(Refusal),
-}
 
 // What a register write answers.
 pub enum WroteRegister {
@@ -95,25 +91,8 @@ impl Machine {
     }
 }
 
-// The three registers of a machine that is known to keep the rules, as one that was loaded is.
+// A register write of a machine that is known to keep the rules, as one that was loaded is.
 impl Machine {
-    // Reading changes nothing.
-    pub fn register(self, offset: u32) -> ReadRegister
-        ensures { λ r. ⌜ Gives (registerAt self offset) r ⌝ }
-    {
-        if offset == Status::OFFSET {
-            let status = self.status;
-            return ReadRegister::Value(status.number());
-        }
-        if offset == Control::OFFSET {
-            return ReadRegister::Value(self.control.0);
-        }
-        if offset == Pointer::OFFSET {
-            return ReadRegister::Value(self.pointer.0);
-        }
-        ReadRegister::Refused(Refusal::NoRegister)
-    }
-
     // An offset that is none changes nothing. The fields are written in place: a machine that is handed on is copied.
     pub fn written(self, offset: u32, value: u32) -> Machine
         ensures { λ r. ⌜ Gives (writtenTo self offset value) r ⌝ }
@@ -160,7 +139,10 @@ impl Machine {
         if !self.keeps() {
             return ReadRegister::Refused(Refusal::BadImage);
         }
-        self.register(offset)
+        let status = self.status;
+        let control = self.control;
+        let pointer = self.pointer;
+        read(status, control, pointer, offset)
     }
 
     pub fn write_register(self, offset: u32, value: u32) -> WroteRegister

@@ -11,7 +11,6 @@ ghost use Rattle.bus.specs.Window.{inWindow};
 ghost use Rattle.image.specs.Rules.{asked as askedOf};
 ghost use Rattle.regs.specs.Modes.{modeNumber};
 ghost use Rattle.machine.specs.State.{withPhase, withPointer};
-ghost use Rattle.flow.specs.Beats.{outputBeat};
 ghost use Rattle.machine.specs.Step.{World, wantsLength, begun as begunOf, ended as endedOf, byteAddress, sourceOf, destinationOf, withByte, onward as onwardOf, beatFor, writtenControl, writtenBack, afterBack, completed as completedOf};
 ghost use Rattle.machine.specs.Step.{fetched as fetchedOf, fetchStep, copyStep, sendStep, receiveFrom, moveStep, writeBackStep, step as stepOf};
 ghost use Rattle.machine.specs.Run.{lentIf, lentOf, readyOf, Stepped};
@@ -29,6 +28,8 @@ use bus::Located;
 use bus::Refusal;
 use descriptor::DescControl;
 use descriptor::Descriptor;
+use flow::Beat;
+use flow::output_beat;
 use regs::Control;
 use regs::Count;
 use regs::Mode;
@@ -37,13 +38,6 @@ use words::Order;
 use words::get_u16;
 use words::has;
 use words::put_u16;
-
-// Input beats: error 7, EOP 1, data 8. Output beats: zero 6, SOP 1, EOP 1, data 8.
-const ERROR: u16 = 512;
-
-const SOP: u16 = 512;
-
-const EOP: u16 = 256;
 
 // Whether a step can be taken, or why not.
 pub(crate) enum Wait {
@@ -88,20 +82,6 @@ fn byte_address(fixed: bool, start: u32, i: u16) -> u64
     } else {
         start as u64 + i as u64
     }
-}
-
-// The weight of a flag of an output beat, where it is set.
-fn weight(flag: bool, weight: u16) -> u16
-    ensures { λ r. ⌜ (r ≡ cond flag weight 0) × (r ≤ weight) ⌝ }
-{
-    if flag { weight } else { 0 }
-}
-
-// Zero 6, SOP 1, EOP 1, data 8.
-fn output_beat(sop: bool, eop: bool, byte: u8) -> u16
-    ensures { λ r. ⌜ r ≡ outputBeat sop eop byte ⌝ }
-{
-    weight(sop, SOP) + weight(eop, EOP) + byte as u16
 }
 
 // RUN 0: Rest; errors with STOP_DMA_ER: Halted; else Fetch.
@@ -409,10 +389,9 @@ impl Machine {
             Located::Outside => self.missed(14, a).at(next, made),
             Located::At(place) => {
                 let at = place.index();
-                let beat = get_u16(Order::MostFirst, beats, 2 * next);
-                let eop = has(beat as u32, EOP as u32);
-                window[at] = (beat % 256) as u8;
-                self.onward(k, (beat / ERROR) as u8, eop).at(past, made)
+                let beat = Beat::of(get_u16(Order::MostFirst, beats, 2 * next));
+                window[at] = beat.byte;
+                self.onward(k, beat.errors, beat.eop).at(past, made)
             }
         }
     }

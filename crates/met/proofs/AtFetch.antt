@@ -10,12 +10,12 @@ use Rattle.bus.specs.Window.{inWindow, placeOf}
 use Rattle.descriptor.specs.declared.Descriptor.{Descriptor}
 use Rattle.descriptor.specs.Layout.{owned, descriptorAt}
 use Rattle.descriptor.specs.RoundTrip.{Typed, jobOf}
-use Rattle.image.specs.Rules.{asked, faultCode}
-use Rattle.image.proofs.Tests.{and-left}
 use Rattle.regs.specs.declared.Mode.{Mode}
 use Rattle.regs.specs.declared.Mode.the-variants.{MemoryToMemory, MemoryToStream, StreamToMemory}
 use Rattle.regs.specs.Modes.{modeNumber}
 use Rattle.regs.specs.Control.{run}
+use Rattle.image.specs.Rules.{asked, faultCode}
+use Rattle.image.proofs.Tests.{and-left}
 use Rattle.machine.specs.declared.Machine.{Machine}
 use Rattle.machine.specs.declared.Phase.the-variants.{Rest, Move}
 use Rattle.machine.specs.State.{withPhase, withPointer}

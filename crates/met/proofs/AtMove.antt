@@ -11,13 +11,13 @@ use lib.Dec.{eqb}
 use lib.ListN.{length, length-set}
 use borrow.Author.Tests.{eqb-true, eqb-false}
 use Rattle.bus.specs.Window.{inWindow, placeOf}
-use Rattle.image.proofs.Tests.{else}
 use Rattle.regs.specs.declared.Mode.{Mode}
 use Rattle.regs.specs.declared.Mode.the-variants.{MemoryToMemory, MemoryToStream, StreamToMemory}
+use Rattle.image.proofs.Tests.{else}
+use Rattle.flow.specs.Beats.{beatError, beatEop}
 use Rattle.machine.specs.declared.Machine.{Machine}
 use Rattle.machine.specs.declared.Work.{Work}
 use Rattle.machine.specs.declared.Phase.the-variants.{Move, WriteBack}
-use Rattle.flow.specs.Beats.{beatError, beatEop}
 use Rattle.machine.specs.Step.{World, wantsLength, whole, sourceOf, destinationOf, withByte, onward, copyStep, sendTo, sendStep, receiveFrom, moveStep}
 use Rattle.met.specs.Sound.{AllBeats}
 use Rattle.met.proofs.Kept.{Hand, Moving, Suits, Kept, moves-to, on, neither}

@@ -10,10 +10,10 @@ use borrow.Author.Tests.{eq-eqb, leb-false}
 use Rattle.words.specs.declared.Order.the-variants.{LeastFirst}
 use Rattle.bus.specs.declared.Window.{Window}
 use Rattle.bus.specs.Window.{placeOf}
-use Rattle.image.proofs.Tests.{and-left}
 use Rattle.regs.specs.declared.Mode.{Mode}
 use Rattle.regs.specs.declared.Count.{Count}
 use Rattle.regs.specs.Control.{run, stopDmaEr, maxDescProcessed, counted}
+use Rattle.image.proofs.Tests.{and-left}
 use Rattle.machine.specs.declared.Machine.{Machine}
 use Rattle.machine.specs.declared.Work.{Work}
 use Rattle.machine.specs.Step.{World, wantsLength, writtenControl, writtenBack, afterBack, completed, writeBackStep}

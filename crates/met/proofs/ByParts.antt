@@ -7,19 +7,19 @@ use native.Mathlib.Omega.{arith}
 use lib.Dec.{eqb}
 use borrow.Author.Tests.{eq-eqb, ne-eqb, lt-ltb, le-leb, eqb-true, not-true, not-false}
 use Rattle.bus.specs.declared.Window.{Window}
-use Rattle.image.specs.Rules as rule
-use Rattle.image.specs.Rules.{_⇒_, _exactly_, between, either, lowestBroken}
-use Rattle.image.proofs.Tests.{both}
-use Rattle.image.proofs.EachRule.{Each, each-rule, each-keeps}
-use Rattle.image.proofs.Facts as fact
-use Rattle.image.specs.Layout.{Typed}
-use Rattle.image.proofs.Answers.{keeps, kept-none}
 use Rattle.regs.specs.declared.Mode.{Mode}
 use Rattle.regs.specs.declared.Mode.the-variants.{MemoryToMemory, MemoryToStream, StreamToMemory}
 use Rattle.regs.specs.declared.Status.{Status}
 use Rattle.regs.specs.Modes.{modeNumber}
 use Rattle.regs.specs.Status.{statusNumber}
 use Rattle.regs.specs.Control.{run, swReset}
+use Rattle.image.specs.Rules as rule
+use Rattle.image.specs.Rules.{_⇒_, _exactly_, between, either, lowestBroken}
+use Rattle.image.specs.Layout.{Typed}
+use Rattle.image.proofs.Tests.{both}
+use Rattle.image.proofs.EachRule.{Each, each-rule, each-keeps}
+use Rattle.image.proofs.Facts as fact
+use Rattle.image.proofs.Answers.{keeps, kept-none}
 use Rattle.machine.specs.declared.Machine.{Machine}
 use Rattle.machine.specs.declared.Work.{Work}
 use Rattle.machine.specs.declared.Phase.{Phase}

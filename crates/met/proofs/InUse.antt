@@ -9,6 +9,7 @@ use lib.ListN.{length}
 use lib.Dec.{eqb}
 use borrow.Author.Tests.{eqb-true}
 use Rattle.words.specs.Slices.{AllBytes}
+use Rattle.flow.specs.Beats.{beatsIn}
 use Rattle.machine.specs.declared.Machine.{Machine}
 use Rattle.machine.specs.declared.Progress.{Progress}
 use Rattle.machine.specs.declared.Ran.{Ran}
@@ -21,7 +22,6 @@ use Rattle.machine.specs.declared.SavedMachine.the-variants.{Done}
 use Rattle.machine.specs.declared.LoadedMachine.{LoadedMachine}
 use Rattle.machine.specs.declared.LoadedMachine.the-variants.{Good}
 use Rattle.machine.specs.Saved.{keeps, WasLoaded, WasSaved}
-use Rattle.flow.specs.Beats.{beatsIn}
 use Rattle.machine.specs.Step.{World, Answer, taken, stopped, step}
 use Rattle.machine.specs.Run.{Lent, serves, refused, even, lentOf, worldOf, steppedAs, stepAnswer, runAnswer, Stepped, HasRun}
 use Rattle.met.specs.Sound.{Sound, AllBeats, SoundWorld}

@@ -6,10 +6,10 @@ use mathlib.Core.Bool.{Bool, true, false, cond, _||_, true≢false}
 use Rattle.bus.specs.declared.Window.{Window}
 use Rattle.bus.specs.Window.{keepsLimits, inWindow}
 use Rattle.descriptor.specs.Layout.{owned}
-use Rattle.image.specs.Rules.{asked, faultCode}
 use Rattle.regs.specs.declared.Mode.{Mode}
 use Rattle.regs.specs.Modes.{modeNumber}
 use Rattle.regs.specs.Control.{run}
+use Rattle.image.specs.Rules.{asked, faultCode}
 use Rattle.machine.specs.declared.Machine.{Machine}
 use Rattle.machine.specs.declared.Work.{Work}
 use Rattle.machine.specs.declared.Phase.{Phase}

@@ -9,19 +9,19 @@ use native.Mathlib.Nat.{mod-eq-of-lt}
 use lib.ListN.{getD}
 use lib.Dec.{eqb}
 use Rattle.words.specs.Bits.{bit}
+use Rattle.words.specs.Bits.{flag}
 use Rattle.words.proofs.Recode.{join-split}
-use Rattle.image.specs.Rules as rule
-use Rattle.image.proofs.RoundTrip.{flag-back, flag-there}
 use Rattle.regs.specs.declared.Mode.{Mode}
 use Rattle.regs.specs.declared.Mode.the-variants.{MemoryToMemory, MemoryToStream, StreamToMemory}
 use Rattle.regs.specs.declared.Status.{Status}
 use Rattle.regs.specs.Modes.{modeNumber, modeOf}
 use Rattle.regs.specs.Status.{statusNumber, statusOf}
+use Rattle.image.specs.Rules as rule
+use Rattle.image.proofs.RoundTrip.{flag-back, flag-there}
 use Rattle.machine.specs.declared.Work.{Work}
 use Rattle.machine.specs.declared.Fault.{Fault}
 use Rattle.machine.specs.declared.Phase.{Phase}
 use Rattle.machine.specs.declared.Phase.the-variants.{Rest, Fetch, Move, WriteBack, Ended, Halted, Faulted}
-use Rattle.words.specs.Bits.{flag}
 use Rattle.machine.specs.State.{phaseNumber}
 use Rattle.machine.specs.Saved.{none, noFault, inHand, faultIn}
 

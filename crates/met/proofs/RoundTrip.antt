@@ -1,7 +1,6 @@
 -- Images and machines come back from one another: a loaded image saved again gives the same bytes; a machine that keeps the
 -- rules saves to an image that loads back as it; bytes load as a machine exactly when it keeps the rules and they are its image.
 -- Assumes nothing.
-use Rattle.machine.proofs.Answers.{was-loaded}
 use Prim.Native.Nat.{ℕ}
 use mathlib.Core.Path.{_≡_, refl, sym, ap, _∙_}
 use mathlib.Core.Bool.{true, false}
@@ -25,6 +24,7 @@ use Rattle.machine.specs.declared.LoadedMachine.the-variants.{Good}
 use Rattle.machine.specs.declared.SavedMachine.{SavedMachine}
 use Rattle.machine.specs.declared.SavedMachine.the-variants as saved
 use Rattle.machine.specs.Saved as core
+use Rattle.machine.proofs.Answers.{was-loaded}
 use Rattle.met.proofs.Numbers.{mode-back, mode-there, status-back, status-there, phase-back, phase-there}
 
 -- ---- a machine as fields, and back

@@ -5,9 +5,9 @@ use mathlib.Core.Path.{_≡_, refl}
 use mathlib.Core.Bool.{Bool, true, false}
 use lib.ListN.{length}
 use Rattle.words.specs.Slices.{AllBytes}
-use Rattle.image.specs.Rules.{faultCode}
 use Rattle.regs.specs.Modes.{modeNumber}
 use Rattle.regs.specs.Control.{run}
+use Rattle.image.specs.Rules.{faultCode}
 use Rattle.machine.specs.declared.Machine.{Machine}
 use Rattle.machine.specs.declared.Phase.{Phase}
 use Rattle.machine.specs.declared.Phase.the-variants.{Fetch, Faulted}

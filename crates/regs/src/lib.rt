@@ -4,7 +4,7 @@ ghost use Rattle.words.specs.Promise.{Gives};
 ghost use Rattle.regs.specs.Modes.{modeNumber, modeOf, checkedMode};
 ghost use Rattle.regs.specs.Status.{statusNumber, statusOf, clearedBy, chainEnded, statusBack};
 ghost use Rattle.regs.specs.Control.{resetBy, countFrom, pends as pendsOf, lineUp, counted};
-ghost use Rattle.regs.specs.Offsets.{isRegister};
+ghost use Rattle.regs.specs.Offsets.{isRegister, registerAt};
 use bus::Refusal;
 use words::flag;
 use words::has;
@@ -222,6 +222,28 @@ pub fn is_register(offset: u32) -> bool
         | (offset == Control::OFFSET)
         | (offset == Pointer::OFFSET);
     known
+}
+
+// What a register read answers.
+pub enum ReadRegister {
+    Value(u32),
+    Refused(Refusal),
+}
+
+// The register at the offset. Reading changes nothing.
+pub fn read(status: Status, control: Control, pointer: Pointer, offset: u32) -> ReadRegister
+    ensures { λ r. ⌜ Gives (registerAt status control pointer offset) r ⌝ }
+{
+    if offset == Status::OFFSET {
+        return ReadRegister::Value(status.number());
+    }
+    if offset == Control::OFFSET {
+        return ReadRegister::Value(control.0);
+    }
+    if offset == Pointer::OFFSET {
+        return ReadRegister::Value(pointer.0);
+    }
+    ReadRegister::Refused(Refusal::NoRegister)
 }
 
 // The count of descriptors after one more, and whether it reached MAX_DESC_PROCESSED.

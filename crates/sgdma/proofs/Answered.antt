@@ -11,22 +11,23 @@ use Rattle.words.specs.Orders.{bytesOf}
 use Rattle.words.specs.Promise.{Gives, Leaves}
 use Rattle.words.specs.Slices.{putAt}
 use Rattle.words.proofs.Orders.{length-bytes}
+use Rattle.bus.specs.declared.Refusal.{Refusal}
+use Rattle.bus.specs.declared.Refusal.the-variants.{BadSize, BadImage}
 use Rattle.descriptor.specs.declared.ReadDescriptor.{ReadDescriptor}
 use Rattle.descriptor.specs.declared.ReadDescriptor.the-variants as descriptor
 use Rattle.descriptor.specs.Calls.{WasRead as ReadBack, readNumber as descriptorNumber}
-use Rattle.image.proofs.WordByWord.{put-all}
-use Rattle.bus.specs.declared.Refusal.{Refusal}
-use Rattle.bus.specs.declared.Refusal.the-variants.{BadSize, BadImage}
+use Rattle.regs.specs.declared.ReadRegister.{ReadRegister}
+use Rattle.regs.specs.declared.ReadRegister.the-variants as register
 use Rattle.regs.specs.Control.{lineUp}
+use Rattle.regs.specs.Offsets.{registerAt}
+use Rattle.image.proofs.WordByWord.{put-all}
 use Rattle.machine.specs.declared.Machine.{Machine}
 use Rattle.machine.specs.declared.LoadedMachine.{LoadedMachine}
 use Rattle.machine.specs.declared.LoadedMachine.the-variants as loaded
-use Rattle.machine.specs.declared.registers.ReadRegister.{ReadRegister}
-use Rattle.machine.specs.declared.registers.ReadRegister.the-variants as register
 use Rattle.machine.specs.declared.registers.Line.{Line}
 use Rattle.machine.specs.declared.registers.Line.the-variants as line
 use Rattle.machine.specs.Saved.{loadOf}
-use Rattle.machine.specs.Registers.{registerAt, readNumber, lineNumber}
+use Rattle.machine.specs.Registers.{readNumber, lineNumber}
 use Rattle.sgdma.specs.Calls.{registerOf, readCall, valueOver, RegisterRead, lineIn, lineCall, lineOver, LineRead, descriptorCall, answerOver, DescriptorRead}
 use Rattle.sgdma.proofs.Opened.{first-wrong, second-wrong, sizes-right, not-loaded, register-loaded, line-loaded}
 
@@ -57,7 +58,7 @@ module _ {xs value ys : List ℕ} {offset r : ℕ} where
           answers (register.Refused BadImage)
           (sizes-right _ _ 4 xs value l k ∙ ap (λ (x : LoadedMachine). registerOf x offset) (not-loaded xs why l e)) p q
 
-      pub register-answers : {m : Machine} {a b : ReadRegister} → loadOf xs ≡ loaded.Good m → Gives (registerAt m offset) a → a ≡ b
+      pub register-answers : {m : Machine} {a b : ReadRegister} → loadOf xs ≡ loaded.Good m → Gives (registerAt (m .status) (m .control) (m .pointer) offset) a → a ≡ b
           → r ≡ readNumber b → ys ≡ valueOver b value → RegisterRead xs offset value r ys
       unfolding readCall
       register-answers {m} {a} {b} e w f p q =

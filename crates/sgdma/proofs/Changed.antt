@@ -1,10 +1,5 @@
 -- Calls that change an image.
 -- Assumes nothing.
-use Rattle.regs.specs.declared.Mode.{Mode}
-use Rattle.regs.specs.declared.CheckedMode.the-variants as mode
-use Rattle.regs.specs.Modes.{modeOf, checkedMode}
-use Rattle.regs.specs.Offsets.{isRegister}
-use Rattle.machine.proofs.Answers.{was-loaded, was-written}
 use Prim.Native.Nat.{ℕ, _^_, _<_}
 use mathlib.Core.Path.{_≡_, refl, sym, ap, _∙_}
 use mathlib.Core.Bool.{Bool, true, false, cond}
@@ -19,6 +14,10 @@ use Rattle.bus.specs.declared.Window.{Window}
 use Rattle.bus.specs.declared.CheckedWindow.the-variants as window
 use Rattle.bus.specs.Window.{keepsLimits, checkedOf}
 use Rattle.bus.proofs.Limits.{checked-is}
+use Rattle.regs.specs.declared.Mode.{Mode}
+use Rattle.regs.specs.declared.CheckedMode.the-variants as mode
+use Rattle.regs.specs.Modes.{modeOf, checkedMode}
+use Rattle.regs.specs.Offsets.{isRegister}
 use Rattle.image.proofs.Answers.{read-size}
 use Rattle.image.proofs.Windows.{refused-breaks}
 use Rattle.machine.specs.declared.Machine.{Machine}
@@ -29,6 +28,7 @@ use Rattle.machine.specs.declared.registers.WroteRegister.the-variants as wrote
 use Rattle.machine.specs.State.{fresh}
 use Rattle.machine.specs.Saved.{keeps, loadedAs, loadOf, WasLoaded}
 use Rattle.machine.specs.Registers.{writtenTo, wroteNumber}
+use Rattle.machine.proofs.Answers.{was-loaded, was-written}
 use Rattle.met.specs.Sound.{Sound}
 use Rattle.met.proofs.RoundTrip.{loaded-keeps, loaded-typed}
 use Rattle.met.proofs.Writes.{fresh-keeps, write-keeps}

@@ -11,9 +11,9 @@ use Rattle.words.specs.Orders.{bytesOf, wordBytes, rowBytes}
 use Rattle.words.specs.Slices.{put, putAt}
 use Rattle.words.proofs.Recode.{split-append}
 use Rattle.words.proofs.Slices.{put-in, put-put, length-put}
-use Rattle.image.proofs.WordByWord.{put-all}
 use Rattle.descriptor.specs.declared.Descriptor.{Descriptor}
 use Rattle.descriptor.specs.declared.ReadDescriptor.the-variants.{Good}
+use Rattle.image.proofs.WordByWord.{put-all}
 use Rattle.sgdma.specs.Calls.{answerOver}
 
 -- two parts that together are as long as the slice are what then stands in it

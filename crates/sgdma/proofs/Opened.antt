@@ -1,8 +1,5 @@
 -- The sizes of what is lent, an image that does not load, and the registers of one that does.
 -- Assumes nothing.
-use Rattle.regs.specs.Control.{lineUp}
-use Rattle.regs.specs.Offsets.{isRegister}
-use Rattle.machine.proofs.Answers.{was-loaded, was-register}
 use Prim.Native.Nat.{ℕ}
 use mathlib.Core.Path.{_≡_, sym, ap, _∙_}
 use mathlib.Core.Bool.{Bool, true, false, cond, _&&_}
@@ -10,8 +7,12 @@ use mathlib.Core.List.{List}
 use native.Mathlib.Omega.{arith}
 use lib.ListN.{length}
 use borrow.Author.Tests.{eq-eqb, ne-eqb}
+use Rattle.words.specs.Promise.{Gives}
 use Rattle.bus.specs.declared.Refusal.{Refusal}
 use Rattle.bus.specs.declared.Refusal.the-variants.{NoRegister, BadImage}
+use Rattle.regs.specs.declared.ReadRegister.{ReadRegister}
+use Rattle.regs.specs.Control.{lineUp}
+use Rattle.regs.specs.Offsets.{isRegister, registerAt}
 use Rattle.image.specs.declared.Fields.{Fields}
 use Rattle.image.specs.declared.ReadImage.the-variants as read
 use Rattle.image.specs.Layout.{fields}
@@ -20,13 +21,12 @@ use Rattle.image.specs.Promise.{sized}
 use Rattle.image.specs.Promise as image
 use Rattle.machine.specs.declared.Machine.{Machine}
 use Rattle.machine.specs.declared.LoadedMachine.the-variants.{Good, Refused}
-use Rattle.machine.specs.declared.registers.ReadRegister.{ReadRegister}
 use Rattle.machine.specs.declared.registers.WroteRegister.the-variants as wrote
-use Rattle.machine.specs.Saved.{keeps, loadedAs, loadOf}
 use Rattle.machine.specs.declared.registers.Line.the-variants as line
-use Rattle.machine.specs.Registers.{registerAt, readOf, writtenTo, writeOf, lineOf, WasRead}
+use Rattle.machine.specs.Saved.{keeps, loadedAs, loadOf}
+use Rattle.machine.specs.Registers.{readOf, writtenTo, writeOf, lineOf, WasRead}
+use Rattle.machine.proofs.Answers.{was-loaded, was-register}
 use Rattle.met.proofs.RoundTrip.{loaded-keeps}
-use Rattle.words.specs.Promise.{Gives}
 use Rattle.sgdma.specs.Calls.{isSize}
 
 -- a call that looks at two sizes
@@ -58,7 +58,7 @@ module _ (xs : List ℕ) {m : Machine} (e : loadOf xs ≡ Good m) where
   keeps-loaded =
       loaded-keeps (was-loaded (sym e))
 
-  pub register-loaded : (offset : ℕ) {a : ReadRegister} → Gives (registerAt m offset) a → WasRead m offset a
+  pub register-loaded : (offset : ℕ) {a : ReadRegister} → Gives (registerAt (m .status) (m .control) (m .pointer) offset) a → WasRead m offset a
   unfolding readOf
   register-loaded offset g = was-register (rw keeps-loaded (g .value))
 

@@ -1,6 +1,5 @@
 -- The run over an image.
 -- Assumes nothing.
-use Rattle.machine.proofs.Answers.{was-loaded}
 use Prim.Native.Nat.{ℕ, _+_, _≤_, _<_}
 use mathlib.Core.Path.{_≡_, refl, sym, ap, subst, _∙_}
 use mathlib.Core.Bool.{true, cond, _&&_}
@@ -10,6 +9,7 @@ use lib.ListN.{length}
 use Rattle.words.specs.Slices.{AllBytes}
 use Rattle.bus.specs.declared.Refusal.{Refusal}
 use Rattle.bus.specs.declared.Refusal.the-variants.{BadSize, BadImage}
+use Rattle.image.specs.Promise.{sized}
 use Rattle.machine.specs.declared.Machine.{Machine}
 use Rattle.machine.specs.declared.Ran.{Ran}
 use Rattle.machine.specs.declared.RunAnswer.{RunAnswer}
@@ -19,12 +19,12 @@ use Rattle.machine.specs.declared.LoadedMachine.the-variants.{Good, Refused}
 use Rattle.machine.specs.Saved.{keeps, loadOf}
 use Rattle.machine.specs.Step.{World}
 use Rattle.machine.specs.Run.{run, Lent, serves, refused, lentIf, worldOf, ranAs, runAnswer, runNumber, HasRun, readyOf, Resumed}
+use Rattle.machine.proofs.Answers.{was-loaded}
 use Rattle.machine.proofs.StepLaws.{took-since}
 use Rattle.machine.proofs.RunLaws.{run-tells}
 use Rattle.machine.proofs.Outcomes.{resumed-runs}
 use Rattle.met.specs.Met as met
 use Rattle.met.proofs.InUse.{met-keeps}
-use Rattle.image.specs.Promise.{sized}
 use Rattle.sgdma.specs.Calls.{isSize, runIn, runCall, ranOver, reportOver, windowIn, outIn, RunMade}
 use Rattle.sgdma.proofs.Opened.{first-wrong, second-wrong, sizes-right, not-loaded, keeps-loaded}
 

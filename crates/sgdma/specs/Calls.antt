@@ -16,14 +16,14 @@ use Rattle.descriptor.specs.declared.Job.{Job}
 use Rattle.descriptor.specs.declared.ReadDescriptor.{ReadDescriptor}
 use Rattle.descriptor.specs.declared.ReadDescriptor.the-variants as descriptor
 use Rattle.descriptor.specs.Calls.{slotOf, found, built, withJob, builtNumber, readNumber as descriptorNumber}
+use Rattle.regs.specs.declared.ReadRegister.{ReadRegister}
+use Rattle.regs.specs.declared.ReadRegister.the-variants as register
+use Rattle.regs.specs.Modes.{modeOf}
 use Rattle.image.specs.Layout.{image}
 use Rattle.image.specs.Promise.{sized}
-use Rattle.regs.specs.Modes.{modeOf}
 use Rattle.machine.specs.declared.Machine.{Machine}
 use Rattle.machine.specs.declared.LoadedMachine.{LoadedMachine}
 use Rattle.machine.specs.declared.LoadedMachine.the-variants as loaded
-use Rattle.machine.specs.declared.registers.ReadRegister.{ReadRegister}
-use Rattle.machine.specs.declared.registers.ReadRegister.the-variants as register
 use Rattle.machine.specs.declared.registers.WroteRegister.{WroteRegister}
 use Rattle.machine.specs.declared.registers.WroteRegister.the-variants as wrote
 use Rattle.machine.specs.declared.registers.Line.{Line}

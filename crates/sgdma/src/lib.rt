@@ -27,10 +27,11 @@ use machine::Machine;
 use machine::Ran;
 use machine::Reason;
 use machine::RunAnswer;
-use machine::registers::ReadRegister;
 use regs::CheckedMode;
 use regs::Mode;
+use regs::ReadRegister;
 use regs::is_register;
+use regs::read;
 use words::Order;
 use words::put_u16;
 use words::put_u32;
@@ -104,7 +105,10 @@ pub extern "C" fn sgdma_read_register(image: &[u8], offset: u32, value: &mut [u8
     let LoadedMachine::Good(m) = Machine::load(image) else {
         return Refusal::BadImage.number();
     };
-    let answer = m.register(offset);
+    let status = m.status;
+    let control = m.control;
+    let pointer = m.pointer;
+    let answer = read(status, control, pointer, offset);
     match answer {
         ReadRegister::Refused(why) => why.number(),
         ReadRegister::Value(v) => {

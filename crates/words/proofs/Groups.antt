@@ -11,8 +11,8 @@ use lib.Seq.{length-take-le}
 use Rattle.words.specs.declared.Order.the-variants.{MostFirst}
 use Rattle.words.specs.Numbers.{total, join, recode, bytes, Fit}
 use Rattle.words.specs.Orders.{wordBytes}
-use Rattle.words.proofs.Recode.{total-append, recode-append}
 use Rattle.words.specs.Slices.{AllBytes}
+use Rattle.words.proofs.Recode.{total-append, recode-append}
 use Rattle.words.proofs.Bytes.{bytes-fit, take-bytes, drop-bytes}
 
 -- runs one after the other

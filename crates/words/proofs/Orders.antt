@@ -12,8 +12,8 @@ use Rattle.words.specs.declared.Order.{Order}
 use Rattle.words.specs.declared.Order.the-variants.{MostFirst, LeastFirst}
 use Rattle.words.specs.Numbers.{total, join, split, bytes, Fit}
 use Rattle.words.specs.Orders.{inOrder, bytesOf, numberOf, bitWidths, rowBytes, rowNumbers, wordBytes}
-use Rattle.words.proofs.Recode.{join-split, split-join}
 use Rattle.words.specs.Slices.{AllBytes}
+use Rattle.words.proofs.Recode.{join-split, split-join}
 use Rattle.words.proofs.Bytes.{bytes-fit, take-bytes, drop-bytes, order-bytes}
 
 pub order-back : (order : Order) (xs : List ℕ) → inOrder order (inOrder order xs) ≡ xs

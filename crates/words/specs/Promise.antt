@@ -1,9 +1,9 @@
 -- What a leaf call promises: the value that it gives, or the bytes that it leaves in what it was lent. Nothing else is
 -- open, so no second outcome satisfies the promise.
 -- Assumes nothing.
+use Prim.Native.Nat.{ℕ}
 use mathlib.Core.Path.{_≡_, sym, _∙_}
 use mathlib.Core.List.{List}
-use Prim.Native.Nat.{ℕ}
 
 -- the call gives just this value
 pub record Gives {A : Type 0} (right given : A) : Type 0 where

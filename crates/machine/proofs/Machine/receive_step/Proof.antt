@@ -40,23 +40,11 @@ mul-get-u16 c = search needs
 get-u16-requires : tie.Need-get-u16-requires
 get-u16-requires c κs = search needs
 
-cast-has : tie.Need-cast-has
-cast-has c = search needs
-
-cast-has-2 : tie.Need-cast-has-2
-cast-has-2 c = search needs
-
-has-requires : tie.Need-has-requires
-has-requires c κs = search needs
-
-cast-window : tie.Need-cast-window
-cast-window c = search needs
+of-requires : tie.Need-of-requires
+of-requires c κs = search needs
 
 slice-write-window : tie.Need-slice-write-window
 slice-write-window c = omega (arith, fits (c .before .before .before .before .before .before .locate .ensures) (c .before .before .before .before .found .given .1), c .before .before .index .ensures .value, c .before .before .before .before .before .before .before .before .before .before .pre .0)
-
-cast-onward : tie.Need-cast-onward
-cast-onward c = search needs
 
 onward-requires : tie.Need-onward-requires
 onward-requires c κs = search needs
@@ -92,7 +80,7 @@ returns-2 c =
     let at = i .index .ensures .value ∙ place (l .locate .ensures) to e in (
       (rw (c .at2 .ensures) (past some), ap (λ (r : Progress). r .made) (c .at2 .ensures)),
       λ out.
-          receive-in (a .self) (a .k) (a .window .now) (a .beats .now) (a .next) out (a .made) some inside-it (c .before .before .before .get-u16 .ensures .value) (c .before .before .has .ensures .value) at (c .before .onward .ensures) (c .at2 .ensures),
+          receive-in (a .self) (a .k) (a .window .now) (a .beats .now) (a .next) out (a .made) some inside-it (c .before .before .before .get-u16 .ensures .value) (c .before .before .of .ensures .value) at (c .before .onward .ensures) (c .at2 .ensures),
     )
 
 pub receive-step-spec : {M : Type 1} → statement M
@@ -109,12 +97,8 @@ receive-step-spec =
     index-requires
     mul-get-u16
     get-u16-requires
-    cast-has
-    cast-has-2
-    has-requires
-    cast-window
+    of-requires
     slice-write-window
-    cast-onward
     onward-requires
     at-requires-2
     returns

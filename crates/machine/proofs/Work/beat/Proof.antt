@@ -25,7 +25,7 @@ output-beat-requires c κs = search needs
 returns : tie.Need-returns
 unfolding beatFor
 returns c =
-    c .output-beat .ensures
+    c .output-beat .ensures .value
     ∙ simp (c .before .before .has2 .ensures .value, c .before .before .before .before .has .ensures .value)
 
 pub beat-spec : {M : Type 1} → statement M
