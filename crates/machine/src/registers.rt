@@ -131,7 +131,7 @@ impl Machine {
     }
 }
 
-// The same of any machine: 8 for one that breaks a rule, before 1.
+// Registers and line of any machine: 8 for one that breaks a rule, before 1.
 impl Machine {
     pub fn read_register(self, offset: u32) -> ReadRegister
         ensures { λ r. ⌜ WasRead self offset r ⌝ }
