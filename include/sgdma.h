@@ -259,6 +259,10 @@ extern "C" {
  *   Halted      RUN is 1, mode is 2
  *   Faulted     code is 10 to 14, in mode 1 not 14, in mode 2 not 12 or 13.
  *               In every other phase, code and fault address are 0
+ *
+ * An image that sgdma_create made keeps them, and so does what every call
+ * leaves of one that keeps them: SGDMA_BAD_IMAGE tells that the bytes are no
+ * image, or were changed by something else.
  */
 #define SGDMA_IMAGE_FAULT_AT          1    /* 8 bits, of which the code is those of the mask */
 #define SGDMA_IMAGE_FAULT_MASK        0x1F

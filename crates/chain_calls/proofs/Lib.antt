@@ -2,3 +2,4 @@ pub mod OfCalls
 pub mod Instances
 pub mod NoneUseless
 pub mod Refused
+pub mod Images

@@ -45,11 +45,11 @@ are-all-bytes (x ∷ xs) h = (h .0, are-all-bytes xs (h .1))
 -- ---- one call over the image of a machine
 
 -- the image of a machine met in use loads as it
-loads-as : {m : Machine} → Met m → loadOf (imageOf m) ≡ Good m
+pub loads-as : {m : Machine} → Met m → loadOf (imageOf m) ≡ Good m
 loads-as {m} h = loads m (met-sound h .typed) (met-sound h .rules)
 
 -- a write that a machine does not refuse, over its image
-written-over : {xs ys : List ℕ} {m n : Machine} {offset v r : ℕ}
+pub written-over : {xs ys : List ℕ} {m n : Machine} {offset v r : ℕ}
     → loadOf xs ≡ Good m → writeOf m offset v ≡ wrote.Done n → RegisterWritten xs offset v r ys → (r ≡ 0) × (ys ≡ imageOf n)
 written-over {xs} {ys} {m} {n} {offset} {v} e d w =
     let a : writtenIn (loadOf xs) offset v ≡ wrote.Done n = ap (λ (x : LoadedMachine). writtenIn x offset v) e ∙ d in
@@ -57,7 +57,7 @@ written-over {xs} {ys} {m} {n} {offset} {v} e d w =
 
 -- a run over an image that loads is the machine's run
 module _ (x : RunLent) {m : Machine} (size : length (x .image) ≡ 44) (report-size : length (x .report) ≡ 14) (e : loadOf (x .image) ≡ Good m) where
-  abbrev runAs : RunAnswer
+  abbrev pub runAs : RunAnswer
   runAs = runAnswer (lentOf m (x .memory) (x .beats) (x .out)) (worldOf m (x .memory) (x .beats) (x .out)) (x .budget)
 
   pub runs-as : runCall (x .image) (x .memory) (x .beats) (x .out) (x .budget) (x .report) ≡ runAs
@@ -66,7 +66,7 @@ module _ (x : RunLent) {m : Machine} (size : length (x .image) ≡ 44) (report-s
       sizes-right _ _ 14 (x .image) (x .report) size report-size
       ∙ ap (λ (y : LoadedMachine). runIn y (x .memory) (x .beats) (x .out) (x .budget)) e
 
-  has-run : (y : RunLeft) → Promised x y → HasRun m (x .memory) (x .beats) (x .out) (x .budget) runAs (y .memory) (y .out)
+  pub has-run : (y : RunLeft) → Promised x y → HasRun m (x .memory) (x .beats) (x .out) (x .budget) runAs (y .memory) (y .out)
   has-run y p =
       record {
         answer = refl;

@@ -2,3 +2,4 @@ pub mod InC
 pub mod Known
 pub mod Useless
 pub mod Refused
+pub mod Images

@@ -1,1 +1,1 @@
-// The chain theorem of the C calls has no code of its own: what it says is in specs/, of the calls' own promises.
+// The theorems of the C calls have no code of their own: what they say is in specs/, of the calls' own promises.
