@@ -3,3 +3,4 @@ pub mod Instances
 pub mod NoneUseless
 pub mod Refused
 pub mod Images
+pub mod Unchanged

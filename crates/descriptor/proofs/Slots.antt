@@ -2,6 +2,7 @@
 -- Assumes nothing.
 use Prim.Native.Nat.{ℕ, _+_, _-_, _%_, _≤_}
 use mathlib.Core.Path.{_≡_, refl, ap, subst, _∙_}
+use mathlib.Core.Logic.{_≢_}
 use mathlib.Core.Bool.{Bool, true, false, cond}
 use mathlib.Core.List.{List}
 use native.Mathlib.Omega.{arith}
@@ -19,7 +20,8 @@ use Rattle.bus.specs.Window.{keepsLimits, checkedOf, inWindow, placeOf, located
 use Rattle.bus.proofs.Limits.{checked-is, located-is}
 use Rattle.descriptor.specs.declared.Slot.{Slot}
 use Rattle.descriptor.specs.declared.Slot.the-variants.{At, Refused}
-use Rattle.descriptor.specs.Calls.{placed, slotIn, slotOf, slotNumber, found, readNumber, built, builtNumber, Slotted}
+use Rattle.descriptor.specs.declared.Job.{Job}
+use Rattle.descriptor.specs.Calls.{placed, slotIn, slotOf, slotNumber, found, readNumber, built, builtNumber, withJob, Slotted}
 
 module _ (length base a : ℕ) where
   pub no-window : (why : Refusal) → checkedOf base length ≡ checked.Refused why → Slotted length base a (Refused why)
@@ -88,3 +90,8 @@ built-number (Refused why) = refl
 pub found-number : (xs : List ℕ) (s : Slot) → readNumber (found xs s) ≡ slotNumber s
 found-number xs (At p) = refl
 found-number xs (Refused why) = refl
+
+-- where none is built the window is as it was
+pub build-stays : (s : Slot) (window : List ℕ) (j : Job) → builtNumber (built s) ≢ 0 → withJob window j s ≡ window
+build-stays (At p) window j h = absurd (h refl)
+build-stays (Refused why) window j h = refl

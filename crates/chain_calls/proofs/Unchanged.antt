@@ -1,0 +1,107 @@
+-- "A refused call returns its number and nothing else; machine and lent bytes keep their values": where a C call gives back another
+-- number than 0, everything that it may write is as it was lent. The machine is its image.
+-- Assumes nothing.
+use Prim.Native.Nat.{ℕ}
+use mathlib.Core.Path.{_≡_, refl, _∙_}
+use mathlib.Core.Logic.{_≢_}
+use mathlib.Core.Bool.{Bool, true, false, cond, _&&_}
+use mathlib.Core.List.{List}
+use lib.ListN.{length}
+use borrow.Author.Tests.{ne-eqb}
+use Rattle.bus.specs.declared.Refusal.the-variants.{BadSize}
+use Rattle.descriptor.specs.declared.Job.{Job}
+use Rattle.descriptor.specs.declared.ReadDescriptor.{ReadDescriptor}
+use Rattle.descriptor.specs.declared.ReadDescriptor.the-variants as descriptor
+use Rattle.descriptor.specs.Calls.{slotOf, readNumber as descriptorNumber}
+use Rattle.descriptor.proofs.Slots.{build-stays}
+use Rattle.regs.specs.declared.ReadRegister.{ReadRegister}
+use Rattle.regs.specs.declared.ReadRegister.the-variants as register
+use Rattle.image.specs.Promise.{sized}
+use Rattle.machine.specs.declared.LoadedMachine.{LoadedMachine}
+use Rattle.machine.specs.declared.LoadedMachine.the-variants as loaded
+use Rattle.machine.specs.declared.registers.WroteRegister.{WroteRegister}
+use Rattle.machine.specs.declared.registers.WroteRegister.the-variants as wrote
+use Rattle.machine.specs.declared.registers.Line.{Line}
+use Rattle.machine.specs.declared.registers.Line.the-variants as line
+use Rattle.machine.specs.declared.RunAnswer.{RunAnswer}
+use Rattle.machine.specs.declared.RunAnswer.the-variants as ran
+use Rattle.machine.specs.Saved.{loadOf}
+use Rattle.machine.specs.Step.{World}
+use Rattle.machine.specs.Registers.{readNumber, wroteNumber, lineNumber}
+use Rattle.machine.specs.Run.{Lent, serves, refused, lentOf, worldOf, runAnswer, windowAfter, outAfter, runNumber}
+use Rattle.sgdma.specs.Calls.{createNumber, Created, readCall, valueOver, RegisterRead, writtenIn, writtenOver, RegisterWritten, lineCall, lineOver, LineRead, isSize, runIn, runCall, ranOver, reportOver, windowIn, outIn, RunMade, DescriptorBuilt, descriptorCall, answerOver, DescriptorRead}
+
+-- the number given back is that of the answer
+told : {r n : ℕ} → r ≡ n → r ≢ 0 → n ≢ 0
+told e h z = h (e ∙ z)
+
+-- ---- what each answer leaves, where its number is not 0
+
+read-stays : (a : ReadRegister) (value : List ℕ) → readNumber a ≢ 0 → valueOver a value ≡ value
+read-stays (register.Value v) value h = absurd (h refl)
+read-stays (register.Refused why) value h = refl
+
+write-stays : (a : WroteRegister) (xs : List ℕ) → wroteNumber a ≢ 0 → writtenOver a xs ≡ xs
+write-stays (wrote.Done m) xs h = absurd (h refl)
+write-stays (wrote.Refused why) xs h = refl
+
+line-stays : (a : Line) (value : List ℕ) → lineNumber a ≢ 0 → lineOver a value ≡ value
+line-stays line.Up value h = absurd (h refl)
+line-stays line.Down value h = absurd (h refl)
+line-stays (line.Refused why) value h = refl
+
+descriptor-stays : (a : ReadDescriptor) (answer : List ℕ) → descriptorNumber a ≢ 0 → answerOver a answer ≡ answer
+descriptor-stays (descriptor.Good d) answer h = absurd (h refl)
+descriptor-stays (descriptor.Refused why) answer h = refl
+
+-- ---- a run
+
+-- image and report, by the answer
+run-stays : (a : RunAnswer) (xs report : List ℕ) → runNumber a ≢ 0 → (ranOver a xs ≡ xs) × (reportOver a report ≡ report)
+run-stays (ran.Done r) xs report h = absurd (h refl)
+run-stays (ran.Refused why) xs report h = (refl, refl)
+
+-- window and output, by whether what is lent serves
+lent-stays : (l : Lent) (w v : World) (budget : ℕ) (window out : List ℕ) → runNumber (runAnswer l w budget) ≢ 0
+    → (windowAfter l v window ≡ window) × (outAfter l v out ≡ out)
+lent-stays serves w v budget window out h = absurd (h refl)
+lent-stays (refused why) w v budget window out h = (refl, refl)
+
+-- and by what was loaded
+module _ (window beats out : List ℕ) (budget : ℕ) where
+  slices-stay : (right : Bool) (l : LoadedMachine) → runNumber (cond right (runIn l window beats out budget) (ran.Refused BadSize)) ≢ 0
+      → (cond right (windowIn l window beats out budget) window ≡ window) × (cond right (outIn l window beats out budget) out ≡ out)
+  slices-stay true (loaded.Good m) h = lent-stays (lentOf m window beats out) (worldOf m window beats out) _ budget window out h
+  slices-stay true (loaded.Refused why) h = (refl, refl)
+  slices-stay false l h = (refl, refl)
+
+-- ---- the calls
+
+pub create-unchanged : {xs ys : List ℕ} {mode base length r : ℕ} → Created xs mode base length r ys → r ≢ 0 → ys ≡ xs
+create-unchanged {xs} {mode = mode} {base} {length} c h =
+    c .image-after ∙ rw (ne-eqb (createNumber xs mode base length) 0 (told (c .number) h))
+
+pub read-unchanged : {xs value after : List ℕ} {offset r : ℕ} → RegisterRead xs offset value r after → r ≢ 0 → after ≡ value
+read-unchanged {xs} {value} {offset = offset} c h = c .value-after ∙ read-stays (readCall xs offset value) value (told (c .number) h)
+
+pub write-unchanged : {xs ys : List ℕ} {offset v r : ℕ} → RegisterWritten xs offset v r ys → r ≢ 0 → ys ≡ xs
+write-unchanged {xs} {offset = offset} {v} c h = c .image-after ∙ write-stays (writtenIn (loadOf xs) offset v) xs (told (c .number) h)
+
+pub line-unchanged : {xs value after : List ℕ} {r : ℕ} → LineRead xs value r after → r ≢ 0 → after ≡ value
+line-unchanged {xs} {value} c h = c .value-after ∙ line-stays (lineCall xs value) value (told (c .number) h)
+
+pub run-unchanged : {xs window beats out report x w o p : List ℕ} {budget r : ℕ}
+    → RunMade xs window beats out budget report r x w o p → r ≢ 0 → (x ≡ xs) × (w ≡ window) × (o ≡ out) × (p ≡ report)
+unfolding runCall
+run-unchanged {xs} {window} {beats} {out} {report} {budget = budget} c h =
+    let n = told (c .number) h in
+    let a = run-stays (runCall xs window beats out budget report) xs report n in
+    let s = slices-stay window beats out budget (sized xs && isSize 14 report) (loadOf xs) n in
+    (c .image-after ∙ a .0, c .window-after ∙ s .0, c .out-after ∙ s .1, c .report-after ∙ a .1)
+
+pub build-unchanged : {window after : List ℕ} {base a r : ℕ} {j : Job} → DescriptorBuilt window base a j r after → r ≢ 0 → after ≡ window
+build-unchanged {window} {base = base} {a} {j = j} c h = c .window-after ∙ build-stays (slotOf (length window) base a) window j (told (c .number) h)
+
+pub descriptor-unchanged : {window answer after : List ℕ} {base a r : ℕ}
+    → DescriptorRead window base a answer r after → r ≢ 0 → after ≡ answer
+descriptor-unchanged {window} {answer} {base = base} {a} c h = c .answer-after ∙ descriptor-stays (descriptorCall window base a answer) answer (told (c .number) h)
