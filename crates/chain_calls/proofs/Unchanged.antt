@@ -30,10 +30,11 @@ use Rattle.machine.specs.Step.{World}
 use Rattle.machine.specs.Registers.{readNumber, wroteNumber, lineNumber}
 use Rattle.machine.specs.Run.{Lent, serves, refused, lentOf, worldOf, runAnswer, windowAfter, outAfter, runNumber}
 use Rattle.sgdma.specs.Calls.{createNumber, Created, readCall, valueOver, RegisterRead, writtenIn, writtenOver, RegisterWritten, lineCall, lineOver, LineRead, isSize, runIn, runCall, ranOver, reportOver, windowIn, outIn, RunMade, DescriptorBuilt, descriptorCall, answerOver, DescriptorRead}
+use Rattle.chain_calls.specs.Refused.{WhereRefused}
 
--- the number given back is that of the answer
-told : {r n : ℕ} → r ≡ n → r ≢ 0 → n ≢ 0
-told e h z = h (e ∙ z)
+-- the number given back is that of the answer, so the answer is a refusal too
+answer-refused : {r n : ℕ} → r ≡ n → r ≢ 0 → n ≢ 0
+answer-refused e h z = h (e ∙ z)
 
 -- ---- what each answer leaves, where its number is not 0
 
@@ -77,31 +78,31 @@ module _ (window beats out : List ℕ) (budget : ℕ) where
 
 -- ---- the calls
 
-pub create-unchanged : {xs ys : List ℕ} {mode base length r : ℕ} → Created xs mode base length r ys → r ≢ 0 → ys ≡ xs
+pub create-unchanged : {xs ys : List ℕ} {mode base length r : ℕ} → Created xs mode base length r ys → WhereRefused r (ys ≡ xs)
 create-unchanged {xs} {mode = mode} {base} {length} c h =
-    c .image-after ∙ rw (ne-eqb (createNumber xs mode base length) 0 (told (c .number) h))
+    c .image-after ∙ rw (ne-eqb (createNumber xs mode base length) 0 (answer-refused (c .number) h))
 
-pub read-unchanged : {xs value after : List ℕ} {offset r : ℕ} → RegisterRead xs offset value r after → r ≢ 0 → after ≡ value
-read-unchanged {xs} {value} {offset = offset} c h = c .value-after ∙ read-stays (readCall xs offset value) value (told (c .number) h)
+pub read-unchanged : {xs value after : List ℕ} {offset r : ℕ} → RegisterRead xs offset value r after → WhereRefused r (after ≡ value)
+read-unchanged {xs} {value} {offset = offset} c h = c .value-after ∙ read-stays (readCall xs offset value) value (answer-refused (c .number) h)
 
-pub write-unchanged : {xs ys : List ℕ} {offset v r : ℕ} → RegisterWritten xs offset v r ys → r ≢ 0 → ys ≡ xs
-write-unchanged {xs} {offset = offset} {v} c h = c .image-after ∙ write-stays (writtenIn (loadOf xs) offset v) xs (told (c .number) h)
+pub write-unchanged : {xs ys : List ℕ} {offset v r : ℕ} → RegisterWritten xs offset v r ys → WhereRefused r (ys ≡ xs)
+write-unchanged {xs} {offset = offset} {v} c h = c .image-after ∙ write-stays (writtenIn (loadOf xs) offset v) xs (answer-refused (c .number) h)
 
-pub line-unchanged : {xs value after : List ℕ} {r : ℕ} → LineRead xs value r after → r ≢ 0 → after ≡ value
-line-unchanged {xs} {value} c h = c .value-after ∙ line-stays (lineCall xs value) value (told (c .number) h)
+pub line-unchanged : {xs value after : List ℕ} {r : ℕ} → LineRead xs value r after → WhereRefused r (after ≡ value)
+line-unchanged {xs} {value} c h = c .value-after ∙ line-stays (lineCall xs value) value (answer-refused (c .number) h)
 
 pub run-unchanged : {xs window beats out report x w o p : List ℕ} {budget r : ℕ}
-    → RunMade xs window beats out budget report r x w o p → r ≢ 0 → (x ≡ xs) × (w ≡ window) × (o ≡ out) × (p ≡ report)
+    → RunMade xs window beats out budget report r x w o p → WhereRefused r ((x ≡ xs) × (w ≡ window) × (o ≡ out) × (p ≡ report))
 unfolding runCall
 run-unchanged {xs} {window} {beats} {out} {report} {budget = budget} c h =
-    let n = told (c .number) h in
+    let n = answer-refused (c .number) h in
     let a = run-stays (runCall xs window beats out budget report) xs report n in
     let s = slices-stay window beats out budget (sized xs && isSize 14 report) (loadOf xs) n in
     (c .image-after ∙ a .0, c .window-after ∙ s .0, c .out-after ∙ s .1, c .report-after ∙ a .1)
 
-pub build-unchanged : {window after : List ℕ} {base a r : ℕ} {j : Job} → DescriptorBuilt window base a j r after → r ≢ 0 → after ≡ window
-build-unchanged {window} {base = base} {a} {j = j} c h = c .window-after ∙ build-stays (slotOf (length window) base a) window j (told (c .number) h)
+pub build-unchanged : {window after : List ℕ} {base a r : ℕ} {j : Job} → DescriptorBuilt window base a j r after → WhereRefused r (after ≡ window)
+build-unchanged {window} {base = base} {a} {j = j} c h = c .window-after ∙ build-stays (slotOf (length window) base a) window j (answer-refused (c .number) h)
 
 pub descriptor-unchanged : {window answer after : List ℕ} {base a r : ℕ}
-    → DescriptorRead window base a answer r after → r ≢ 0 → after ≡ answer
-descriptor-unchanged {window} {answer} {base = base} {a} c h = c .answer-after ∙ descriptor-stays (descriptorCall window base a answer) answer (told (c .number) h)
+    → DescriptorRead window base a answer r after → WhereRefused r (after ≡ answer)
+descriptor-unchanged {window} {answer} {base = base} {a} c h = c .answer-after ∙ descriptor-stays (descriptorCall window base a answer) answer (answer-refused (c .number) h)

@@ -1,8 +1,10 @@
 -- The paper's "Refusal numbers" of the C calls: for each call the refusals that it can meet, each with its test, and one order. That
--- the number a call gives back is the first that applies is `create-in-order` and the six laws beside it.
+-- the number a call gives back is the first that applies is `create-in-order` and the six laws beside it; that a refused call changes
+-- nothing is `create-unchanged` and six more.
 -- Assumes nothing.
 use Prim.Native.Nat.{ℕ, _%_}
 use mathlib.Core.Path.{_≡_}
+use mathlib.Core.Logic.{_≢_}
 use mathlib.Core.Bool.{Bool, true, false, not, cond, _&&_}
 use mathlib.Core.List.{List, [], _∷_}
 use lib.Dec.{eqb, leb}
@@ -43,6 +45,10 @@ comeIn (n ∷ ns) (t ∷ ts) = cond (eqb n (t .number)) (comeIn ns ts) (comeIn n
 pub record FirstThatApplies (ts : List Test) (r : ℕ) : Type 0 where
   pub number : r ≡ first ts
   pub in-order : comeIn order ts ≡ true
+
+-- "A refused call returns its number and nothing else; machine and lent bytes keep their values": what holds where the number is not 0
+abbrev pub WhereRefused : ℕ → Type 0 → Type 0
+WhereRefused r A = r ≢ 0 → A
 
 -- ---- the tests
 
