@@ -15,7 +15,7 @@ use Rattle.machine.specs.declared.Machine.{Machine}
 use Rattle.machine.specs.declared.Work.{Work}
 use Rattle.machine.specs.declared.Phase.the-variants.{Move, WriteBack}
 use Rattle.machine.specs.State.{withPhase}
-use Rattle.machine.specs.Step.{World, whole, destinationOf}
+use Rattle.machine.specs.Step.{World, received, whole, destinationOf}
 use Rattle.machine.specs.Laws.{Along, here, more}
 use Rattle.chain.specs.Chain.{All, takes, enough, Sent, sentFrom, gathered}
 use Rattle.chain.proofs.Memory.{writes}
@@ -76,13 +76,7 @@ sentOf k t = sentFrom (writeFixed (k .control .0)) (k .destination) (k .moved) t
 
 abbrev pub deliveredWorld : World → Work → List ℕ → List ℕ → World
 deliveredWorld w k t bs =
-    record {
-      machine = withPhase (WriteBack (worked k t)) (w .machine);
-      memory = writes (w .machine .window) (sentOf k t) (w .memory);
-      input = drop (length t) bs;
-      output = w .output;
-      room = w .room;
-    }
+    received w (withPhase (WriteBack (worked k t)) (w .machine)) (writes (w .machine .window) (sentOf k t) (w .memory)) (drop (length t) bs)
 
 -- ---- where the work goes after a byte
 

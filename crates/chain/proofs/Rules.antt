@@ -20,8 +20,8 @@ use Rattle.machine.specs.declared.Machine.{Machine}
 use Rattle.machine.specs.declared.Work.{Work}
 use Rattle.machine.specs.declared.Phase.{Phase}
 use Rattle.machine.specs.declared.Phase.the-variants.{Rest, Fetch, Move, WriteBack}
-use Rattle.machine.specs.State.{withPointer, withPhase, withBusy}
-use Rattle.machine.specs.Step.{World, taken, became, restStep, ended, wantsLength, begun, fetched, fetchStep, whole, destinationOf, withByte, onward, receiveFrom, moveStep, writtenControl, writtenBack, completed, writeBackStep, stepIn, step}
+use Rattle.machine.specs.State.{remade, withPointer, withPhase, withBusy}
+use Rattle.machine.specs.Step.{World, taken, became, stored, received, restStep, ended, wantsLength, begun, fetched, fetchStep, whole, destinationOf, withByte, onward, receiveFrom, moveStep, writtenControl, writtenBack, completed, writeBackStep, stepIn, step}
 use Rattle.chain.specs.Chain.{Link, linkAt}
 
 -- the machine runs, in this mode, and neither parks nor stops on errors
@@ -76,13 +76,7 @@ module _ (w : World) (l : Link) (p : w .machine .phase ≡ Fetch) (c : Set (w .m
 -- a beat is taken, and its byte written
 abbrev pub receivedWorld : World → Work → ℕ → List ℕ → Phase → World
 receivedWorld w k b bs q =
-    record {
-      machine = withPhase q (w .machine);
-      memory = set (w .memory) (placeOf (w .machine .window) (destinationOf k)) (beatData b);
-      input = bs;
-      output = w .output;
-      room = w .room;
-    }
+    received w (withPhase q (w .machine)) (set (w .memory) (placeOf (w .machine .window) (destinationOf k)) (beatData b)) bs
 
 abbrev pub withBeat : ℕ → Work → Work
 withBeat b k = withByte (beatError b) (beatEop b) k
@@ -104,22 +98,10 @@ move-step w k b bs q p c i h g =
 -- the last four bytes are written
 abbrev pub markedWorld : World → Work → World
 markedWorld w k =
-    record {
-      machine = record {
-        mode = w .machine .mode;
-        window = w .machine .window;
-        status = completed (w .machine) k .status;
-        control = w .machine .control;
-        pointer = w .machine .pointer;
-        phase = Fetch;
-        pending = completed (w .machine) k .pending;
-        count = completed (w .machine) k .count;
-      };
-      memory = putAt (w .memory) (placeOf (w .machine .window) (k .at) + 28) (lastFour (k .moved) (k .errors) (k .control .0 % 128));
-      input = w .input;
-      output = w .output;
-      room = w .room;
-    }
+    let m = w .machine in
+    let n = completed (w .machine) k in
+    stored w (remade (n .status) (m .control) (m .pointer) Fetch (n .pending) (n .count) m)
+    (putAt (w .memory) (placeOf (m .window) (k .at) + 28) (lastFour (k .moved) (k .errors) (k .control .0 % 128)))
 
 pub write-step : (w : World) (k : Work) → w .machine .phase ≡ WriteBack k → Set (w .machine) → step w ≡ taken (markedWorld w k)
 unfolding step writeBackStep writtenBack writtenControl completed

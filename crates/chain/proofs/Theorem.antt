@@ -16,7 +16,7 @@ use Rattle.machine.specs.declared.Phase.the-variants.{Fetch}
 use Rattle.machine.specs.declared.Reason.the-variants.{Ended, Budget}
 use Rattle.machine.specs.State.{withPointer, withPhase, withBusy, fresh}
 use Rattle.machine.specs.Registers.{stored}
-use Rattle.machine.specs.Step.{World, became}
+use Rattle.machine.specs.Step.{World, became, opened}
 use Rattle.machine.specs.Run.{Report, run, takenSince, ranAs}
 use Rattle.machine.specs.Laws.{Along, more}
 use Rattle.machine.proofs.Writes.{write-runs}
@@ -50,14 +50,14 @@ module _ (g : Given) (h : Premises g) where
   m0 = stored (g .control) (withPointer (g .pointer) (fresh StreamToMemory (g .window)))
 
   abbrev w0 : World
-  w0 = record { machine = m0; memory = g .memory; input = g .beats; output = []; room = g .room }
+  w0 = opened m0 (g .memory) (g .beats) (g .room)
 
   abbrev w1 : World
   w1 = became w0 (withPhase Fetch (withBusy true m0))
 
   starts : worldFor g ≡ w0
   starts =
-      ap (λ (m : Machine). record { machine = m; memory = g .memory; input = g .beats; output = []; room = g .room })
+      ap (λ (m : Machine). opened m (g .memory) (g .beats) (g .room))
       (write-runs (g .control) (withPointer (g .pointer) (fresh StreamToMemory (g .window))) (and-false (bit 16 (g .control))) (h .run-set))
 
   ready : Ready w1 (links g) (last g)

@@ -23,7 +23,7 @@ use Rattle.machine.specs.declared.Reason.the-variants.{Ended, Budget}
 use Rattle.machine.specs.declared.Ran.{Ran}
 use Rattle.machine.specs.State.{withPointer, fresh}
 use Rattle.machine.specs.Registers.{controlWritten}
-use Rattle.machine.specs.Step.{World}
+use Rattle.machine.specs.Step.{World, opened}
 use Rattle.machine.specs.Run.{run}
 
 abbrev pub All {ℓ} : {A : Type ℓ} → (A → Type 0) → List A → Type 0
@@ -54,7 +54,7 @@ machineFor g = controlWritten (g .control) (withPointer (g .pointer) (fresh Stre
 
 -- where the one run is made
 abbrev pub worldFor : Given → World
-worldFor g = record { machine = machineFor g; memory = g .memory; input = g .beats; output = []; room = g .room }
+worldFor g = opened (machineFor g) (g .memory) (g .beats) (g .room)
 
 -- ---- the chain in memory
 

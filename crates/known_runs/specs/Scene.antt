@@ -17,7 +17,7 @@ use Rattle.machine.specs.declared.registers.WroteRegister.the-variants.{Done, R
 use Rattle.machine.specs.State.{fresh, phaseNumber}
 use Rattle.machine.specs.Saved.{keeps, faultIn}
 use Rattle.machine.specs.Registers.{writeOf}
-use Rattle.machine.specs.Step.{became}
+use Rattle.machine.specs.Step.{became, opened}
 use Rattle.machine.specs.Run.{Report, run, reasonNumber}
 
 -- what is done: a register is written, or a run is made with a budget
@@ -91,13 +91,7 @@ opening s =
     record {
       reason = Rest;
       steps = 0;
-      world = record {
-        machine = fresh (modeOf (s .mode)) (record { base = s .base; length = length (s .window) });
-        memory = s .window;
-        input = s .beats;
-        output = [];
-        room = s .room;
-      };
+      world = opened (fresh (modeOf (s .mode)) (record { base = s .base; length = length (s .window) })) (s .window) (s .beats) (s .room);
     }
 
 -- ---- looking at the end

@@ -32,8 +32,9 @@ use Rattle.machine.specs.declared.Phase.the-variants.{Move}
 use Rattle.machine.specs.declared.Progress.{Progress}
 use Rattle.machine.specs.declared.bursts.Reach.{Reach}
 use Rattle.machine.specs.declared.runs.Advanced.{Advanced}
-use Rattle.machine.specs.Step.{World, taken, step, whole, sourceOf, destinationOf, onward, beatFor}
-use Rattle.machine.specs.Turns.{world, worldAt, progress, Within, steps, Went, Advances, movedBy, Moving, Bursts, Reaches, Unmarked}
+use Rattle.machine.specs.Step.{World, taken, became, sent, received, step, whole, sourceOf, destinationOf, onward, beatFor}
+use Rattle.machine.specs.Run.{worldOf}
+use Rattle.machine.specs.Turns.{worldAt, midway, progress, Within, steps, Went, Advances, movedBy, Moving, Bursts, Reaches, Unmarked}
 use Rattle.machine.proofs.Places.{inside, place, fits}
 use Rattle.machine.proofs.Streams.{none-made}
 use Rattle.machine.proofs.Turning.{went-none, went-as}
@@ -97,10 +98,9 @@ module _ (k : Work) {fixed generate : Bool} (f : fixed ≡ writeFixed (k .contro
 
 -- no byte, no step
 no-steps : {mode : Mode} {window : Window} {k : Work} {most : ℕ} {m : Machine} → Moving mode window k most m
-    → (memory input output : List ℕ) (room : ℕ)
-    → steps 0 (world m memory input output room) ≡ taken (world (onward m (movedBy k 0 (k .errors))) memory input output room)
+    → (w : World) → steps 0 (became w m) ≡ taken (became w (onward m (movedBy k 0 (k .errors))))
 unfolding steps
-no-steps g memory input output room = ap (λ (x : Machine). taken (world x memory input output room)) (sym (at-first g))
+no-steps g w = ap (λ (x : Machine). taken (became w x)) (sym (at-first g))
 
 either : {A : Type 0} (b : Bool) (x : A) → cond b x x ≡ x
 either true x = refl
@@ -166,15 +166,15 @@ module _ {place : Window} {k : Work} {most : ℕ} where
   copy-bursts {from} {to} n memory memory' r s size l f t left beats took out made m g =
       subst⁻¹ (λ (x : List ℕ). Went (λ (w : World). steps n w) m memory beats took out made (progress (onward m (movedBy k n (k .errors))) took made) x out)
       (left ∙ copy-fits k n memory r s size f t)
-      (went-none (λ (w : World). steps n w) m _ memory _ beats took out made took (λ o. by n l f t o))
+      (went-none (λ (w : World). steps n w) m _ memory _ beats took out made took (λ w. by n l f t w))
     where
-      by : (n : ℕ) → n ≤ most → n ≤ from .bytes → n ≤ to .bytes → (o : List ℕ)
-          → steps n (world m memory (drop took (beatsIn beats)) o (length out / 2 - made))
-          ≡ taken (world (onward m (movedBy k n (k .errors))) (copied memory (reads k) (from .at) (writes k) (to .at) n) (drop took (beatsIn beats)) o (length out / 2 - made))
-      by zero l f t o = no-steps g memory (drop took (beatsIn beats)) o (length out / 2 - made)
-      by (suc n) l f t o =
-          copy-steps g (from .at) (to .at) (suc n) (r .row (suc n) (omega arith) f) (s .row (suc n) (omega arith) t) l memory
-          (drop took (beatsIn beats)) o (length out / 2 - made)
+      by : (n : ℕ) → n ≤ most → n ≤ from .bytes → n ≤ to .bytes → (w : World)
+          → steps n (midway w m memory beats took out made)
+          ≡ taken (midway w (onward m (movedBy k n (k .errors))) (copied memory (reads k) (from .at) (writes k) (to .at) n) beats took out made)
+      by zero l f t w = no-steps g (midway w m memory beats took out made)
+      by (suc n) l f t w =
+          copy-steps g (from .at) (to .at) (suc n) (r .row (suc n) (omega arith) f) (s .row (suc n) (omega arith) t) l
+          (midway w m memory beats took out made) memory
 
   -- mode 1
   pub send-bursts : {from : Reach} (n : ℕ) (memory out out' : List ℕ) (made : ℕ) → Reaches (reads k) place (sourceOf k) from
@@ -189,20 +189,20 @@ module _ {place : Window} {k : Work} {most : ℕ} where
         new = plain memory (reads k) (from .at) n;
         counted = ap (λ (x : ℕ). made + x) (sym (length-plain memory (reads k) (from .at) n));
         wrote = left ∙ sent-fits k n memory out made r size f h;
-        goes = λ o. by n l f o (omega arith) (u (subst (λ (x : Mode). k .moved + most ≤ asked (modeNumber x) (k .length)) (g .mode-is) (g .left)))
-            ∙ ap (λ (x : ℕ). taken (world (onward m (movedBy k n (k .errors))) memory (drop took (beatsIn beats)) (o ++ plain memory (reads k) (from .at) n) x)) room;
+        goes = λ w. by n l f w (omega arith) (u (subst (λ (x : Mode). k .moved + most ≤ asked (modeNumber x) (k .length)) (g .mode-is) (g .left)))
+            ∙ ap (λ (x : ℕ). taken (worldAt w (onward m (movedBy k n (k .errors))) memory beats took (w .output ++ plain memory (reads k) (from .at) n) x)) room;
       }
     where
-      by : (n : ℕ) → n ≤ most → n ≤ from .bytes → (o : List ℕ) → n ≤ length out / 2 - made → Unmarked k n
-          → steps n (world m memory (drop took (beatsIn beats)) o (length out / 2 - made))
-          ≡ taken (world (onward m (movedBy k n (k .errors))) memory (drop took (beatsIn beats)) (o ++ plain memory (reads k) (from .at) n) (length out / 2 - made - n))
-      by zero l f o h u =
-          let none = sym (append-nil o) in
+      by : (n : ℕ) → n ≤ most → n ≤ from .bytes → (w : World) → n ≤ length out / 2 - made → Unmarked k n
+          → steps n (midway w m memory beats took out made)
+          ≡ taken (worldAt w (onward m (movedBy k n (k .errors))) memory beats took (w .output ++ plain memory (reads k) (from .at) n) (length out / 2 - made - n))
+      by zero l f w h u =
+          let none = sym (append-nil (w .output)) in
           let all = sym (sub-zero (length out / 2 - made)) in
-          no-steps g memory (drop took (beatsIn beats)) o (length out / 2 - made)
-          ∙ (λ x. taken (world (onward m (movedBy k 0 (k .errors))) memory (drop took (beatsIn beats)) (none x) (all x)))
-      by (suc n) l f o h u =
-          send-steps g (from .at) (suc n) (r .row (suc n) (omega arith) f) l u memory (drop took (beatsIn beats)) o (length out / 2 - made) h
+          no-steps g (midway w m memory beats took out made)
+          ∙ (λ x. taken (worldAt w (onward m (movedBy k 0 (k .errors))) memory beats took (none x) (all x)))
+      by (suc n) l f w h u =
+          send-steps g (from .at) (suc n) (r .row (suc n) (omega arith) f) l u (midway w m memory beats took out made) h
 
   -- mode 2
   pub receive-bursts : {to : Reach} (some : ℕ) (memory memory' beats : List ℕ) (took : ℕ) (r : Absorbed) → Reaches (writes k) place (destinationOf k) to
@@ -222,18 +222,18 @@ module _ {place : Window} {k : Work} {most : ℕ} where
         few .0,
         λ out made m g.
             went-none (λ (w : World). steps (r .count) w) m _ memory _ beats took out made (took + r .count)
-            (λ o. by m g (r .count) (omega (arith, few .0)) (omega (arith, few .0)) (few .1) calmly o (length out / 2 - made)
-            ∙ (λ x. taken (world (onward m (movedBy k (r .count) (sym errors x))) (sym bytes x) (drop-drop (r .count) took (beatsIn beats) x) o (length out / 2 - made)))),
+            (λ w. by m g (r .count) (omega (arith, few .0)) (omega (arith, few .0)) (few .1) calmly (midway w m memory beats took out made)
+            ∙ (λ x. taken (received (midway w m memory beats took out made) (onward m (movedBy k (r .count) (sym errors x))) (sym bytes x) (drop-drop (r .count) took (beatsIn beats) x)))),
       )
     where
       by : (m : Machine) → Moving StreamToMemory place k most m → (n : ℕ) → n ≤ most → n ≤ to .bytes → n ≤ length (drop took (beatsIn beats))
-          → ((i : ℕ) → i < n → beatEop (getD (drop took (beatsIn beats)) i 0) ≡ false) → (o : List ℕ) (room : ℕ)
-          → steps n (world m memory (drop took (beatsIn beats)) o room)
-          ≡ taken (world (onward m (movedBy k n (gathered (k .errors) (take n (drop took (beatsIn beats))))))
-          (spread memory (writes k) (to .at) (drop took (beatsIn beats)) n) (drop n (drop took (beatsIn beats))) o room)
-      by m g zero l f i q o room = no-steps g memory (drop took (beatsIn beats)) o room
-      by m g (suc n) l f i q o room =
-          receive-steps g (to .at) (suc n) (s .row (suc n) (omega arith) f) l memory (drop took (beatsIn beats)) o room i q
+          → ((i : ℕ) → i < n → beatEop (getD (drop took (beatsIn beats)) i 0) ≡ false) → (w : World)
+          → steps n (received w m memory (drop took (beatsIn beats)))
+          ≡ taken (received w (onward m (movedBy k n (gathered (k .errors) (take n (drop took (beatsIn beats))))))
+          (spread memory (writes k) (to .at) (drop took (beatsIn beats)) n) (drop n (drop took (beatsIn beats))))
+      by m g zero l f i q w = no-steps g (received w m memory (drop took (beatsIn beats)))
+      by m g (suc n) l f i q w =
+          receive-steps g (to .at) (suc n) (s .row (suc n) (omega arith) f) l w memory (drop took (beatsIn beats)) i q
 
 -- ---- what the run does with a burst
 
@@ -256,7 +256,7 @@ burst-told errors {m = m} {window = window} {beats = beats} {took = took} {out =
 pub went-nowhere : (m : Machine) (window beats : List ℕ) (took : ℕ) (out : List ℕ) (made : ℕ)
     → Went (λ (w : World). steps 0 w) m window beats took out made (progress m took made) window out
 unfolding steps
-went-nowhere m window beats took out made = went-none (λ (w : World). steps 0 w) m m window window beats took out made took (λ o. refl)
+went-nowhere m window beats took out made = went-none (λ (w : World). steps 0 w) m m window window beats took out made took (λ w. refl)
 
 taken-same : (w v : World) → taken w ≡ taken v → w ≡ v
 taken-same w v e = cc
@@ -264,10 +264,14 @@ taken-same w v e = cc
 -- and leaves window and output as they were
 module _ {m : Machine} {window beats : List ℕ} {took : ℕ} {out : List ℕ} {made n : ℕ} {r : Progress} {window' out' : List ℕ}
     (g : Went (λ (w : World). steps n w) m window beats took out made r window' out') (none : n ≡ 0) where
-  same-world : worldAt m window beats took [] (length out / 2 - made) ≡ worldAt (r .machine) window' beats (r .taken) (g .new) (length out / 2 - r .made)
+  -- whatever world stands around it
+  abbrev around : World
+  around = worldOf m window beats out
+
+  same-world : midway around m window beats took out made ≡ worldAt around (r .machine) window' beats (r .taken) (g .new) (length out / 2 - r .made)
   unfolding steps
   same-world =
-      taken-same _ _ (ap (λ (i : ℕ). steps i (worldAt m window beats took [] (length out / 2 - made))) (sym none) ∙ g .goes [])
+      taken-same _ _ (ap (λ (i : ℕ). steps i (midway around m window beats took out made)) (sym none) ∙ g .goes around)
 
   pub as-before : (P : (window out : List ℕ) → Type 0) → P window out → P window' out'
   as-before P p =
@@ -284,4 +288,4 @@ module _ {m : Machine} {window beats : List ℕ} {took : ℕ} {out : List ℕ} {
       as-before (λ window' out'.
       Within beats out' (s .taken) (s .made) → Went step m window' beats took out' made s window'' out''
       → Within beats out (s .taken) (s .made) × Went (λ (w : World). steps 1 w) m window beats took out made s window'' out'')
-      (λ h w. (h, went-as step (λ (w : World). steps 1 w) (λ memory input output room. refl) w)) h w
+      (λ h w. (h, went-as step (λ (w : World). steps 1 w) (λ w. refl) w)) h w

@@ -25,8 +25,8 @@ use Rattle.machine.specs.declared.Work.{Work}
 use Rattle.machine.specs.declared.Phase.{Phase}
 use Rattle.machine.specs.declared.Phase.the-variants.{Move}
 use Rattle.machine.specs.State.{withPhase}
-use Rattle.machine.specs.Step.{World, taken, step, whole, byteAddress, sourceOf, destinationOf, withByte, onward, copyStep, sendStep, receiveFrom, moveStep, beatFor}
-use Rattle.machine.specs.Turns.{world, stepsOn, steps, movedBy, Moving, Row, Unmarked}
+use Rattle.machine.specs.Step.{World, taken, became, stored, received, sent, step, whole, byteAddress, sourceOf, destinationOf, withByte, onward, copyStep, sendStep, receiveFrom, moveStep, beatFor}
+use Rattle.machine.specs.Turns.{stepsOn, steps, movedBy, Moving, Row, Unmarked}
 use Rattle.machine.proofs.Places.{further}
 
 -- ---- a row of worlds
@@ -73,15 +73,15 @@ module _ {mode : Mode} {window : Window} {k : Work} {most : ℕ} {m : Machine} (
       }
 
   -- the step there is the mode's
-  step-there : (i errors : ℕ) → i < most → (memory input output : List ℕ) (room : ℕ)
-      → step (world (onward m (movedBy k i errors)) memory input output room)
-      ≡ moveStep mode (world (withPhase (Move (movedBy k i errors)) m) memory input output room) (movedBy k i errors)
+  step-there : (i errors : ℕ) → i < most → (w : World)
+      → step (became w (onward m (movedBy k i errors)))
+      ≡ moveStep mode (became w (withPhase (Move (movedBy k i errors)) m)) (movedBy k i errors)
   unfolding step
-  step-there i errors l memory input output room =
+  step-there i errors l w =
       let j = movedBy k i errors in
       let h = g .left in
-      ap (λ (x : Machine). step (world x memory input output room)) (stays-moving m j (g .no-eop) (omega arith))
-      ∙ ap (λ (o : Mode). moveStep o (world (withPhase (Move j) m) memory input output room) j) (g .mode-is)
+      ap (λ (x : Machine). step (became w x)) (stays-moving m j (g .no-eop) (omega arith))
+      ∙ ap (λ (o : Mode). moveStep o (became w (withPhase (Move j) m)) j) (g .mode-is)
 
   machine-there : (i errors more : ℕ) (p : Phase) → onward (withPhase p m) (withByte more false (movedBy k i errors)) ≡ onward m (movedBy k (suc i) (bitOr errors more))
   machine-there i errors more p = on-move m p _ ∙ ap (onward m) (byte-more i errors more)
@@ -119,12 +119,12 @@ module _ {window : Window} {fixed : Bool} {a at n : ℕ} (r : Row window fixed a
 
 module _ {window : Window} {k : Work} {most : ℕ} {m : Machine} (g : Moving MemoryToMemory window k most m) (from to n : ℕ)
     (r : Row window (readFixed (k .control .0)) (sourceOf k) from n) (s : Row window (writeFixed (k .control .0)) (destinationOf k) to n) (l : n ≤ most)
-    (memory input output : List ℕ) (room : ℕ) where
+    (w : World) (memory : List ℕ) where
   abbrev bytes-copied : ℕ → List ℕ
   bytes-copied i = copied memory (readFixed (k .control .0)) from (writeFixed (k .control .0)) to i
 
   abbrev copy-row : ℕ → World
-  copy-row i = world (onward m (movedBy k i (k .errors))) (bytes-copied i) input output room
+  copy-row i = stored w (onward m (movedBy k i (k .errors))) (bytes-copied i)
 
   copy-next : (i : ℕ) → i < n → step (copy-row i) ≡ taken (copy-row (suc i))
   unfolding copyStep copied
@@ -134,7 +134,7 @@ module _ {window : Window} {k : Work} {most : ℕ} {m : Machine} (g : Moving Mem
       let b = destination-there k i (k .errors) in
       let here : onward (withPhase (Move j) m) (withByte 0 false j) ≡ onward m (movedBy k (suc i) (k .errors)) =
       machine-there g i (k .errors) 0 (Move j) ∙ ap (λ (e : ℕ). onward m (movedBy k (suc i) e)) (or-zero-r (k .errors)) in
-      step-there g i (k .errors) (omega arith) (bytes-copied i) input output room
+      step-there g i (k .errors) (omega arith) (copy-row i)
       ∙ rw (
         in-row r m (g .window-is) i h (sourceOf j) a,
         in-row s m (g .window-is) i h (destinationOf j) b,
@@ -143,63 +143,63 @@ module _ {window : Window} {k : Work} {most : ℕ} {m : Machine} (g : Moving Mem
         here,
       )
 
-  pub copy-steps : steps n (world m memory input output room)
-      ≡ taken (world (onward m (movedBy k n (k .errors))) (copied memory (readFixed (k .control .0)) from (writeFixed (k .control .0)) to n) input output room)
+  pub copy-steps : steps n (stored w m memory)
+      ≡ taken (stored w (onward m (movedBy k n (k .errors))) (copied memory (readFixed (k .control .0)) from (writeFixed (k .control .0)) to n))
   unfolding copied
-  copy-steps = ap (λ (x : Machine). steps n (world x memory input output room)) (sym (at-first g)) ∙ row-steps copy-row n copy-next
+  copy-steps = ap (λ (x : Machine). steps n (stored w x memory)) (sym (at-first g)) ∙ row-steps copy-row n copy-next
 
 -- ---- mode 1
 
 send-one : (w : World) (j : Work) (left : ℕ) → inWindow (w .machine .window) (sourceOf j) 1 ≡ true → w .room ≡ suc left
-    → sendStep w j ≡ taken (world (onward (w .machine) (withByte 0 false j)) (w .memory) (w .input)
+    → sendStep w j ≡ taken (sent w (onward (w .machine) (withByte 0 false j))
     (w .output ++ beatFor j (getD (w .memory) (placeOf (w .machine .window) (sourceOf j)) 0) ∷ []) left)
 unfolding sendStep
 send-one w j left e f = rw (e, f)
 
 module _ {window : Window} {k : Work} {most : ℕ} {m : Machine} (g : Moving MemoryToStream window k most m) (from n : ℕ)
     (r : Row window (readFixed (k .control .0)) (sourceOf k) from n) (l : n ≤ most) (unmarked : Unmarked k n)
-    (memory input output : List ℕ) (room : ℕ) (some : n ≤ room) where
+    (w : World) (some : n ≤ w .room) where
   abbrev beats-sent : ℕ → List ℕ
-  beats-sent i = plain memory (readFixed (k .control .0)) from i
+  beats-sent i = plain (w .memory) (readFixed (k .control .0)) from i
 
   abbrev send-row : ℕ → World
-  send-row i = world (onward m (movedBy k i (k .errors))) memory input (output ++ beats-sent i) (room - i)
+  send-row i = sent w (onward m (movedBy k i (k .errors))) (w .output ++ beats-sent i) (w .room - i)
 
   send-next : (i : ℕ) → i < n → step (send-row i) ≡ taken (send-row (suc i))
   unfolding plain
   send-next i h =
       let j = movedBy k i (k .errors) in
       let a = source-there k i (k .errors) in
-      let w : World = world (withPhase (Move j) m) memory input (output ++ beats-sent i) (room - i) in
+      let here-is : World = became (send-row i) (withPhase (Move j) m) in
       let here : onward (withPhase (Move j) m) (withByte 0 false j) ≡ onward m (movedBy k (suc i) (k .errors)) =
       machine-there g i (k .errors) 0 (Move j) ∙ ap (λ (e : ℕ). onward m (movedBy k (suc i) e)) (or-zero-r (k .errors)) in
-      let byte : beatFor j (getD memory (placeOf (m .window) (sourceOf j)) 0) ≡ getD memory (landing (readFixed (k .control .0)) from i) 0 =
-      unmarked i (k .errors) _ h ∙ ap (λ (p : ℕ). getD memory p 0) (place-in-row r m (g .window-is) i h (sourceOf j) a) in
-      let made : (output ++ beats-sent i) ++ beatFor j (getD memory (placeOf (m .window) (sourceOf j)) 0) ∷ [] ≡ output ++ beats-sent (suc i) =
-      append-assoc output (beats-sent i) _ ∙ ap (λ (x : ℕ). output ++ (beats-sent i ++ x ∷ [])) byte in
-      step-there g i (k .errors) (omega arith) memory input (output ++ beats-sent i) (room - i)
-      ∙ send-one w j (room - suc i) (in-row r m (g .window-is) i h (sourceOf j) a) (omega arith)
-      ∙ λ x. taken (world (here x) memory input (made x) (room - suc i))
+      let byte : beatFor j (getD (w .memory) (placeOf (m .window) (sourceOf j)) 0) ≡ getD (w .memory) (landing (readFixed (k .control .0)) from i) 0 =
+      unmarked i (k .errors) _ h ∙ ap (λ (p : ℕ). getD (w .memory) p 0) (place-in-row r m (g .window-is) i h (sourceOf j) a) in
+      let made : (w .output ++ beats-sent i) ++ beatFor j (getD (w .memory) (placeOf (m .window) (sourceOf j)) 0) ∷ [] ≡ w .output ++ beats-sent (suc i) =
+      append-assoc (w .output) (beats-sent i) _ ∙ ap (λ (x : ℕ). w .output ++ (beats-sent i ++ x ∷ [])) byte in
+      step-there g i (k .errors) (omega arith) (send-row i)
+      ∙ send-one here-is j (w .room - suc i) (in-row r m (g .window-is) i h (sourceOf j) a) (omega arith)
+      ∙ λ x. taken (sent w (here x) (made x) (w .room - suc i))
 
-  pub send-steps : steps n (world m memory input output room)
-      ≡ taken (world (onward m (movedBy k n (k .errors))) memory input (output ++ plain memory (readFixed (k .control .0)) from n) (room - n))
+  pub send-steps : steps n (became w m)
+      ≡ taken (sent w (onward m (movedBy k n (k .errors))) (w .output ++ plain (w .memory) (readFixed (k .control .0)) from n) (w .room - n))
   unfolding plain
   send-steps =
       let first = sym (at-first g) in
-      let none = sym (append-nil output) in
-      let all = sym (sub-zero room) in
-      (λ x. steps n (world (first x) memory input (none x) (all x))) ∙ row-steps send-row n send-next
+      let none = sym (append-nil (w .output)) in
+      let all = sym (sub-zero (w .room)) in
+      (λ x. steps n (sent w (first x) (none x) (all x))) ∙ row-steps send-row n send-next
 
 -- ---- mode 2
 
 pub receive-one : (w : World) (j : Work) (b : ℕ) (bs : List ℕ) → w .input ≡ b ∷ bs → inWindow (w .machine .window) (destinationOf j) 1 ≡ true
-    → receiveFrom w j (w .input) ≡ taken (world (onward (w .machine) (withByte (beatError b) (beatEop b) j))
-    (set (w .memory) (placeOf (w .machine .window) (destinationOf j)) (beatData b)) bs (w .output) (w .room))
+    → receiveFrom w j (w .input) ≡ taken (received w (onward (w .machine) (withByte (beatError b) (beatEop b) j))
+    (set (w .memory) (placeOf (w .machine .window) (destinationOf j)) (beatData b)) bs)
 receive-one w j b bs e f = ap (receiveFrom w j) e ∙ rw f
 
 module _ {window : Window} {k : Work} {most : ℕ} {m : Machine} (g : Moving StreamToMemory window k most m) (to n : ℕ)
     (r : Row window (writeFixed (k .control .0)) (destinationOf k) to n) (l : n ≤ most)
-    (memory beats output : List ℕ) (room : ℕ) (some : n ≤ length beats) (calm : (i : ℕ) → i < n → beatEop (getD beats i 0) ≡ false) where
+    (w : World) (memory beats : List ℕ) (some : n ≤ length beats) (calm : (i : ℕ) → i < n → beatEop (getD beats i 0) ≡ false) where
   abbrev errors-row : ℕ → ℕ
   errors-row i = gathered (k .errors) (take i beats)
 
@@ -207,7 +207,7 @@ module _ {window : Window} {k : Work} {most : ℕ} {m : Machine} (g : Moving Str
   bytes-received i = spread memory (writeFixed (k .control .0)) to beats i
 
   abbrev receive-row : ℕ → World
-  receive-row i = world (onward m (movedBy k i (errors-row i))) (bytes-received i) (drop i beats) output room
+  receive-row i = received w (onward m (movedBy k i (errors-row i))) (bytes-received i) (drop i beats)
 
   receive-next : (i : ℕ) → i < n → step (receive-row i) ≡ taken (receive-row (suc i))
   unfolding spread
@@ -216,7 +216,7 @@ module _ {window : Window} {k : Work} {most : ℕ} {m : Machine} (g : Moving Str
       let j = movedBy k i e in
       let b = getD beats i 0 in
       let a = destination-there k i e in
-      let w : World = world (withPhase (Move j) m) (bytes-received i) (drop i beats) output room in
+      let here-is : World = became (receive-row i) (withPhase (Move j) m) in
       let errors : bitOr e (beatError b) ≡ errors-row (suc i) =
       sym (gathered-next beats i (omega arith) (k .errors)) ∙ ap (λ (x : ℕ). gathered (k .errors) (take x beats)) (add-one i) in
       let here : onward (withPhase (Move j) m) (withByte (beatError b) (beatEop b) j) ≡ onward m (movedBy k (suc i) (errors-row (suc i))) =
@@ -224,11 +224,11 @@ module _ {window : Window} {k : Work} {most : ℕ} {m : Machine} (g : Moving Str
       ∙ machine-there g i e (beatError b) (Move j) ∙ ap (λ (x : ℕ). onward m (movedBy k (suc i) x)) errors in
       let bytes : set (bytes-received i) (placeOf (m .window) (destinationOf j)) (beatData b) ≡ bytes-received (suc i) =
       ap (λ (p : ℕ). set (bytes-received i) p (beatData b)) (place-in-row r m (g .window-is) i h (destinationOf j) a) in
-      step-there g i e (omega arith) (bytes-received i) (drop i beats) output room
-      ∙ receive-one w j b (drop (suc i) beats) (drop-cons beats i 0 (omega arith)) (in-row r m (g .window-is) i h (destinationOf j) a)
-      ∙ λ x. taken (world (here x) (bytes x) (drop (suc i) beats) output room)
+      step-there g i e (omega arith) (receive-row i)
+      ∙ receive-one here-is j b (drop (suc i) beats) (drop-cons beats i 0 (omega arith)) (in-row r m (g .window-is) i h (destinationOf j) a)
+      ∙ λ x. taken (received w (here x) (bytes x) (drop (suc i) beats))
 
-  pub receive-steps : steps n (world m memory beats output room)
-      ≡ taken (world (onward m (movedBy k n (gathered (k .errors) (take n beats)))) (spread memory (writeFixed (k .control .0)) to beats n) (drop n beats) output room)
+  pub receive-steps : steps n (received w m memory beats)
+      ≡ taken (received w (onward m (movedBy k n (gathered (k .errors) (take n beats)))) (spread memory (writeFixed (k .control .0)) to beats n) (drop n beats))
   unfolding spread
-  receive-steps = ap (λ (x : Machine). steps n (world x memory beats output room)) (sym (at-first g)) ∙ row-steps receive-row n receive-next
+  receive-steps = ap (λ (x : Machine). steps n (received w x memory beats)) (sym (at-first g)) ∙ row-steps receive-row n receive-next

@@ -105,10 +105,11 @@ module _ {m : Machine} {window beats out : List ℕ} where
     pub step-taken : {r : Progress} {window' out' : List ℕ} → Within beats out (r .taken) (r .made)
         → Went step m window beats 0 out 0 r window' out' → Stepped m window beats out (one.Taken r) window' out'
     step-taken {r} {window'} {out'} h g =
-        let v = worldAt (r .machine) window' beats (r .taken) (g .new) (length out / 2 - r .made) in
+        let w = worldOf m window beats out in
+        let v = worldAt w (r .machine) window' beats (r .taken) (g .new) (length out / 2 - r .made) in
         let took : length (beatsIn beats) - length (drop (r .taken) (beatsIn beats)) ≡ r .taken = took-since beats (r .taken) (h .taken-in) in
         let made : r .made ≡ length (g .new) = g .counted ∙ zero-add (length (g .new)) in
-        served (taken v) (ap (λ (n : ℕ). step (worldAt m window beats 0 [] n)) (sym (sub-zero (length out / 2))) ∙ g .goes [])
+        served (taken v) (ap (λ (n : ℕ). step (worldAt w m window beats 0 [] n)) (sym (sub-zero (length out / 2))) ∙ g .goes w)
         (rw (took, ← made)) refl (g .wrote ∙ over out (g .new))
 
 -- ---- a run by another test for the same good machines

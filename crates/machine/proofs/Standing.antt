@@ -35,7 +35,7 @@ pub record Stands (m₀ : Machine) (window₀ beats out₀ : List ℕ) (budget :
   pub counted : made ≡ length output
   pub wrote : out ≡ put out₀ 0 (beatBytes output)
   pub same : run budget (worldOf m₀ window₀ beats out₀)
-      ≡ moreBy count (run (budget - count) (worldAt m window beats took output (length out / 2 - made)))
+      ≡ moreBy count (run (budget - count) (worldAt (worldOf m₀ window₀ beats out₀) m window beats took output (length out / 2 - made)))
 
 module _ (m₀ : Machine) (window₀ beats out₀ : List ℕ) (budget : ℕ) where
   pub stands-first : Ready m₀ (length window₀) → Stands m₀ window₀ beats out₀ budget window₀ out₀ m₀ 0 0 0
@@ -54,7 +54,7 @@ module _ (m₀ : Machine) (window₀ beats out₀ : List ℕ) (budget : ℕ) whe
 
   module _ (window out : List ℕ) (m : Machine) (took made count : ℕ) (s : Stands m₀ window₀ beats out₀ budget window out m took made count) where
     abbrev pub here : World
-    here = worldAt m window beats took (s .output) (length out / 2 - made)
+    here = worldAt (worldOf m₀ window₀ beats out₀) m window beats took (s .output) (length out / 2 - made)
 
     -- after n steps more
     pub stands-on : (n : ℕ) (window' out' : List ℕ) (m' : Machine) (took' made' : ℕ) → n ≤ budget - count → length window' ≡ length window
@@ -62,9 +62,9 @@ module _ (m₀ : Machine) (window₀ beats out₀ : List ℕ) (budget : ℕ) whe
         → Went (λ (w : World). steps n w) m window beats took out made (progress m' took' made') window' out'
         → Stands m₀ window₀ beats out₀ budget window' out' m' took' made' (count + n)
     stands-on n window' out' m' took' made' h wl ol b g =
-        let there = worldAt m' window' beats took' (s .output ++ g .new) (length out / 2 - made') in
+        let there = worldAt here m' window' beats took' (s .output ++ g .new) (length out / 2 - made') in
         let left : budget - count ≡ n + (budget - (count + n)) = omega arith in
-        let goes : steps n here ≡ taken there = g .goes (s .output) in
+        let goes : steps n here ≡ taken there = g .goes here in
         let front : 2 * made ≡ 0 + length (beatBytes (s .output)) = omega (arith, length-beat-bytes (s .output)) in
         let inside : 0 + length (beatBytes (s .output)) ≤ length out₀ = omega arith in
         record {
@@ -79,7 +79,7 @@ module _ (m₀ : Machine) (window₀ beats out₀ : List ℕ) (budget : ℕ) whe
           same = s .same
               ∙ ap (moreBy count) (ap (λ (k : ℕ). run k here) left ∙ run-steps n (budget - (count + n)) here there goes)
               ∙ more-more count n _
-              ∙ ap (λ (l : ℕ). moreBy (count + n) (run (budget - (count + n)) (worldAt m' window' beats took' (s .output ++ g .new) (l / 2 - made')))) (sym ol);
+              ∙ ap (λ (l : ℕ). moreBy (count + n) (run (budget - (count + n)) (worldAt here m' window' beats took' (s .output ++ g .new) (l / 2 - made')))) (sym ol);
         }
 
     ends : {lent : Lent} (r : Reason) → run (budget - count) here ≡ report here 0 r → lent ≡ serves

@@ -21,7 +21,7 @@ use Rattle.machine.specs.declared.Phase.{Phase}
 use Rattle.machine.specs.declared.Phase.the-variants.{Rest, Fetch, Move, WriteBack, Ended, Halted, Faulted}
 use Rattle.machine.specs.declared.Reason.{Reason}
 use Rattle.machine.specs.declared.Reason.the-variants as reason
-use Rattle.machine.specs.Step.{World, Answer, taken, stopped, became, restStep, fetched, fetchStep, wantsLength, sourceOf, destinationOf, beatFor, copyStep, sendTo, sendStep, receiveFrom, moveStep, onward, completed, writtenBack, writeBackStep, stepIn, step}
+use Rattle.machine.specs.Step.{World, Answer, taken, stopped, became, stored, restStep, fetched, fetchStep, wantsLength, sourceOf, destinationOf, beatFor, copyStep, sendTo, sendStep, receiveFrom, moveStep, onward, completed, writtenBack, writeBackStep, stepIn, step}
 use Rattle.machine.specs.Run.{reasonNumber, takenSince}
 use Rattle.machine.specs.Laws.{Passed, sparesMove, sparesIn}
 use Rattle.machine.proofs.Puts.{length-put-at, put-off}
@@ -83,9 +83,9 @@ module _ (w : World) where
   -- no beat is moved: machine and memory change
   still : {free : ℕ → Type 0} (m : Machine) (mem : List ℕ) → m .mode ≡ w .machine .mode → m .window ≡ w .machine .window
       → length mem ≡ length (w .memory) → ((q : ℕ) → free q → getD mem q 0 ≡ getD (w .memory) q 0)
-      → Sound w free (taken (record { machine = m; memory = mem; input = w .input; output = w .output; room = w .room }))
+      → Sound w free (taken (stored w m mem))
   still m mem e f l h =
-      let p : Passed 1 w (record { machine = m; memory = mem; input = w .input; output = w .output; room = w .room }) =
+      let p : Passed 1 w (stored w m mem) =
       record {
         mode = e;
         window = f;

@@ -6,53 +6,53 @@ use mathlib.Core.Bool.{true, false}
 use mathlib.Core.List.{List, [], _∷_, append-nil}
 use native.Mathlib.Nat.{add-zero}
 use native.Mathlib.Omega.{arith}
-use lib.ListN.{length, drop, getD, set}
+use lib.ListN.{length, getD, set}
 use Rattle.words.specs.declared.Order.the-variants.{MostFirst}
 use Rattle.words.specs.Orders.{bytesOf}
 use Rattle.words.specs.Slices.{putAt}
 use Rattle.bus.specs.Window.{inWindow, placeOf}
 use Rattle.regs.specs.Control.{run}
 use Rattle.flow.specs.declared.Beat.{Beat}
-use Rattle.flow.specs.Beats.{beatsIn, beatOf}
+use Rattle.flow.specs.Beats.{beatOf}
 use Rattle.flow.proofs.Streams.{beatAt, next-beat}
 use Rattle.machine.specs.declared.Machine.{Machine}
 use Rattle.machine.specs.declared.Progress.{Progress}
 use Rattle.machine.specs.declared.Work.{Work}
 use Rattle.machine.specs.declared.Phase.the-variants.{Fetch}
 use Rattle.machine.specs.State.{withPhase, withBusy}
-use Rattle.machine.specs.Step.{World, Answer, taken, sourceOf, destinationOf, onward, withByte, beatFor, restStep, sendStep, receiveFrom}
-use Rattle.machine.specs.Turns.{world, worldAt, progress, inFault, Still, Went}
+use Rattle.machine.specs.Step.{World, Answer, taken, became, sourceOf, destinationOf, onward, withByte, beatFor, restStep, sendStep, receiveFrom}
+use Rattle.machine.specs.Turns.{worldAt, midway, progress, inFault, Still, Went}
 use Rattle.machine.proofs.Streams.{none-made, beat-made}
 
 module _ (rule : World → Answer) (m m' : Machine) (window window' beats : List ℕ) (took : ℕ) (out : List ℕ) (made : ℕ) where
   -- no beat made
   pub went-none : (took' : ℕ)
-      → ((o : List ℕ) → rule (worldAt m window beats took o (length out / 2 - made)) ≡ taken (worldAt m' window' beats took' o (length out / 2 - made)))
+      → ((w : World) → rule (midway w m window beats took out made) ≡ taken (midway w m' window' beats took' out made))
       → Went rule m window beats took out made (progress m' took' made) window' out
   went-none took' f =
       record {
         new = [];
         counted = sym (add-zero made);
         wrote = none-made out (2 * made);
-        goes = λ o. f o ∙ ap (λ (x : List ℕ). taken (worldAt m' window' beats took' x (length out / 2 - made))) (sym (append-nil o));
+        goes = λ w. f w ∙ ap (λ (x : List ℕ). taken (worldAt w m' window' beats took' x (length out / 2 - made))) (sym (append-nil (w .output)));
       }
 
   -- no beat taken either
   pub went-still : Still rule m window m' window' → Went rule m window beats took out made (progress m' took made) window' out
-  went-still s = went-none took (λ o. s (drop took (beatsIn beats)) o (length out / 2 - made))
+  went-still s = went-none took (λ w. s (midway w m window beats took out made))
 
 -- a rule that says the same of the machine
 pub went-as : (other rule : World → Answer) {m : Machine} {window beats : List ℕ} {took : ℕ} {out : List ℕ} {made : ℕ} {r : Progress} {window' out' : List ℕ}
-    → ((memory input output : List ℕ) (room : ℕ) → rule (world m memory input output room) ≡ other (world m memory input output room))
+    → ((w : World) → rule (became w m) ≡ other (became w m))
     → Went other m window beats took out made r window' out' → Went rule m window beats took out made r window' out'
-went-as other rule e g =
-    record { new = g .new; counted = g .counted; wrote = g .wrote; goes = λ o. e _ _ _ _ ∙ g .goes o }
+went-as other rule {m} {window} {beats} {took} {out} {made} e g =
+    record { new = g .new; counted = g .counted; wrote = g .wrote; goes = λ w. e (midway w m window beats took out made) ∙ g .goes w }
 
 -- Rest, RUN 1
 pub rest-starts : (m m' : Machine) (memory : List ℕ) → run (m .control) ≡ true → m' ≡ withPhase Fetch (withBusy true m)
     → Still restStep m memory m' memory
 unfolding restStep
-rest-starts m m' memory e f = λ input output room. rw (e, f)
+rest-starts m m' memory e f = λ w. rw (e, f)
 
 -- one more is still within
 pub past : {n m : ℕ} → n < m → n + 1 ≤ m
@@ -67,7 +67,7 @@ module _ (m : Machine) (k : Work) (window beats : List ℕ) (took : ℕ) (out : 
       → Went (λ (w : World). sendStep w k) m window beats took out made r window out
   unfolding sendStep
   send-out e f g =
-      rw g (went-none (λ (w : World). sendStep w k) m _ window window beats took out made took (λ o. rw (e, f)))
+      rw g (went-none (λ (w : World). sendStep w k) m _ window window beats took out made took (λ w. rw (e, f)))
 
   pub send-in : inWindow (m .window) (sourceOf k) 1 ≡ true → made < length out / 2 → {b : ℕ} {out' : List ℕ}
       → b ≡ beatFor k (getD window (placeOf (m .window) (sourceOf k)) 0) → out' ≡ putAt out (2 * made) (bytesOf MostFirst 2 b)
@@ -81,7 +81,7 @@ module _ (m : Machine) (k : Work) (window beats : List ℕ) (took : ℕ) (out : 
         new = b ∷ [];
         counted = refl;
         wrote = put ∙ beat-made out made b h;
-        goes = λ o. rw (e, left, same, f);
+        goes = λ w. rw (e, left, same, f);
       })
 
 -- mode 2
@@ -91,7 +91,7 @@ module _ (m : Machine) (k : Work) (window beats : List ℕ) (took : ℕ) (out : 
   receive-out e f g =
       rw g
       (went-none (λ (w : World). receiveFrom w k (w .input)) m _ window window beats took out made took
-      (λ o. rw (next-beat beats took h, e, f)))
+      (λ w. rw (next-beat beats took h, e, f)))
 
   pub receive-in : inWindow (m .window) (destinationOf k) 1 ≡ true → {b at : ℕ} {beat : Beat} → b ≡ beatAt beats took → beat ≡ beatOf b
       → at ≡ placeOf (m .window) (destinationOf k) → m' ≡ onward m (withByte (beat .errors) (beat .eop) k) → r ≡ progress m' (took + 1) made
@@ -99,4 +99,4 @@ module _ (m : Machine) (k : Work) (window beats : List ℕ) (took : ℕ) (out : 
   receive-in e p q s f g =
       rw g
       (went-none (λ (w : World). receiveFrom w k (w .input)) m _ window _ beats took out made (took + 1)
-      (λ o. rw (next-beat beats took h, e, f, q, p, s)))
+      (λ w. rw (next-beat beats took h, e, f, q, p, s)))

@@ -23,7 +23,8 @@ use Rattle.machine.specs.declared.Work.{Work}
 use Rattle.machine.specs.declared.steps.Wait.{Wait}
 use Rattle.machine.specs.declared.steps.Wait.the-variants.{Go, Stop}
 use Rattle.machine.specs.Step.{World, Answer, taken, stopped, step, stepIn, restStep, fetchStep, fetched, wantsLength, copyStep, sendStep, sendTo, receiveFrom, moveStep, sourceOf, destinationOf}
-use Rattle.machine.specs.Turns.{worldAt, waitOf, some, Waits, Goes}
+use Rattle.machine.specs.Run.{worldOf}
+use Rattle.machine.specs.Turns.{midway, waitOf, some, Waits, Goes}
 use Rattle.machine.proofs.Streams.{some-beat, some-room}
 
 -- an answer that is a step; a choice of two of them is one
@@ -105,7 +106,7 @@ module _ (m : Machine) (k : Work) (window beats : List ℕ) (took : ℕ) (out : 
       → moveWait o (inWindow (m .window) (sourceOf k) 1) (some (drop took (beatsIn beats))) (ltb 0 (length out / 2 - made)) ≡ Go
   by-mode o e =
       ap (λ (x : Mode). moveWait x (inWindow (m .window) (sourceOf k) 1) (some (drop took (beatsIn beats))) (ltb 0 (length out / 2 - made))) (sym e)
-      ∙ sym (move-waits (m .mode) (worldAt m window beats took [] (length out / 2 - made)) k) ∙ g
+      ∙ sym (move-waits (m .mode) (midway (worldOf m window beats out) m window beats took out made) k) ∙ g (worldOf m window beats out)
 
   pub goes-room : m .mode ≡ MemoryToStream → inWindow (m .window) (sourceOf k) 1 ≡ true → made < length out / 2
   goes-room e i =
@@ -129,7 +130,7 @@ at-phase w e = ap (λ (x : Phase). stepIn x w) e
 -- where a step can be taken, so can that of the phase
 pub goes-in : (m : Machine) (window beats : List ℕ) (took : ℕ) (out : List ℕ) (made : ℕ) {p : Phase} → m .phase ≡ p
     → Goes step m window beats took out made → Goes (stepIn p) m window beats took out made
-goes-in m window beats took out made e g = sym (ap waitOf (at-phase (worldAt m window beats took [] (length out / 2 - made)) e)) ∙ g
+goes-in m window beats took out made e g w = sym (ap waitOf (at-phase (midway w m window beats took out made) e)) ∙ g w
 
 pub rest-runs : (w : World) → waitOf (restStep w) ≡ Go → run (w .machine .control) ≡ true
 unfolding restStep
@@ -140,7 +141,7 @@ never-goes e = let z : _≡_ {A = ℕ} 0 1 = cc in omega arith
 
 -- in the middle of lent slices, whatever was made before
 pub waits-at : (m : Machine) (window beats : List ℕ) (took : ℕ) (out : List ℕ) (made : ℕ) {r : Wait}
-    → Waits step m (ltb took (length beats / 2)) (ltb made (length out / 2)) r → (o : List ℕ)
-    → waitOf (step (worldAt m window beats took o (length out / 2 - made))) ≡ r
-waits-at m window beats took out made f o =
-    sym (f window (drop took (beatsIn beats)) o (length out / 2 - made) (some-beat beats took) (some-room (length out / 2) made))
+    → Waits step m (ltb took (length beats / 2)) (ltb made (length out / 2)) r → (w : World)
+    → waitOf (step (midway w m window beats took out made)) ≡ r
+waits-at m window beats took out made f w =
+    sym (f (midway w m window beats took out made) (some-beat beats took) (some-room (length out / 2) made))

@@ -23,7 +23,7 @@ use Rattle.machine.specs.declared.StepAnswer.the-variants as one
 use Rattle.machine.specs.declared.RunAnswer.{RunAnswer}
 use Rattle.machine.specs.declared.RunAnswer.the-variants as many
 use Rattle.machine.specs.Saved.{keeps}
-use Rattle.machine.specs.Step.{World, Answer, taken, stopped, whole, step}
+use Rattle.machine.specs.Step.{World, Answer, taken, stopped, opened, whole, step}
 
 -- ---- the run
 
@@ -80,8 +80,7 @@ lentOf m window beats out = lentIf (keeps m) m window beats out
 
 -- the world that a machine and what it is lent make
 abbrev pub worldOf : Machine → (window beats out : List ℕ) → World
-worldOf m window beats out =
-    record { machine = m; memory = window; input = beatsIn beats; output = []; room = length out / 2 }
+worldOf m window beats out = opened m window (beatsIn beats) (length out / 2)
 
 -- beats taken since w
 abbrev pub takenSince : World → World → ℕ

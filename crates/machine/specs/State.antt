@@ -5,6 +5,8 @@ use mathlib.Core.Bool.{Bool, false, _||_}
 use Rattle.bus.specs.declared.Window.{Window}
 use Rattle.regs.specs.declared.Mode.{Mode}
 use Rattle.regs.specs.declared.Status.{Status}
+use Rattle.regs.specs.declared.Control.{Control}
+use Rattle.regs.specs.declared.Pointer.{Pointer}
 use Rattle.machine.specs.declared.Machine.{Machine}
 use Rattle.machine.specs.declared.Phase.{Phase}
 use Rattle.machine.specs.declared.Phase.the-variants.{Rest, Fetch, Move, WriteBack, Ended, Halted, Faulted}
@@ -20,58 +22,32 @@ phaseNumber (Faulted f) = 6
 
 -- ---- the machine with one part changed
 
-abbrev pub withStatus : Status → Machine → Machine
-withStatus s m =
+-- these parts; mode and window stay. No other update of a machine names its parts
+abbrev pub remade : Status → Control → Pointer → Phase → (pending : Bool) (count : ℕ) → Machine → Machine
+remade status control pointer phase pending count m =
     record {
       mode = m .mode;
       window = m .window;
-      status = s;
-      control = m .control;
-      pointer = m .pointer;
-      phase = m .phase;
-      pending = m .pending;
-      count = m .count;
-    }
-
-abbrev pub withPointer : ℕ → Machine → Machine
-withPointer a m =
-    record {
-      mode = m .mode;
-      window = m .window;
-      status = m .status;
-      control = m .control;
-      pointer = record { 0 = a };
-      phase = m .phase;
-      pending = m .pending;
-      count = m .count;
-    }
-
-abbrev pub withPhase : Phase → Machine → Machine
-withPhase p m =
-    record {
-      mode = m .mode;
-      window = m .window;
-      status = m .status;
-      control = m .control;
-      pointer = m .pointer;
-      phase = p;
-      pending = m .pending;
-      count = m .count;
-    }
-
--- control, pending and count are written together
-abbrev pub withControl : ℕ → Bool → ℕ → Machine → Machine
-withControl c pending count m =
-    record {
-      mode = m .mode;
-      window = m .window;
-      status = m .status;
-      control = record { 0 = c };
-      pointer = m .pointer;
-      phase = m .phase;
+      status = status;
+      control = control;
+      pointer = pointer;
+      phase = phase;
       pending = pending;
       count = count;
     }
+
+abbrev pub withStatus : Status → Machine → Machine
+withStatus s m = remade s (m .control) (m .pointer) (m .phase) (m .pending) (m .count) m
+
+abbrev pub withPointer : ℕ → Machine → Machine
+withPointer a m = remade (m .status) (m .control) (record { 0 = a }) (m .phase) (m .pending) (m .count) m
+
+abbrev pub withPhase : Phase → Machine → Machine
+withPhase p m = remade (m .status) (m .control) (m .pointer) p (m .pending) (m .count) m
+
+-- control, pending and count are written together
+abbrev pub withControl : ℕ → Bool → ℕ → Machine → Machine
+withControl c pending count m = remade (m .status) (record { 0 = c }) (m .pointer) (m .phase) pending count m
 
 abbrev pub withBusy : Bool → Machine → Machine
 withBusy b m =

@@ -24,7 +24,7 @@ use Rattle.machine.specs.declared.Phase.{Phase}
 use Rattle.machine.specs.declared.Phase.the-variants.{Rest, Fetch, Move, WriteBack, Ended, Halted, Faulted}
 use Rattle.machine.specs.declared.Reason.{Reason}
 use Rattle.machine.specs.declared.Reason.the-variants as reason
-use Rattle.machine.specs.State.{withStatus, withPointer, withPhase, withBusy, pend, rested}
+use Rattle.machine.specs.State.{remade, withStatus, withPointer, withPhase, withBusy, pend, rested}
 
 -- the world of a step: the machine; the window's bytes; the beats not yet taken; the beats made, and the room for more
 pub record World : Type 0 where
@@ -39,9 +39,31 @@ pub data Answer : Type 0 where
   taken : World → Answer
   stopped : Reason → Answer
 
+-- ---- the world with some parts changed
+
+-- these parts. No other update of a world names its parts
+abbrev pub laid : World → Machine → (memory input output : List ℕ) (room : ℕ) → World
+laid w m memory input output room = record { machine = m; memory = memory; input = input; output = output; room = room }
+
 -- the machine alone changes
 abbrev pub became : World → Machine → World
-became w m = record { machine = m; memory = w .memory; input = w .input; output = w .output; room = w .room }
+became w m = laid w m (w .memory) (w .input) (w .output) (w .room)
+
+-- and bytes of the window
+abbrev pub stored : World → Machine → (memory : List ℕ) → World
+stored w m memory = laid w m memory (w .input) (w .output) (w .room)
+
+-- and a beat is taken
+abbrev pub received : World → Machine → (memory input : List ℕ) → World
+received w m memory input = laid w m memory input (w .output) (w .room)
+
+-- a beat is made
+abbrev pub sent : World → Machine → (output : List ℕ) (room : ℕ) → World
+sent w m output room = laid w m (w .memory) (w .input) output room
+
+-- the world before the first step: nothing is made yet
+abbrev pub opened : Machine → (memory input : List ℕ) (room : ℕ) → World
+opened m memory input room = record { machine = m; memory = memory; input = input; output = []; room = room }
 
 -- a fault counts as a step: it sets BUSY 0, keeps code and address, drops the descriptor in hand, and writes nothing
 abbrev pub faulted : World → (code address : ℕ) → Answer
@@ -145,13 +167,8 @@ copyStep w k =
     let m = w .machine in
     cond (inWindow (m .window) (sourceOf k) 1)
     (cond (inWindow (m .window) (destinationOf k) 1)
-    (taken (record {
-      machine = onward m (withByte 0 false k);
-      memory = set (w .memory) (placeOf (m .window) (destinationOf k)) (getD (w .memory) (placeOf (m .window) (sourceOf k)) 0);
-      input = w .input;
-      output = w .output;
-      room = w .room;
-    }))
+    (taken (stored w (onward m (withByte 0 false k))
+    (set (w .memory) (placeOf (m .window) (destinationOf k)) (getD (w .memory) (placeOf (m .window) (sourceOf k)) 0))))
     (faulted w 14 (destinationOf k % 2 ^ 32)))
     (faulted w 13 (sourceOf k % 2 ^ 32))
 
@@ -165,13 +182,7 @@ abbrev pub sendTo : World → Work → (room : ℕ) → Answer
 sendTo w k zero = stopped reason.OutputFull
 sendTo w k (suc left) =
     let m = w .machine in
-    taken (record {
-      machine = onward m (withByte 0 false k);
-      memory = w .memory;
-      input = w .input;
-      output = w .output ++ beatFor k (getD (w .memory) (placeOf (m .window) (sourceOf k)) 0) ∷ [];
-      room = left;
-    })
+    taken (sent w (onward m (withByte 0 false k)) (w .output ++ beatFor k (getD (w .memory) (placeOf (m .window) (sourceOf k)) 0) ∷ []) left)
 
 -- mode 1: 13, then no room, no step
 unfoldable pub sendStep : World → Work → Answer
@@ -183,13 +194,7 @@ receiveFrom w k [] = stopped reason.NeedsInput
 receiveFrom w k (b ∷ bs) =
     let m = w .machine in
     cond (inWindow (m .window) (destinationOf k) 1)
-    (taken (record {
-      machine = onward m (withByte (beatError b) (beatEop b) k);
-      memory = set (w .memory) (placeOf (m .window) (destinationOf k)) (beatData b);
-      input = bs;
-      output = w .output;
-      room = w .room;
-    }))
+    (taken (received w (onward m (withByte (beatError b) (beatEop b) k)) (set (w .memory) (placeOf (m .window) (destinationOf k)) (beatData b)) bs))
     (faulted w 14 (destinationOf k % 2 ^ 32))
 
 abbrev pub moveStep : Mode → World → Work → Answer
@@ -220,26 +225,12 @@ completed m k =
     let failed : Bool = not (eqb (k .errors) 0) in
     let halts : Bool = failed && stopDmaEr c in
     let n : Count = counted (m .count) (maxDescProcessed c) in
-    record {
-      mode = m .mode;
-      window = m .window;
-      status = statusBack (m .status) (k .eop) failed (run c && not halts);
-      control = c;
-      pointer = m .pointer;
-      phase = afterBack (run c) halts;
-      pending = m .pending || pends c (k .eop) failed (n .full);
-      count = n .count;
-    }
+    remade (statusBack (m .status) (k .eop) failed (run c && not halts)) c (m .pointer) (afterBack (run c) halts)
+    (m .pending || pends c (k .eop) failed (n .full)) (n .count) m
 
 unfoldable pub writeBackStep : World → Work → Answer
 writeBackStep w k =
-    taken (record {
-      machine = completed (w .machine) k;
-      memory = writtenBack w k;
-      input = w .input;
-      output = w .output;
-      room = w .room;
-    })
+    taken (stored w (completed (w .machine) k) (writtenBack w k))
 
 -- ---- the step
 

@@ -25,17 +25,18 @@ use Rattle.machine.specs.declared.steps.Wait.the-variants.{Go, Stop}
 use Rattle.machine.specs.declared.steps.Lent as code
 use Rattle.machine.specs.declared.steps.Lent.the-variants as lent
 use Rattle.machine.specs.State.{withPhase, withBusy}
-use Rattle.machine.specs.Step.{World, Answer, taken, stopped, step, whole, onward, beatFor}
+use Rattle.machine.specs.Step.{World, Answer, taken, stopped, laid, became, stored, step, whole, onward, beatFor}
 use Rattle.machine.specs.Run.{Lent, serves, refused}
 
 -- ---- worlds
 
-abbrev pub world : Machine → (memory input output : List ℕ) (room : ℕ) → World
-world m memory input output room = record { machine = m; memory = memory; input = input; output = output; room = room }
+-- the world w in the middle of lent beats, of which so many are taken
+abbrev pub worldAt : World → Machine → (window beats : List ℕ) (took : ℕ) (output : List ℕ) (room : ℕ) → World
+worldAt w m window beats took output room = laid w m window (drop took (beatsIn beats)) output room
 
--- the world in the middle of lent beats, of which so many are taken
-abbrev pub worldAt : Machine → (window beats : List ℕ) (took : ℕ) (output : List ℕ) (room : ℕ) → World
-worldAt m window beats took output room = world m window (drop took (beatsIn beats)) output room
+-- and of a lent output, in which so many are made: those made before are w's
+abbrev pub midway : World → Machine → (window beats : List ℕ) (took : ℕ) (out : List ℕ) (made : ℕ) → World
+midway w m window beats took out made = worldAt w m window beats took (w .output) (length out / 2 - made)
 
 abbrev pub progress : Machine → (took made : ℕ) → Progress
 progress m took made = record { machine = m; taken = took; made = made }
@@ -69,11 +70,11 @@ some (b ∷ bs) = true
 -- what a rule's waiting depends on: whether there is a beat, and whether there is room
 abbrev pub Waits : (World → Answer) → Machine → (more room : Bool) → Wait → Type 0
 Waits rule m more room r =
-    (memory input output : List ℕ) (left : ℕ) → more ≡ some input → room ≡ ltb 0 left → r ≡ waitOf (rule (world m memory input output left))
+    (w : World) → more ≡ some (w .input) → room ≡ ltb 0 (w .room) → r ≡ waitOf (rule (became w m))
 
 -- a rule can be applied, in the middle of lent slices
 abbrev pub Goes : (World → Answer) → Machine → (window beats : List ℕ) (took : ℕ) (out : List ℕ) (made : ℕ) → Type 0
-Goes rule m window beats took out made = waitOf (rule (worldAt m window beats took [] (length out / 2 - made))) ≡ Go
+Goes rule m window beats took out made = (w : World) → waitOf (rule (midway w m window beats took out made)) ≡ Go
 
 -- ---- what is lent
 
@@ -101,17 +102,17 @@ steps n w = stepsOn n (taken w)
 -- a rule that can be applied, and touches neither beats nor output
 abbrev pub Still : (World → Answer) → Machine → (window : List ℕ) → Machine → (window' : List ℕ) → Type 0
 Still rule m window m' window' =
-    (input output : List ℕ) (room : ℕ) → rule (world m window input output room) ≡ taken (world m' window' input output room)
+    (w : World) → rule (stored w m window) ≡ taken (stored w m' window')
 
--- a rule that can be applied, in the middle of lent slices: `new` are the beats that it made, and o those made before
+-- a rule that can be applied, in the middle of lent slices: `new` are the beats that it made
 pub record Went (rule : World → Answer) (m : Machine) (window beats : List ℕ) (took : ℕ) (out : List ℕ) (made : ℕ) (r : Progress)
     (window' out' : List ℕ) : Type 0 where
   pub new : List ℕ
   pub counted : r .made ≡ made + length new
   pub wrote : out' ≡ put out (2 * made) (beatBytes new)
-  pub goes : (o : List ℕ)
-      → rule (worldAt m window beats took o (length out / 2 - made))
-      ≡ taken (worldAt (r .machine) window' beats (r .taken) (o ++ new) (length out / 2 - r .made))
+  pub goes : (w : World)
+      → rule (midway w m window beats took out made)
+      ≡ taken (worldAt w (r .machine) window' beats (r .taken) (w .output ++ new) (length out / 2 - r .made))
 
 -- some steps at once, in the middle of lent slices: where they led, and how many they were
 abbrev pub Advances : Machine → (window beats : List ℕ) (took : ℕ) (out : List ℕ) (made : ℕ) → Advanced → (window' out' : List ℕ) → Type 0

@@ -11,11 +11,11 @@ ghost use Rattle.bus.specs.Window.{inWindow};
 ghost use Rattle.image.specs.Rules.{asked as askedOf};
 ghost use Rattle.regs.specs.Modes.{modeNumber};
 ghost use Rattle.machine.specs.State.{withPhase, withPointer};
-ghost use Rattle.machine.specs.Step.{World, wantsLength, begun as begunOf, ended as endedOf, byteAddress, sourceOf, destinationOf, withByte, onward as onwardOf, beatFor, writtenControl, writtenBack, afterBack, completed as completedOf};
+ghost use Rattle.machine.specs.Step.{World, stored, wantsLength, begun as begunOf, ended as endedOf, byteAddress, sourceOf, destinationOf, withByte, onward as onwardOf, beatFor, writtenControl, writtenBack, afterBack, completed as completedOf};
 ghost use Rattle.machine.specs.Step.{fetched as fetchedOf, fetchStep, copyStep, sendStep, receiveFrom, moveStep, writeBackStep, step as stepOf};
 ghost use Rattle.machine.specs.Run.{lentIf, lentOf, readyOf, Stepped};
 ghost use Rattle.machine.specs.declared.Phase.the-variants.{Move, WriteBack};
-ghost use Rattle.machine.specs.Turns.{world, progress, inFault, Waits, Goes, lentAs, Within, Still, Went, Ready};
+ghost use Rattle.machine.specs.Turns.{progress, inFault, Waits, Goes, lentAs, Within, Still, Went, Ready};
 use crate::Fault;
 use crate::Machine;
 use crate::Phase;
@@ -399,7 +399,7 @@ impl Machine {
     // The last four descriptor bytes: actual, errors, control.
     fn put_back(self, k: Work, window: &mut [u8])
         requires { ⌜ inWindow (self .window) (k .at) 32 ≡ true ⌝ }
-        ensures { λ _. ⌜ ((input output : List ℕ) (room : ℕ) → now (window .exit) ≡ writtenBack (world self (now (window .entry)) input output room) k) ⌝ }
+        ensures { λ _. ⌜ ((w : World) → now (window .exit) ≡ writtenBack (stored w self (now (window .entry))) k) ⌝ }
     {
         let found = self.window.locate(BusAddress(k.at as u64), 32);
         let Located::At(place) = found else {

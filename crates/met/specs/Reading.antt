@@ -8,12 +8,11 @@ use Rattle.bus.specs.Window.{placeOf}
 use Rattle.descriptor.specs.declared.Descriptor.{Descriptor}
 use Rattle.descriptor.specs.Layout.{descriptorAt}
 use Rattle.machine.specs.declared.Reason.{Reason}
-use Rattle.machine.specs.Step.{World, Answer, taken, stopped}
+use Rattle.machine.specs.Step.{World, Answer, taken, stopped, stored}
 
 -- the same world over other bytes
 abbrev pub over : List ℕ → World → World
-over memory w =
-    record { machine = w .machine; memory = memory; input = w .input; output = w .output; room = w .room }
+over memory w = stored w (w .machine) memory
 
 -- the descriptor at the pointer
 abbrev pub atPointer : World → Descriptor

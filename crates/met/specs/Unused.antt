@@ -10,7 +10,7 @@ use Rattle.machine.specs.declared.Work.{Work}
 use Rattle.machine.specs.declared.Phase.{Phase}
 use Rattle.machine.specs.declared.Phase.the-variants.{Rest, Fetch, Move, WriteBack, Ended, Halted, Faulted}
 use Rattle.machine.specs.State.{withPhase}
-use Rattle.machine.specs.Step.{World, Answer, taken, stopped}
+use Rattle.machine.specs.Step.{World, Answer, taken, stopped, became}
 use Rattle.met.specs.Reading.{over}
 
 -- bits 0, 1, 2 and 7 are the same
@@ -58,13 +58,7 @@ phaseUnder c (Faulted f) = Faulted f
 -- the same world, but for that control
 abbrev pub worldUnder : ℕ → World → World
 worldUnder c w =
-    record {
-      machine = withPhase (phaseUnder c (w .machine .phase)) (w .machine);
-      memory = w .memory;
-      input = w .input;
-      output = w .output;
-      room = w .room;
-    }
+    became w (withPhase (phaseUnder c (w .machine .phase)) (w .machine))
 
 abbrev pub answerUnder : ℕ → Answer → Answer
 answerUnder c (taken w) = taken (worldUnder c w)

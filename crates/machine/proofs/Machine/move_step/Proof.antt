@@ -1,8 +1,8 @@
 use Rattle.regs.specs.declared.Mode.{Mode}
 use Rattle.machine.proofs.Waiting.{goes-room, goes-beat}
 use Rattle.machine.proofs.Turning.{went-still, went-as}
-use Rattle.machine.specs.Turns.{world, Went}
-use Rattle.machine.specs.Step.{World, moveStep}
+use Rattle.machine.specs.Turns.{Went}
+use Rattle.machine.specs.Step.{World, became, moveStep}
 use mathlib.Core.Path.{_≡_, ap}
 use mathlib.Core.List.{List}
 use Prim.Native.Nat.{ℕ}
@@ -19,7 +19,7 @@ module _ (s : tie.Start) {o : Mode} (e : s .args .self .mode ≡ o) where
       → Went (λ (w : World). moveStep (s .args .self .mode) w (s .args .k)) (s .args .self) (s .args .window .now) (s .args .beats .now) (s .args .taken) (s .args .out .now) (s .args .made) r window' out'
   is-move g =
       went-as (λ (w : World). moveStep o w (s .args .k)) (λ (w : World). moveStep (s .args .self .mode) w (s .args .k))
-      (λ memory input output room. ap (λ (x : Mode). moveStep x (world (s .args .self) memory input output room) (s .args .k)) e) g
+      (λ w. ap (λ (x : Mode). moveStep x (became w (s .args .self)) (s .args .k)) e) g
 
 enum-told : tie.Need-enum-told
 enum-told c = search needs

@@ -34,7 +34,7 @@ same-length c = search needs
 returns-2 : tie.Need-returns-2
 unfolding writtenBack
 returns-2 c =
-    λ input output room. c .before .before .write-back .ensures .lent
+    λ w. c .before .before .write-back .ensures .lent
     ∙ simp (place (c .before .before .before .before .before .before .before .before .locate .ensures) refl (c .before .before .before .before .before .before .found .given .1), c .before .before .before .before .written-control .ensures)
 
 pub put-back-spec : {M : Type 1} → statement M

@@ -1,14 +1,12 @@
-use Rattle.machine.proofs.Standing.{Stands, stands-first, stands-on, stands-stopped, stands-out, run-refused}
+use Rattle.machine.proofs.Standing.{Stands, here, stands-first, stands-on, stands-stopped, stands-out, run-refused}
 use Rattle.machine.proofs.Outcomes.{good-ready}
 use Rattle.machine.proofs.Waiting.{waits-at}
-use Rattle.machine.specs.Turns.{worldAt, waitOf, lentAs}
+use Rattle.machine.specs.Turns.{midway, waitOf, lentAs}
 use borrow.Author.Needs.{needs}
-use mathlib.Core.List.{List, []}
 use mathlib.Core.Path.{_≡_, sym, ap, _∙_}
 use native.Mathlib.Omega.{arith}
-use Prim.Native.Nat.{ℕ, _-_, _/_}
-use lib.ListN.{length}
-use Rattle.machine.specs.Step.{step}
+use Prim.Native.Nat.{_-_}
+use Rattle.machine.specs.Step.{World, step}
 use Rattle.machine.specs.Run.{lentIf, serves}
 use Rattle.machine.proofs.Machine.run_if.Statement.{statement}
 use Rattle.machine.proofs.Machine.run_if.Tie as tie
@@ -28,14 +26,14 @@ serving : (c : tie.After-enum-told Inv-loop μ-loop)
 serving c = sym (c .before .before .served .ensures) ∙ ap lentAs (c .enum-told .given .1)
 
 -- whether a step can be taken where the run stands, whatever was made before
-waits : (c : tie.After-wait Inv-loop μ-loop) (o : List ℕ)
+waits : (c : tie.After-wait Inv-loop μ-loop) (w : World)
     → let l = c .before .loop in
     let beats = c .before .before .before .before .before .before .before .before .before .before .args .beats .now in
-    waitOf (step (worldAt (l .machine) (l .window) beats (l .taken) o (length (l .out) / 2 - l .made))) ≡ c .wait .result
-waits c o =
+    waitOf (step (midway w (l .machine) (l .window) beats (l .taken) (l .out) (l .made))) ≡ c .wait .result
+waits c w =
     let l = c .before .loop in
     let beats = c .before .before .before .before .before .before .before .before .before .before .args .beats .now in
-    waits-at (l .machine) (l .window) beats (l .taken) (l .out) (l .made) (c .wait .ensures) o
+    waits-at (l .machine) (l .window) beats (l .taken) (l .out) (l .made) (c .wait .ensures) w
 
 served-requires : tie.Need-served-requires Inv-loop μ-loop
 served-requires c κs = search needs
@@ -75,7 +73,7 @@ sub-advance c = search needs
 advance-requires : tie.Need-advance-requires Inv-loop μ-loop
 advance-requires c κs =
     let l = c .before .before .before .before .before .before .loop in
-    (l .inv .ready, (l .inv .within, (waits (c .before .before .before .before .before) [] ∙ c .before .before .before .enum-told2 .given .1, search needs)))
+    (l .inv .ready, (l .inv .within, (λ w. waits (c .before .before .before .before .before) w ∙ c .before .before .before .enum-told2 .given .1, search needs)))
 
 add-steps : tie.Need-add-steps Inv-loop μ-loop
 add-steps c =
@@ -103,7 +101,7 @@ returns-2 : tie.Need-returns-2 Inv-loop μ-loop
 returns-2 c =
     let l = c .before .before .before .before .loop in
     stands-stopped _ _ _ _ _ (l .window) (l .out) (l .machine) (l .taken) (l .made) (l .steps) (l .inv) _
-    (waits (c .before .before .before) (l .inv .output) ∙ c .before .wait2 .given .1) (serving (c .before .before .before .before .before))
+    (waits (c .before .before .before) (here _ _ _ _ _ _ _ _ _ _ _ (l .inv)) ∙ c .before .wait2 .given .1) (serving (c .before .before .before .before .before))
 
 same-length-5 : tie.Need-same-length-5 Inv-loop μ-loop
 same-length-5 c = search needs
@@ -115,7 +113,7 @@ returns-3 : tie.Need-returns-3 Inv-loop μ-loop
 returns-3 c =
     let l = c .before .before .before .before .loop in
     stands-out _ _ _ _ _ (l .window) (l .out) (l .machine) (l .taken) (l .made) (l .steps) (l .inv)
-    (waits (c .before .before .before) (l .inv .output) ∙ c .before .enum-told2 .given .1) (sym (c .if1 .taken)) (serving (c .before .before .before .before .before))
+    (waits (c .before .before .before) (here _ _ _ _ _ _ _ _ _ _ _ (l .inv)) ∙ c .before .enum-told2 .given .1) (sym (c .if1 .taken)) (serving (c .before .before .before .before .before))
 
 pub run-if-spec : {M : Type 1} → statement M
 run-if-spec =

@@ -2,12 +2,8 @@ use Rattle.machine.proofs.Waiting.{waits-at}
 use Rattle.machine.proofs.Outcomes.{serves-ready, wait-stopped, step-refused, step-stopped, step-taken}
 use Rattle.machine.proofs.Streams.{some-beat}
 use Rattle.machine.specs.Turns.{lentAs}
-use Rattle.flow.specs.Beats.{beatsIn}
-use lib.ListN.{length}
-use mathlib.Core.List.{[]}
 use mathlib.Core.Path.{_≡_, refl, sym, ap, _∙_}
-use Prim.Native.Nat.{_/_}
-use Rattle.machine.specs.Run.{lentOf, serves}
+use Rattle.machine.specs.Run.{lentOf, serves, worldOf}
 use borrow.Author.Needs.{needs}
 use Rattle.machine.proofs.Machine.step.Statement.{statement}
 use Rattle.machine.proofs.Machine.step.Tie as tie
@@ -51,7 +47,7 @@ same-length-4 c = search needs
 returns-2 : tie.Need-returns-2
 returns-2 c =
     let a = c .before .before .before .before .before .before .before .before .before .before .before .before .args in
-    let waits = c .before .before .before .wait .ensures (a .window .now) (beatsIn (a .beats .now)) [] (length (a .out .now) / 2) (some-beat (a .beats .now) 0) refl in
+    let waits = c .before .before .before .wait .ensures (worldOf (a .self) (a .window .now) (a .beats .now) (a .out .now)) (some-beat (a .beats .now) 0) refl in
     step-stopped (served (c .before .before .before .before)) (wait-stopped _ (sym waits ∙ c .before .wait2 .given .1))
 
 enum-told-2 : tie.Need-enum-told-2
@@ -60,8 +56,8 @@ enum-told-2 c = search needs
 step-at-requires : tie.Need-step-at-requires
 step-at-requires c κs =
     let a = c .before .before .before .before .before .before .before .before .before .before .before .before .before .args in
-    let waits = waits-at (a .self) (a .window .now) (a .beats .now) 0 (a .out .now) 0 (c .before .before .before .before .wait .ensures) [] in
-    (serves-ready _ _ _ _ (served (c .before .before .before .before .before)), (record { taken-in = search needs; made-in = search needs }, waits ∙ c .before .before .enum-told2 .given .1))
+    let waits = waits-at (a .self) (a .window .now) (a .beats .now) 0 (a .out .now) 0 (c .before .before .before .before .wait .ensures) in
+    (serves-ready _ _ _ _ (served (c .before .before .before .before .before)), (record { taken-in = search needs; made-in = search needs }, λ w. waits w ∙ c .before .before .enum-told2 .given .1))
 
 same-length-5 : tie.Need-same-length-5
 same-length-5 c = search needs

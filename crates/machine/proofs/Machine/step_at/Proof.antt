@@ -2,8 +2,9 @@ use native.Mathlib.Omega.{arith}
 use Rattle.machine.proofs.Readiness.{left-lt}
 use Rattle.machine.proofs.Waiting.{at-phase, goes-in, rest-runs, never-goes}
 use Rattle.machine.proofs.Turning.{went-still, went-as, rest-starts}
-use Rattle.machine.specs.Turns.{world, Left, Placed, Goes, Went}
-use Rattle.machine.specs.Step.{World, Answer, step, stepIn, restStep, fetchStep, moveStep, writeBackStep}
+use Rattle.machine.specs.Run.{worldOf}
+use Rattle.machine.specs.Turns.{Left, Placed, Goes, Went}
+use Rattle.machine.specs.Step.{World, Answer, became, step, stepIn, restStep, fetchStep, moveStep, writeBackStep}
 use Rattle.machine.specs.declared.Phase.{Phase}
 use mathlib.Core.Path.{_≡_, refl, subst, _∙_}
 use mathlib.Core.List.{List}
@@ -13,6 +14,10 @@ use borrow.Author.Needs.{needs}
 use Rattle.machine.proofs.Machine.step_at.Statement.{statement}
 use Rattle.machine.proofs.Machine.step_at.Tie as tie
 
+-- a world around it
+abbrev lent-world : tie.Start → World
+lent-world s = worldOf (s .args .self) (s .args .window .now) (s .args .beats .now) (s .args .out .now)
+
 -- the step of the phase that was found: it can be taken, and is the step
 module _ (s : tie.Start) {p : Phase} (e : s .args .self .phase ≡ p) where
   can : Goes (stepIn p) (s .args .self) (s .args .window .now) (s .args .beats .now) (s .args .taken) (s .args .out .now) (s .args .made)
@@ -21,13 +26,13 @@ module _ (s : tie.Start) {p : Phase} (e : s .args .self .phase ≡ p) where
       (s .pre .1 .1)
 
   is-step : (rule : World → Answer)
-      → ((memory input output : List ℕ) (room : ℕ) → stepIn p (world (s .args .self) memory input output room) ≡ rule (world (s .args .self) memory input output room))
+      → ((w : World) → stepIn p (became w (s .args .self)) ≡ rule (became w (s .args .self)))
       → {r : Progress} {window' out' : List ℕ}
       → Went rule (s .args .self) (s .args .window .now) (s .args .beats .now) (s .args .taken) (s .args .out .now) (s .args .made) r window' out'
       → Went step (s .args .self) (s .args .window .now) (s .args .beats .now) (s .args .taken) (s .args .out .now) (s .args .made) r window' out'
   is-step rule same g =
       went-as rule step
-      (λ memory input output room. at-phase (world (s .args .self) memory input output room) e ∙ same memory input output room) g
+      (λ w. at-phase (became w (s .args .self)) e ∙ same w) g
 
 enum-told : tie.Need-enum-told
 enum-told c = search needs
@@ -91,8 +96,8 @@ returns : tie.Need-returns
 returns c =
     let s = c .before .before .before .before .before .before .before in
     let e = c .before .before .enum-told .given .1 in
-    let starts = went-still restStep _ _ _ _ _ _ _ _ (rest-starts _ _ _ (rest-runs _ (can s e)) (c .before .enters .ensures)) in
-    simp (c .at .ensures) (s .pre .1 .0, is-step s e restStep (λ memory input output room. refl) starts)
+    let starts = went-still restStep _ _ _ _ _ _ _ _ (rest-starts _ _ _ (rest-runs _ (can s e (lent-world s))) (c .before .enters .ensures)) in
+    simp (c .at .ensures) (s .pre .1 .0, is-step s e restStep (λ w. refl) starts)
 
 same-length : tie.Need-same-length
 same-length c = search needs
@@ -101,7 +106,7 @@ returns-2 : tie.Need-returns-2
 returns-2 c =
     let s = c .before .before .before .before .before .before .before .before in
     let still = went-still fetchStep _ _ _ _ _ _ _ _ (c .before .fetch-step .ensures) in
-    simp (c .at2 .ensures) (s .pre .1 .0, is-step s (c .before .before .before .enum-told2 .given .1) fetchStep (λ memory input output room. refl) still)
+    simp (c .at2 .ensures) (s .pre .1 .0, is-step s (c .before .before .before .enum-told2 .given .1) fetchStep (λ w. refl) still)
 
 same-length-2 : tie.Need-same-length-2
 same-length-2 c = search needs
@@ -114,7 +119,7 @@ returns-3 c =
     let s = c .before .before .before .before .before .before .before .before .before .before .before .before .before in
     let k = c .before .before .before .before .before .before .before .before .phase .given .0 .0 in
     let move = c .before .before .before .before .move-step .ensures in
-    (move .0, is-step s (c .before .before .before .before .before .before .before .before .phase .given .1) (λ (w : World). moveStep (s .args .self .mode) w k) (λ memory input output room. refl) (move .1))
+    (move .0, is-step s (c .before .before .before .before .before .before .before .before .phase .given .1) (λ (w : World). moveStep (s .args .self .mode) w k) (λ w. refl) (move .1))
 
 same-length-4 : tie.Need-same-length-4
 same-length-4 c = search needs
@@ -125,16 +130,16 @@ returns-4 c =
     let k = c .before .before .before .before .before .before .phase2 .given .0 .0 in
     let still = went-still (λ (w : World). writeBackStep w k) _ _ _ _ _ _ _ _ (c .before .before .before .write-back-step .ensures) in
     simp (c .at3 .ensures)
-    (s .pre .1 .0, is-step s (c .before .before .before .before .before .before .phase2 .given .1) (λ (w : World). writeBackStep w k) (λ memory input output room. refl) still)
+    (s .pre .1 .0, is-step s (c .before .before .before .before .before .before .phase2 .given .1) (λ (w : World). writeBackStep w k) (λ w. refl) still)
 
 returns-5 : tie.Need-returns-5
-returns-5 c = absurd (never-goes (can (c .before .before .before .before .before .before) (c .before .enum-told3 .given .1)))
+returns-5 c = absurd (never-goes (can (c .before .before .before .before .before .before) (c .before .enum-told3 .given .1) (lent-world (c .before .before .before .before .before .before))))
 
 returns-6 : tie.Need-returns-6
-returns-6 c = absurd (never-goes (can (c .before .before .before .before .before .before) (c .before .enum-told4 .given .1)))
+returns-6 c = absurd (never-goes (can (c .before .before .before .before .before .before) (c .before .enum-told4 .given .1) (lent-world (c .before .before .before .before .before .before))))
 
 returns-7 : tie.Need-returns-7
-returns-7 c = absurd (never-goes (can (c .before .before .before .before .before .before) (c .before .enum-told5 .given .1)))
+returns-7 c = absurd (never-goes (can (c .before .before .before .before .before .before) (c .before .enum-told5 .given .1) (lent-world (c .before .before .before .before .before .before))))
 
 pub step-at-spec : {M : Type 1} → statement M
 step-at-spec =

@@ -1,6 +1,6 @@
 use Rattle.machine.proofs.Waiting.{fetch-goes, at-phase}
-use Rattle.machine.specs.Step.{restStep, writeBackStep}
-use Rattle.machine.specs.Turns.{world, waitOf}
+use Rattle.machine.specs.Step.{became, restStep, writeBackStep}
+use Rattle.machine.specs.Turns.{waitOf}
 use mathlib.Core.Path.{_∙_, sym, ap}
 use borrow.Author.Needs.{needs}
 use Rattle.machine.proofs.Machine.wait.Statement.{statement}
@@ -36,38 +36,38 @@ enum-told-6 c = search needs
 returns : tie.Need-returns
 unfolding restStep
 returns c =
-    λ memory input output left p q. sym (ap waitOf (at-phase (world (c .before .before .before .before .args .self) memory input output left) (c .before .before .enum-told .given .1)) ∙ simp (sym (c .before .has .ensures .value) ∙ c .if1 .taken))
+    λ w p q. sym (ap waitOf (at-phase (became w ((c .before .before .before .before .args .self))) (c .before .before .enum-told .given .1)) ∙ simp (sym (c .before .has .ensures .value) ∙ c .if1 .taken))
 
 returns-2 : tie.Need-returns-2
 unfolding restStep
 returns-2 c =
-    λ memory input output left p q. sym (ap waitOf (at-phase (world (c .before .before .before .before .args .self) memory input output left) (c .before .before .enum-told .given .1)) ∙ simp (sym (c .before .has .ensures .value) ∙ c .if1 .left))
+    λ w p q. sym (ap waitOf (at-phase (became w ((c .before .before .before .before .args .self))) (c .before .before .enum-told .given .1)) ∙ simp (sym (c .before .has .ensures .value) ∙ c .if1 .left))
 
 returns-3 : tie.Need-returns-3
 returns-3 c =
-    λ memory input output left p q. sym (ap waitOf (at-phase (world (c .before .before .args .self) memory input output left) (c .enum-told2 .given .1)) ∙ fetch-goes _)
+    λ w p q. sym (ap waitOf (at-phase (became w ((c .before .before .args .self))) (c .enum-told2 .given .1)) ∙ fetch-goes _)
 
 returns-4 : tie.Need-returns-4
 returns-4 c =
-    λ memory input output left p q. c .move-wait .ensures memory input output left p q
-    ∙ sym (ap waitOf (at-phase (world (c .before .before .before .before .args .self) memory input output left) (c .before .before .phase .given .1)))
+    λ w p q. c .move-wait .ensures w p q
+    ∙ sym (ap waitOf (at-phase (became w ((c .before .before .before .before .args .self))) (c .before .before .phase .given .1)))
 
 returns-5 : tie.Need-returns-5
 unfolding writeBackStep
 returns-5 c =
-    λ memory input output left p q. sym (ap waitOf (at-phase (world (c .before .before .args .self) memory input output left) (c .enum-told3 .given .1)))
+    λ w p q. sym (ap waitOf (at-phase (became w ((c .before .before .args .self))) (c .enum-told3 .given .1)))
 
 returns-6 : tie.Need-returns-6
 returns-6 c =
-    λ memory input output left p q. sym (ap waitOf (at-phase (world (c .before .before .args .self) memory input output left) (c .enum-told4 .given .1)))
+    λ w p q. sym (ap waitOf (at-phase (became w ((c .before .before .args .self))) (c .enum-told4 .given .1)))
 
 returns-7 : tie.Need-returns-7
 returns-7 c =
-    λ memory input output left p q. sym (ap waitOf (at-phase (world (c .before .before .args .self) memory input output left) (c .enum-told5 .given .1)))
+    λ w p q. sym (ap waitOf (at-phase (became w ((c .before .before .args .self))) (c .enum-told5 .given .1)))
 
 returns-8 : tie.Need-returns-8
 returns-8 c =
-    λ memory input output left p q. sym (ap waitOf (at-phase (world (c .before .before .args .self) memory input output left) (c .enum-told6 .given .1)))
+    λ w p q. sym (ap waitOf (at-phase (became w ((c .before .before .args .self))) (c .enum-told6 .given .1)))
 
 pub wait-spec : {M : Type 1} → statement M
 wait-spec =

@@ -14,7 +14,7 @@ same-length c = search needs
 
 returns : tie.Need-returns
 unfolding writeBackStep
-returns c = λ input output room. simp (c .completed .ensures, c .before .before .before .put-back .ensures input output room)
+returns c = λ w. simp (c .completed .ensures, c .before .before .before .put-back .ensures w)
 
 pub write-back-step-spec : {M : Type 1} → statement M
 write-back-step-spec =
