@@ -9,12 +9,13 @@
 #include <stdio.h>
 #include <string.h>
 
-/* What must be found of a descriptor. */
+/* What must be found of a descriptor and, where it is done, in its record. */
 struct must {
     bool done;
     uint16_t count;
     uint8_t status;
     size_t fresh;
+    bool eop; /* in the record alone */
 };
 
 struct scene {
@@ -27,6 +28,7 @@ struct scene {
     uint32_t mark;       /* and with what */
     uint32_t landing;    /* where the last packet is to land, where elsewhere */
     size_t saved_after;  /* the slice after which the core is saved */
+    size_t room;         /* the records that are lent at first, where not all are */
     /* What must come of it. */
     uint32_t reason;
     uint32_t status; /* all that was read at interrupts */
@@ -34,9 +36,9 @@ struct scene {
     struct must found[DESCRIPTORS];
 };
 
-#define FULL      {true, PACKET, 0, PACKET}
-#define UNTOUCHED {false, 0, 0, 0}
-#define PART(n)   {false, 0, 0, n}
+#define FULL      {true, PACKET, 0, PACKET, false}
+#define UNTOUCHED {false, 0, 0, 0, false}
+#define PART(n)   {false, 0, 0, n, false}
 
 #define ENABLES                                                \
     (SGDMA_CONTROL_IE_GLOBAL | SGDMA_CONTROL_IE_ERROR |        \
@@ -68,7 +70,7 @@ static const struct scene SCENES[] = {
         .mark = UINT32_C(0x03) << SGDMA_INPUT_ERROR_SHIFT,
         .reason = SGDMA_REASON_HALTED,
         .status = SOME_DONE | SGDMA_STATUS_ERROR,
-        .found = {FULL, {true, PACKET, 0x03, PACKET}, UNTOUCHED, UNTOUCHED},
+        .found = {FULL, {true, PACKET, 0x03, PACKET, false}, UNTOUCHED, UNTOUCHED},
     },
     {
         .title = "EOP early",
@@ -77,7 +79,7 @@ static const struct scene SCENES[] = {
         .mark = SGDMA_INPUT_EOP,
         .reason = SGDMA_REASON_ENDED,
         .status = ALL_DONE | SGDMA_STATUS_EOP_ENCOUNTERED,
-        .found = {FULL, {true, 10, 0, 10}, FULL, FULL},
+        .found = {FULL, {true, 10, 0, 10, true}, FULL, FULL},
     },
     {
         .title = "A fault",
@@ -96,6 +98,14 @@ static const struct scene SCENES[] = {
         .status = ALL_DONE,
         .found = {FULL, FULL, FULL, FULL},
     },
+    {
+        .title = "A full ledger",
+        .see = "Room for two records: no third is done before there is room for it.",
+        .room = 2,
+        .reason = SGDMA_REASON_ENDED,
+        .status = ALL_DONE,
+        .found = {FULL, FULL, FULL, FULL},
+    },
 };
 
 enum { SCENE_COUNT = sizeof SCENES / sizeof *SCENES };
@@ -104,8 +114,11 @@ enum { SCENE_COUNT = sizeof SCENES / sizeof *SCENES };
 struct outcome {
     uint32_t reason;
     uint32_t status;
+    uint32_t taken; /* beats, in all slices */
+    bool recorded;  /* after each slice, as many descriptors were done as records used */
     struct fault fault;
     struct found found[DESCRIPTORS];
+    struct ledger ledger;
 };
 
 static void prepare(struct firmware *firmware, const struct scene *scene)
@@ -117,12 +130,20 @@ static void prepare(struct firmware *firmware, const struct scene *scene)
         firmware->in.beats = scene->silent_after;
     if (scene->landing)
         firmware_build(firmware, DESCRIPTORS - 1, scene->landing);
+    if (scene->room)
+        firmware->ledger.room = scene->room;
     firmware_start(firmware);
 }
 
+/* The bytes of the records used. */
+static size_t recorded(const struct firmware *firmware)
+{
+    return SGDMA_RECORD_SIZE * (size_t)firmware->ledger.used;
+}
+
 /*
- * Saves image and memory, wipes both, and restores them as a second core, for
- * which the stream goes on.
+ * Saves image, memory and ledger, wipes them, and restores them as a second core,
+ * for which the stream goes on.
  */
 static void move_over(struct firmware *to, struct firmware *from)
 {
@@ -131,14 +152,29 @@ static void move_over(struct firmware *to, struct firmware *from)
     firmware_begin(to, from->control);
     memcpy(to->core.image, from->core.image, sizeof to->core.image);
     memcpy(to->memory, from->memory, sizeof to->memory);
+    memcpy(to->records, from->records, recorded(from));
+    to->ledger.used = from->ledger.used;
     memset(from->core.image, 0xFF, sizeof from->core.image);
     memset(from->memory, 0xFF, sizeof from->memory);
+    memset(from->records, 0xFF, sizeof from->records);
     to->in = rest;
-    printf("    saved: %zu bytes of image, %zu of memory; restored as a second core\n",
-           sizeof to->core.image, sizeof to->memory);
+    printf("    saved: %zu bytes of image, %zu of memory, %zu of ledger; "
+           "a second core goes on\n",
+           sizeof to->core.image, sizeof to->memory, recorded(to));
 }
 
-/* Runs slices until one is stopped by something else than its budget. */
+/* Whether the firmware runs another slice; where the ledger is full, it lends more. */
+static bool goes_on(struct firmware *firmware, uint32_t reason)
+{
+    size_t more = reason == SGDMA_REASON_LEDGER_FULL ? firmware_lend_all(firmware) : 0;
+
+    if (more)
+        printf("    full, with %zu descriptors done: room for %zu more records is lent\n",
+               firmware_done(firmware), more);
+    return reason == SGDMA_REASON_BUDGET || more;
+}
+
+/* Runs slices until one is stopped by something that the firmware cannot mend. */
 static struct firmware *run(const struct scene *scene, struct firmware both[2],
                             struct outcome *outcome)
 {
@@ -147,19 +183,23 @@ static struct firmware *run(const struct scene *scene, struct firmware both[2],
     size_t number = 0;
 
     show_slice_heading();
-    outcome->status = 0;
+    outcome->status = outcome->taken = 0;
+    outcome->recorded = true;
     do {
         slice = firmware_slice(firmware);
         number++;
         show_slice(number, &slice);
         outcome->status |= slice.status;
+        outcome->taken += slice.ran.taken;
+        outcome->recorded &= firmware_done(firmware) == slice.ran.used;
         if (number == scene->saved_after) {
             move_over(&both[1], firmware);
             firmware = &both[1];
         }
-    } while (slice.ran.reason == SGDMA_REASON_BUDGET);
+    } while (goes_on(firmware, slice.ran.reason));
     outcome->reason = slice.ran.reason;
     outcome->fault = core_fault(&firmware->core);
+    outcome->ledger = firmware->ledger;
     return firmware;
 }
 
@@ -180,20 +220,27 @@ static void walk(const struct core *core, struct outcome *outcome)
     }
 }
 
-/* Whether the scene without the saving comes to the same image and memory. */
+static const char *compared(bool same)
+{
+    return same ? "the same" : "DIFFERS";
+}
+
+/* Whether the scene without the saving comes to the same image, memory and ledger. */
 static bool same_end(const struct scene *scene, const struct firmware *end)
 {
     struct firmware whole;
-    bool image, memory;
+    bool image, memory, ledger;
 
     prepare(&whole, scene);
     while (firmware_slice(&whole).ran.reason == SGDMA_REASON_BUDGET)
         ;
     image = !memcmp(whole.core.image, end->core.image, sizeof whole.core.image);
     memory = !memcmp(whole.memory, end->memory, sizeof whole.memory);
-    printf("    against the run on one core: image %s, memory %s\n",
-           image ? "the same" : "DIFFERS", memory ? "the same" : "DIFFERS");
-    return image && memory;
+    ledger = whole.ledger.used == end->ledger.used &&
+             !memcmp(whole.records, end->records, recorded(end));
+    printf("    against one core alone: image %s, memory %s, ledger %s\n",
+           compared(image), compared(memory), compared(ledger));
+    return image && memory && ledger;
 }
 
 static bool found_as(const struct found *found, const struct must *must)
@@ -202,16 +249,48 @@ static bool found_as(const struct found *found, const struct must *must)
            found->d.status == must->status && found->fresh == must->fresh;
 }
 
+/* Whether the record at this place tells of this descriptor what it must. */
+static bool recorded_as(struct ledger ledger, size_t place, uint32_t descriptor,
+                        const struct must *must)
+{
+    struct record record;
+
+    if (place >= ledger.used)
+        return false;
+    record = record_at(ledger, place);
+    return record.run == 0 && record.descriptor == descriptor &&
+           record.actual == must->count && record.status == must->status &&
+           record.eop == must->eop;
+}
+
+/*
+ * Each descriptor is as it must be, and a record is there for each that is done
+ * and for no other. Every beat taken is a fresh byte of one of them.
+ */
+static bool chain_as(const struct outcome *outcome, const struct must *must)
+{
+    bool as = true;
+    size_t records = 0, fresh = 0;
+
+    for (size_t i = 0; i < DESCRIPTORS; i++) {
+        const struct found *found = &outcome->found[i];
+
+        as = as && found_as(found, &must[i]);
+        if (must[i].done)
+            as = as && recorded_as(outcome->ledger, records++, found->address, &must[i]);
+        fresh += must[i].fresh;
+    }
+    return as && outcome->recorded && outcome->ledger.used == records &&
+           outcome->taken == fresh;
+}
+
 static bool as_it_must_be(const struct scene *scene, const struct outcome *outcome)
 {
-    bool as = outcome->reason == scene->reason &&
-              outcome->status == scene->status &&
-              outcome->fault.code == scene->fault.code &&
-              outcome->fault.address == scene->fault.address;
-
-    for (size_t i = 0; i < DESCRIPTORS; i++)
-        as = as && found_as(&outcome->found[i], &scene->found[i]);
-    return as;
+    return outcome->reason == scene->reason &&
+           outcome->status == scene->status &&
+           outcome->fault.code == scene->fault.code &&
+           outcome->fault.address == scene->fault.address &&
+           chain_as(outcome, scene->found);
 }
 
 static bool play(size_t number, const struct scene *scene)
@@ -229,6 +308,8 @@ static bool play(size_t number, const struct scene *scene)
                outcome.fault.address);
     printf("\n");
     walk(&end->core, &outcome);
+    printf("\n");
+    show_ledger(outcome.ledger, outcome.taken);
     as = as_it_must_be(scene, &outcome);
     if (scene->saved_after)
         as = same_end(scene, end) && as;

@@ -42,6 +42,19 @@ struct stream stream_from(struct stream stream, size_t beats)
     return left;
 }
 
+struct record record_at(struct ledger ledger, size_t place)
+{
+    const uint8_t *bytes = ledger.bytes + SGDMA_RECORD_SIZE * place;
+    struct record record;
+
+    record.run = number_at(bytes + SGDMA_RECORD_RUN_AT, 4);
+    record.descriptor = number_at(bytes + SGDMA_RECORD_DESCRIPTOR_AT, 4);
+    record.actual = (uint16_t)number_at(bytes + SGDMA_RECORD_ACTUAL_AT, 2);
+    record.status = bytes[SGDMA_RECORD_STATUS_AT];
+    record.eop = bytes[SGDMA_RECORD_FLAGS_AT] & SGDMA_RECORD_EOP;
+    return record;
+}
+
 void core_create(struct core *core, uint32_t mode, uint32_t base,
                  uint8_t *memory, size_t length)
 {
@@ -79,7 +92,7 @@ bool core_line(const struct core *core)
 }
 
 struct ran core_run(struct core *core, struct stream in, struct stream out,
-                    uint32_t budget)
+                    struct ledger ledger, uint32_t budget)
 {
     uint8_t report[SGDMA_REPORT_SIZE];
     struct ran ran;
@@ -89,11 +102,13 @@ struct ran core_run(struct core *core, struct stream in, struct stream out,
                            core->memory, core->length,
                            in.bytes, SGDMA_BEAT_SIZE * in.beats,
                            out.bytes, SGDMA_BEAT_SIZE * out.beats,
-                           budget, report, sizeof report));
+                           ledger.bytes, SGDMA_RECORD_SIZE * ledger.room,
+                           ledger.used, budget, report, sizeof report));
     ran.reason = number_at(report + SGDMA_REPORT_REASON_AT, 2);
     ran.steps = number_at(report + SGDMA_REPORT_STEPS_AT, 4);
     ran.taken = number_at(report + SGDMA_REPORT_TAKEN_AT, 4);
     ran.made = number_at(report + SGDMA_REPORT_MADE_AT, 4);
+    ran.used = number_at(report + SGDMA_REPORT_USED_AT, 4);
     return ran;
 }
 
@@ -132,6 +147,11 @@ struct descriptor core_descriptor(const struct core *core, uint32_t address)
     d.status = answer[SGDMA_ANSWER_DESC_STATUS_AT];
     d.control = answer[SGDMA_ANSWER_DESC_CONTROL_AT];
     return d;
+}
+
+bool is_done(const struct descriptor *d)
+{
+    return !(d->control & SGDMA_DESC_OWNED_BY_HW);
 }
 
 uint8_t *core_byte(const struct core *core, uint32_t address)

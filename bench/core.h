@@ -38,12 +38,29 @@ struct stream {
     size_t beats;
 };
 
+/* A ledger, and how much of it is used. */
+struct ledger {
+    uint8_t *bytes;
+    size_t room;   /* how many records it holds, the used ones among them */
+    uint32_t used; /* what the last run reported; the next one is told it */
+};
+
+/* A record of a ledger: what was written back. */
+struct record {
+    uint32_t run;
+    uint32_t descriptor; /* its address */
+    uint16_t actual;
+    uint8_t status;
+    bool eop;
+};
+
 /* What a run reports. */
 struct ran {
     uint32_t reason;
     uint32_t steps;
     uint32_t taken;
     uint32_t made;
+    uint32_t used; /* records of the ledger */
 };
 
 struct fault {
@@ -61,18 +78,22 @@ void put_beat(struct stream stream, size_t place, uint32_t beat);
 /* What is left of a stream after its first beats. */
 struct stream stream_from(struct stream stream, size_t beats);
 
+/* Record `place` of a ledger. */
+struct record record_at(struct ledger ledger, size_t place);
+
 void core_create(struct core *core, uint32_t mode, uint32_t base,
                  uint8_t *memory, size_t length);
 uint32_t core_read(const struct core *core, uint32_t offset);
 void core_write(struct core *core, uint32_t offset, uint32_t value);
 bool core_line(const struct core *core);
 struct ran core_run(struct core *core, struct stream in, struct stream out,
-                    uint32_t budget);
+                    struct ledger ledger, uint32_t budget);
 struct fault core_fault(const struct core *core);
 
 /* The builder takes what firmware sets; actual and status become 0. */
 void core_build(struct core *core, uint32_t address, const struct descriptor *d);
 struct descriptor core_descriptor(const struct core *core, uint32_t address);
+bool is_done(const struct descriptor *d);
 
 /* The byte of memory at a bus address of the window. */
 uint8_t *core_byte(const struct core *core, uint32_t address);

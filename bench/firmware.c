@@ -7,16 +7,32 @@ uint8_t sample(enum stream_name stream, size_t number)
     return (uint8_t)((size_t)stream << 6 | (number & 0x3F));
 }
 
+static uint32_t address_of(size_t place)
+{
+    return CHAIN + SGDMA_DESCRIPTOR_SIZE * (uint32_t)place;
+}
+
 void firmware_build(struct firmware *firmware, size_t place, uint32_t landing)
 {
-    uint32_t address = CHAIN + SGDMA_DESCRIPTOR_SIZE * (uint32_t)place;
     struct descriptor d = {0};
 
     d.destination = landing;
-    d.next = address + SGDMA_DESCRIPTOR_SIZE;
+    d.next = address_of(place + 1);
     d.length = PACKET;
     d.control = SGDMA_DESC_OWNED_BY_HW;
-    core_build(&firmware->core, address, &d);
+    core_build(&firmware->core, address_of(place), &d);
+}
+
+size_t firmware_done(const struct firmware *firmware)
+{
+    size_t done = 0;
+
+    for (size_t i = 0; i < DESCRIPTORS; i++) {
+        struct descriptor d = core_descriptor(&firmware->core, address_of(i));
+
+        done += is_done(&d);
+    }
+    return done;
 }
 
 void firmware_begin(struct firmware *firmware, uint32_t control)
@@ -25,6 +41,9 @@ void firmware_begin(struct firmware *firmware, uint32_t control)
     memset(firmware->memory, 0, sizeof firmware->memory);
     core_create(&firmware->core, SGDMA_MODE_STREAM_TO_MEMORY, BASE,
                 firmware->memory, sizeof firmware->memory);
+    firmware->ledger.bytes = firmware->records;
+    firmware->ledger.room = DESCRIPTORS;
+    firmware->ledger.used = 0;
     firmware->control = control;
     firmware->in.bytes = firmware->beats;
     firmware->in.beats = SAMPLES;
@@ -60,9 +79,19 @@ struct slice firmware_slice(struct firmware *firmware)
     static const struct stream no_room = {NULL, 0};
     struct slice slice;
 
-    slice.ran = core_run(&firmware->core, firmware->in, no_room, SLICE);
+    slice.ran = core_run(&firmware->core, firmware->in, no_room,
+                         firmware->ledger, SLICE);
     firmware->in = stream_from(firmware->in, slice.ran.taken);
+    firmware->ledger.used = slice.ran.used;
     slice.line = core_line(&firmware->core);
     slice.status = slice.line ? acknowledge(firmware) : 0;
     return slice;
+}
+
+size_t firmware_lend_all(struct firmware *firmware)
+{
+    size_t more = DESCRIPTORS - firmware->ledger.room;
+
+    firmware->ledger.room += more;
+    return more;
 }

@@ -1,7 +1,7 @@
 /*
  * What the bench firmware does with a core: it lays a chain of descriptors, lets
- * the core fill their places from a stream of samples, and serves the interrupt
- * line.
+ * the core fill their places from a stream of samples, keeps the ledger of what
+ * was done, and serves the interrupt line.
  */
 #ifndef FIRMWARE_H
 #define FIRMWARE_H
@@ -28,10 +28,12 @@ enum stream_name { OLD_STREAM = 1, THIS_STREAM = 2 };
 
 uint8_t sample(enum stream_name stream, size_t number);
 
-/* The firmware with its core, its memory and the stream it is given. */
+/* The firmware with its core, its memory, its ledger and the stream it is given. */
 struct firmware {
     struct core core;
     uint8_t memory[MEMORY];
+    uint8_t records[SGDMA_RECORD_SIZE * DESCRIPTORS];
+    struct ledger ledger; /* those of them that are lent, and how many are used */
     uint8_t beats[SGDMA_BEAT_SIZE * SAMPLES];
     struct stream in; /* the beats not taken yet */
     uint32_t control; /* what the control register is to hold */
@@ -46,17 +48,27 @@ struct slice {
 
 /*
  * Creates the core and lays its memory: old samples wherever samples may land,
- * and the chain. The stream is that of all samples.
+ * and the chain. The stream is that of all samples; the ledger is empty, and all
+ * of it is lent.
  */
 void firmware_begin(struct firmware *firmware, uint32_t control);
 
 /* The descriptor at this place of the chain asks for a packet that lands there. */
 void firmware_build(struct firmware *firmware, size_t place, uint32_t landing);
 
+/* How many descriptors of the chain are done. */
+size_t firmware_done(const struct firmware *firmware);
+
 /* Points the core to the chain and sets RUN. */
 void firmware_start(struct firmware *firmware);
 
-/* Runs a slice. Where the line is up then, reads status and acknowledges. */
+/*
+ * Runs a slice, and keeps what the next one is to be lent. Where the line is up
+ * then, reads status and acknowledges.
+ */
 struct slice firmware_slice(struct firmware *firmware);
+
+/* Lends all of the ledger from now on; the room that is new, in records. */
+size_t firmware_lend_all(struct firmware *firmware);
 
 #endif

@@ -16,6 +16,7 @@ static const char *const REASONS[] = {
     [SGDMA_REASON_NEEDS_INPUT] = "NeedsInput",
     [SGDMA_REASON_OUTPUT_FULL] = "OutputFull",
     [SGDMA_REASON_BUDGET] = "Budget",
+    [SGDMA_REASON_LEDGER_FULL] = "LedgerFull",
 };
 
 static const struct {
@@ -48,7 +49,7 @@ struct found find(const struct core *core, uint32_t address, size_t first)
 
     found.address = address;
     found.d = core_descriptor(core, address);
-    found.done = !(found.d.control & SGDMA_DESC_OWNED_BY_HW);
+    found.done = is_done(&found.d);
     for (size_t i = 0; i < PACKET; i++)
         found.map[i] = sign(core, found.d.destination + (uint32_t)i, first + i);
     while (found.map[found.fresh] == FRESH)
@@ -63,7 +64,9 @@ void show_legend(void)
            "carries its number. A byte where samples land is shown as\n"
            "    %c  the sample of this stream that belongs there\n"
            "    %c  a sample of an old stream: stale\n"
-           "    %c  anything else\n",
+           "    %c  anything else\n"
+           "The ledger has a record of each descriptor written back. The number of records\n"
+           "is handed on from slice to slice; the run in a record is 0 as yet.\n",
            MEMORY, DESCRIPTORS, PACKET, SLICE, FRESH, OLD, STRANGE);
 }
 
@@ -74,14 +77,15 @@ static const char *reason_name(uint32_t reason)
 
 void show_slice_heading(void)
 {
-    printf("    slice  steps  beats  stopped by  line  status read and cleared\n");
+    printf("    slice  steps  beats  records  stopped by  line  "
+           "status read and cleared\n");
 }
 
 void show_slice(size_t number, const struct slice *slice)
 {
-    printf("    %5zu  %5" PRIu32 "  %5" PRIu32 "  %-10s  %-4s", number,
-           slice->ran.steps, slice->ran.taken, reason_name(slice->ran.reason),
-           slice->line ? "up" : "down");
+    printf("    %5zu  %5" PRIu32 "  %5" PRIu32 "  %7" PRIu32 "  %-10s  %-4s",
+           number, slice->ran.steps, slice->ran.taken, slice->ran.used,
+           reason_name(slice->ran.reason), slice->line ? "up" : "down");
     if (slice->line) {
         printf("  0x%02" PRIX32, slice->status);
         for (size_t i = 0; i < sizeof STATUS_BITS / sizeof *STATUS_BITS; i++)
@@ -110,4 +114,28 @@ void show_found(const struct found *found)
         printf("all %u\n", count);
     else
         printf("%zu of %u: STALE\n", found->fresh, count);
+}
+
+static void show_record(size_t number, const struct record *record)
+{
+    unsigned actual = record->actual, errors = record->status;
+
+    printf("    %6zu  %3" PRIu32 "      0x%04" PRIX32 "  %5u    0x%02X  %s\n",
+           number, record->run, record->descriptor, actual, errors,
+           record->eop ? "yes" : "no");
+}
+
+void show_ledger(struct ledger ledger, uint32_t taken)
+{
+    uint32_t bytes = 0;
+
+    printf("    ledger  run  descriptor  bytes  errors  EOP\n");
+    for (size_t i = 0; i < ledger.used; i++) {
+        struct record record = record_at(ledger, i);
+
+        show_record(i + 1, &record);
+        bytes += record.actual;
+    }
+    printf("       sum                   %5" PRIu32 "  of %" PRIu32 " beats taken\n",
+           bytes, taken);
 }

@@ -1,6 +1,7 @@
 /*
- * What is printed of a scene: a row for each slice, and a row for each
- * descriptor with the memory it stands for. All of it fits 80 columns.
+ * What is printed of a scene: a row for each slice, a row for each descriptor
+ * with the memory it stands for, and a row for each record of the ledger. All of
+ * it fits 80 columns.
  */
 #ifndef SHOW_H
 #define SHOW_H
@@ -27,5 +28,8 @@ void show_slice_heading(void);
 void show_slice(size_t number, const struct slice *slice);
 void show_found_heading(void);
 void show_found(const struct found *found);
+
+/* The records used, and the sum of their bytes beside the beats taken. */
+void show_ledger(struct ledger ledger, uint32_t taken);
 
 #endif

@@ -7,11 +7,11 @@
 //! does counts little. Nothing is judged here: the ratios are printed, beside
 //! what is aimed at.
 
-use harness::call::{libraries, Call, Lent, Party};
+use harness::call::{libraries, Call, Lent, Party, Told};
 use harness::firmware::{stream, Firmware};
 use harness::model::{
-    control, descriptor_control, offset, Descriptor, Paper, DESCRIPTOR_SIZE, REPORT_SIZE,
-    VALUE_SIZE,
+    control, descriptor_control, offset, Descriptor, Paper, Reason, DESCRIPTOR_SIZE, RECORD_SIZE,
+    REPORT_SIZE, VALUE_SIZE,
 };
 use std::process::ExitCode;
 use std::time::{Duration, Instant};
@@ -121,15 +121,25 @@ fn no_mark(_number: usize) -> u16 {
     0
 }
 
+/// What a run is lent beside its window: beats, and room for so many beats and
+/// records.
+struct Lending<'beats> {
+    beats: &'beats [u16],
+    room: usize,
+    records: usize,
+}
+
 /// The run of a core that has been pointed at its first descriptor.
-fn run(mut core: Firmware, first: u32, control: u32, beats: &[u16], room: usize) -> Call {
+fn run(mut core: Firmware, first: u32, control: u32, lending: Lending) -> Call {
     core.write(offset::NEXT_DESCRIPTOR_POINTER, first);
     core.write(offset::CONTROL, control);
     Call::Run {
         image: Lent::from(core.image.as_slice()),
         window: Lent::from(core.memory.as_slice()),
-        beats: Lent::from(stream(beats)),
-        out: Lent::zeros(2 * room),
+        beats: Lent::from(stream(lending.beats)),
+        out: Lent::zeros(2 * lending.room),
+        ledger: Lent::zeros(RECORD_SIZE * lending.records),
+        used: 0,
         budget: u32::MAX,
         report: Lent::zeros(REPORT_SIZE),
     }
@@ -147,7 +157,12 @@ fn one(mode: u32, fields: Descriptor, beats: &[u16], room: usize) -> Call {
             ..fields
         },
     );
-    run(core, place, control::RUN, beats, room)
+    let lending = Lending {
+        beats,
+        room,
+        records: 1,
+    };
+    run(core, place, control::RUN, lending)
 }
 
 /// Stream to memory by one descriptor of 65,535 bytes. They run over the
@@ -174,13 +189,15 @@ fn from_memory(mode: u32, desc_control: u8, destination: u32) -> Call {
     one(mode, fields, &[], 30_000)
 }
 
+const CHAIN: u32 = 1_000;
+
 /// Stream to memory by 1,000 descriptors of 32 bytes.
 fn chain(mark: impl Fn(usize) -> u16) -> Call {
     let mut core = Firmware::new(&Paper, 2, BASE, WINDOW);
     let size = DESCRIPTOR_SIZE as u32;
-    for number in 0..1_000 {
+    for number in 0..CHAIN {
         let fields = Descriptor {
-            destination: BASE + 1_001 * size + 32 * number,
+            destination: BASE + (CHAIN + 1) * size + 32 * number,
             next: BASE + size * (number + 1),
             length: 32,
             control: OWNED,
@@ -188,8 +205,15 @@ fn chain(mark: impl Fn(usize) -> u16) -> Call {
         };
         core.build(BASE + size * number, &fields);
     }
-    run(core, BASE, control::RUN, &samples(32_000, mark), 0)
+    let lending = Lending {
+        beats: &samples(32 * CHAIN as usize, mark),
+        room: 0,
+        records: CHAIN as usize,
+    };
+    run(core, BASE, control::RUN, lending)
 }
+
+const ENDLESS_LENGTH: u16 = 200;
 
 /// Stream to memory by one descriptor of 200 bytes that is parked and leads to
 /// itself, in a window of this length.
@@ -198,13 +222,17 @@ fn endless(window: usize, beats: usize) -> Call {
     let fields = Descriptor {
         destination: BASE + DESCRIPTOR_SIZE as u32,
         next: BASE,
-        length: 200,
+        length: ENDLESS_LENGTH,
         control: OWNED,
         ..Descriptor::default()
     };
     core.build(BASE, &fields);
-    let control = control::RUN | control::PARK;
-    run(core, BASE, control, &samples(beats, no_mark), 0)
+    let lending = Lending {
+        beats: &samples(beats, no_mark),
+        room: 0,
+        records: beats / usize::from(ENDLESS_LENGTH),
+    };
+    run(core, BASE, control::RUN | control::PARK, lending)
 }
 
 #[rustfmt::skip]
@@ -240,7 +268,10 @@ fn agreed_steps(both: Both, name: &str, call: &Call) -> u32 {
     let Call::Run { report, .. } = library else {
         return 0;
     };
-    u32::from_be_bytes([report[2], report[3], report[4], report[5]])
+    let told = Told::of(&report);
+    let full = Reason::LedgerFull as u16;
+    assert_ne!(told.reason, full, "{name}: too few records lent");
+    told.steps
 }
 
 fn millions(steps: u32, seconds: f64) -> f64 {
@@ -288,6 +319,8 @@ fn calls() -> [(&'static str, Call); 3] {
         window: Lent::from(core.memory.as_slice()),
         beats: Lent::from(stream(&[0; 4])),
         out: Lent::zeros(0),
+        ledger: Lent::zeros(0),
+        used: 0,
         budget: 0,
         report: Lent::zeros(REPORT_SIZE),
     };

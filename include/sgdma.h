@@ -8,7 +8,7 @@
  *   sgdma_create              a fresh core, for one mode and one window of memory
  *   sgdma_build_descriptor    a chain of descriptors in that memory
  *   sgdma_write_register      the pointer to the chain, then control with RUN
- *   sgdma_run                 so many steps over the memory and the streams
+ *   sgdma_run                 so many steps over memory, streams and ledger
  *   sgdma_line                whether the interrupt line is up
  *   sgdma_read_register       what has happened
  *   sgdma_read_descriptor     what was done with each descriptor
@@ -19,22 +19,29 @@
  *
  * For every call
  *
- *   Bytes are lent for the time of the call, as a pointer and a length. Three
+ *   Bytes are lent for the time of the call, as a pointer and a length. Four
  *   things no call can see, and the caller answers for them:
  *     - the length is the true one: so many bytes can be read there and, where
  *       the pointer is not const, written;
  *     - NULL is lent with length 0 only;
- *     - the slices lent to one call do not overlap.
+ *     - the slices lent to one call do not overlap;
+ *     - until the call returns, nobody else touches the lent bytes: no other
+ *       call, no thread, no interrupt handler, no device.
  *   All else is looked at. Whatever the numbers and the lent bytes are, the
  *   call returns, and this file says what it answers.
+ *
+ *   Calls on different bytes may run at once, since the library keeps nothing
+ *   between calls: two cores with an image, a window, streams and a ledger each
+ *   may be run by two threads, or one of them by an interrupt handler.
  *
  *   A call returns SGDMA_DONE, or the number of its refusal: the first that
  *   applies in the order in which the call lists them. A refused call has
  *   changed no lent byte.
  *
  *   Numbers in lent bytes have the most significant byte first, in the image,
- *   the report, the value, the descriptor answer and the beats. Descriptors in
- *   the window are little-endian, as the core has them.
+ *   the report, the value, the descriptor answer, the beats and the records of
+ *   the ledger. Descriptors in the window are little-endian, as the core has
+ *   them.
  */
 #ifndef SGDMA_H
 #define SGDMA_H
@@ -52,7 +59,7 @@ extern "C" {
  */
 #define SGDMA_IMAGE_SIZE              44
 #define SGDMA_VALUE_SIZE              4
-#define SGDMA_REPORT_SIZE             14
+#define SGDMA_REPORT_SIZE             18
 #define SGDMA_DESCRIPTOR_ANSWER_SIZE  18
 
 /*
@@ -161,14 +168,16 @@ extern "C" {
  *              Errors of the beats are gathered; a byte with an error is moved
  *              and counted. When bytes_to_transfer bytes are moved, or a beat
  *              taken had EOP: go to WriteBack. RUN is not looked at.
- *   WriteBack  The last four bytes of the descriptor are written: the number of
- *              bytes moved, the errors, and desc_control as it was read, with
- *              OWNED_BY_HW cleared unless PARK is 1. DESCRIPTOR_COMPLETED is
- *              set; EOP_ENCOUNTERED if the last beat had EOP; ERROR if there
- *              were errors. The descriptor is counted; a count that reaches
- *              MAX_DESC_PROCESSED begins again at 0, and where that is 0 it
- *              stays 0. Then RUN 0: BUSY becomes 0, go to Rest; errors under
- *              STOP_DMA_ER: BUSY becomes 0, go to Halted; else go to Fetch.
+ *   WriteBack  No room in the ledger: no step, whatever RUN is. Else a record is
+ *              appended to it, and the last four bytes of the descriptor are
+ *              written: the number of bytes moved, the errors, and desc_control
+ *              as it was read, with OWNED_BY_HW cleared unless PARK is 1.
+ *              DESCRIPTOR_COMPLETED is set; EOP_ENCOUNTERED if the last beat
+ *              had EOP; ERROR if there were errors. The descriptor is counted;
+ *              a count that reaches MAX_DESC_PROCESSED begins again at 0, and
+ *              where that is 0 it stays 0. Then RUN 0: BUSY becomes 0, go to
+ *              Rest; errors under STOP_DMA_ER: BUSY becomes 0, go to Halted;
+ *              else go to Fetch.
  *   Ended      No step, until control is written with RUN 0.
  *   Halted     No step, until control is written with RUN 0.
  *   Faulted    No step, until a reset.
@@ -198,12 +207,48 @@ extern "C" {
  */
 
 /*
- * The report of a run, 14 bytes: where each number stands.
+ * The ledger
+ *
+ * What the core has done, in the order in which it did it: each WriteBack leaves
+ * a record of 12 bytes, which tells the descriptor and what was written there.
+ * That is so in every mode, and under PARK: a descriptor that is written back
+ * again has another record each time. The ledger is a lent slice of whole
+ * records. It belongs to the caller and is no part of the core; what stands in
+ * its bytes before is never looked at.
+ *
+ * The caller keeps the number of records used, 0 at first. Each run is told it,
+ * appends its records behind those used and reports the new number, which is
+ * handed on to the next run:
+ *
+ *   sgdma_run(.., ledger, ledger_len, used, budget, report, ..);
+ *   used = the 32 bits of the report at SGDMA_REPORT_USED_AT;
+ *
+ * The records used before are unchanged, and so are the bytes past the last.
+ *
+ * A WriteBack that finds no room is not made: the run stops before it, with
+ * SGDMA_REASON_LEDGER_FULL, and the descriptor is still owned. So no descriptor
+ * is marked done without a record of it. Nothing is lost by that, and the core
+ * goes on in the next run that is lent room: a longer ledger that begins with
+ * the same records, or the same one with used 0, once its records are kept
+ * elsewhere. NULL with length 0 is a ledger without room; the largest number,
+ * 4,294,967,295 used, has no room behind it either, however long the ledger is.
+ */
+#define SGDMA_RECORD_SIZE           12
+#define SGDMA_RECORD_RUN_AT         0  /* 32 bits: run number; 0 in this edition of the image */
+#define SGDMA_RECORD_DESCRIPTOR_AT  4  /* 32 bits: the bus address of the descriptor */
+#define SGDMA_RECORD_ACTUAL_AT      8  /* 16 bits: as in actual_bytes_transferred */
+#define SGDMA_RECORD_STATUS_AT      10 /* 8 bits: as in desc_status, errors of its beats */
+#define SGDMA_RECORD_FLAGS_AT       11 /* 8 bits: EOP, and seven that are 0 */
+#define SGDMA_RECORD_EOP            SGDMA_BIT(0) /* a beat with EOP ended it; modes 0 and 1: 0 */
+
+/*
+ * The report of a run, 18 bytes: where each number stands.
  */
 #define SGDMA_REPORT_REASON_AT  0  /* 16 bits */
 #define SGDMA_REPORT_STEPS_AT   2  /* 32 bits: the steps taken, at most the budget */
 #define SGDMA_REPORT_TAKEN_AT   6  /* 32 bits: the input beats taken */
 #define SGDMA_REPORT_MADE_AT    10 /* 32 bits: the output beats made */
+#define SGDMA_REPORT_USED_AT    14 /* 32 bits: the records of the ledger used now */
 
 /* Why a run stopped. */
 #define SGDMA_REASON_REST         0 /* RUN is 0 */
@@ -213,6 +258,7 @@ extern "C" {
 #define SGDMA_REASON_NEEDS_INPUT  4 /* mode 2, in Move: all beats lent are taken */
 #define SGDMA_REASON_OUTPUT_FULL  5 /* mode 1, in Move: no room for a beat */
 #define SGDMA_REASON_BUDGET       6 /* the budget is spent, and another step was possible */
+#define SGDMA_REASON_LEDGER_FULL  7 /* in WriteBack: no room for a record */
 
 /*
  * The answer of sgdma_read_descriptor, 18 bytes: where each field stands.
@@ -271,15 +317,16 @@ extern "C" {
 
 /* What a call returns. */
 #define SGDMA_DONE          UINT32_C(0)
-#define SGDMA_NO_REGISTER   UINT32_C(1) /* offset is not 0, 4 or 8 */
-#define SGDMA_BAD_MODE      UINT32_C(2) /* mode is above 2 */
-#define SGDMA_BAD_WINDOW    UINT32_C(3) /* base or length break the limits of a window */
-#define SGDMA_OTHER_WINDOW  UINT32_C(4) /* the lent window has not the length of the core's */
-#define SGDMA_MISALIGNED    UINT32_C(5) /* the descriptor's address is not a multiple of 4 */
-#define SGDMA_OUTSIDE       UINT32_C(6) /* its 32 bytes are not in the window */
-#define SGDMA_BAD_SIZE      UINT32_C(7) /* an image, value, report or answer of wrong size */
-#define SGDMA_BAD_IMAGE     UINT32_C(8) /* the image breaks a rule of images */
-#define SGDMA_ODD_STREAM    UINT32_C(9) /* an odd number of beat bytes, in or out */
+#define SGDMA_NO_REGISTER   UINT32_C(1)  /* offset is not 0, 4 or 8 */
+#define SGDMA_BAD_MODE      UINT32_C(2)  /* mode is above 2 */
+#define SGDMA_BAD_WINDOW    UINT32_C(3)  /* base or length break the limits of a window */
+#define SGDMA_OTHER_WINDOW  UINT32_C(4)  /* the lent window has not the length of the core's */
+#define SGDMA_MISALIGNED    UINT32_C(5)  /* the descriptor's address is not a multiple of 4 */
+#define SGDMA_OUTSIDE       UINT32_C(6)  /* its 32 bytes are not in the window */
+#define SGDMA_BAD_SIZE      UINT32_C(7)  /* an image, value, report or answer of wrong size */
+#define SGDMA_BAD_IMAGE     UINT32_C(8)  /* the image breaks a rule of images */
+#define SGDMA_ODD_STREAM    UINT32_C(9)  /* an odd number of beat bytes, in or out */
+#define SGDMA_BAD_LEDGER    UINT32_C(19) /* part of a record, or fewer records than are used */
 
 /*
  * Makes a fresh core: every register 0, nothing pending, phase Rest.
@@ -351,22 +398,27 @@ uint32_t sgdma_line(const uint8_t *image, size_t image_len,
  *          window: the bytes moved, and the last four bytes of each descriptor
  *          written back
  *          out: the beats made (in mode 1); what lies past them is unchanged
- *          report: reason, steps, beats taken, beats made
- * Returns  SGDMA_BAD_SIZE      image_len is not 44 or report_len not 14
+ *          ledger: a record for each descriptor written back, behind the `used`
+ *          first ones; what lies before and past them is unchanged
+ *          report: reason, steps, beats taken, beats made, records now used
+ * Returns  SGDMA_BAD_SIZE      image_len is not 44 or report_len not 18
  *          SGDMA_BAD_IMAGE
  *          SGDMA_ODD_STREAM    beats_len or out_len is odd, in any mode
+ *          SGDMA_BAD_LEDGER    ledger_len is not a multiple of 12, or is less
+ *                              than 12 times used, in any mode and phase
  *          SGDMA_OTHER_WINDOW  window_len is not the length given to create
  *          SGDMA_DONE
  *
  * The next run is lent what this one left: the beats from the taken ones on,
- * the room behind those made. So two runs, with budgets a and b, do what one of
- * a + b does. With budget 0 no step is taken, and the reason tells how the core
- * stands.
+ * the room behind those made, the ledger with the number of records now used.
+ * So two runs, with budgets a and b, do what one of a + b does. With budget 0
+ * no step is taken, and the reason tells how the core stands.
  */
 uint32_t sgdma_run(uint8_t *image, size_t image_len,
                    uint8_t *window, size_t window_len,
                    const uint8_t *beats, size_t beats_len,
                    uint8_t *out, size_t out_len,
+                   uint8_t *ledger, size_t ledger_len, uint32_t used,
                    uint32_t budget,
                    uint8_t *report, size_t report_len);
 

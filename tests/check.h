@@ -26,6 +26,8 @@ void test_named_runs(void);
 void test_registers(void);
 void test_interrupts(void);
 void test_layouts(void);
+void test_ledger(void);
+void test_largest_ledger(void);
 void test_refusals(void);
 
 #endif

@@ -13,7 +13,8 @@ typedef uint32_t write_register_call(uint8_t *, size_t, uint32_t, uint32_t);
 typedef uint32_t line_call(const uint8_t *, size_t, uint8_t *, size_t);
 typedef uint32_t run_call(uint8_t *, size_t, uint8_t *, size_t,
                           const uint8_t *, size_t, uint8_t *, size_t,
-                          uint32_t, uint8_t *, size_t);
+                          uint8_t *, size_t, uint32_t, uint32_t,
+                          uint8_t *, size_t);
 typedef uint32_t build_descriptor_call(uint8_t *, size_t, uint64_t, uint32_t,
                                        uint32_t, uint32_t, uint32_t, uint16_t,
                                        uint8_t);
@@ -34,7 +35,8 @@ int main(void)
            read_register(NULL, 0, 0, NULL, 0) == SGDMA_BAD_SIZE &&
            write_register(NULL, 0, 0, 0) == SGDMA_BAD_SIZE &&
            line(NULL, 0, NULL, 0) == SGDMA_BAD_SIZE &&
-           run(NULL, 0, NULL, 0, NULL, 0, NULL, 0, 0, NULL, 0) == SGDMA_BAD_SIZE &&
+           run(NULL, 0, NULL, 0, NULL, 0, NULL, 0, NULL, 0, 0, 0, NULL, 0) ==
+               SGDMA_BAD_SIZE &&
            build_descriptor(NULL, 0, 0, 0, 0, 0, 0, 0, 0) == SGDMA_OUTSIDE &&
            read_descriptor(NULL, 0, 0, 0, NULL, 0) == SGDMA_BAD_SIZE ? 0 : 1;
 }

@@ -10,6 +10,8 @@ int main(void)
     test_registers();
     test_interrupts();
     test_layouts();
+    test_ledger();
+    test_largest_ledger();
     test_refusals();
     return check_figures();
 }

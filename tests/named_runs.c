@@ -18,7 +18,8 @@
 
 /* One beat fills D. */
 #define FILL_ONE   FILL, .d.length = 1, .beat_count = 1
-#define FILLED_ONE FILLED, .ran.steps = 5, .ran.taken = 1
+#define FILLED_ONE                                                             \
+    FILLED, .ran.steps = 5, .ran.taken = 1, .records = {RECORD_OF_D(1, 0, 0)}
 
 /* The four bytes AA BB CC DD go from 4200 to 4224, or to the output. */
 #define COPY                                                                   \
@@ -32,8 +33,8 @@
 
 /* D is as it was built, and nothing has landed. */
 #define NOT_DONE                                                               \
-    RUN_1, .ran.taken = 0, .status = 0, .last_four = {0, 0, 0, OWNED},         \
-    .landed = {0}
+    RUN_1, .ran.taken = 0, .ran.used = 0, .status = 0,                         \
+    .last_four = {0, 0, 0, OWNED}, .landed = {0}
 #define FAULTED NOT_DONE, .ran.reason = SGDMA_REASON_FAULTED
 
 ROWS_BEGIN
@@ -47,11 +48,12 @@ static const struct row REASONS[] = {
       .beats = {UINT32_C(5) << SGDMA_INPUT_ERROR_SHIFT, 2, 3, 4}},
      {FILLED, .ran.reason = SGDMA_REASON_HALTED, .ran.steps = 7,
       .status = COMPLETED | SGDMA_STATUS_ERROR, .last_four = {4, 0, 5, 0},
-      .landed = {0, 2, 3, 4}}},
+      .landed = {0, 2, 3, 4}, .records = {RECORD_OF_D(4, 5, 0)}}},
     {"no halt: an error beat without STOP_DMA_ER",
      {FILL, .beats = {UINT32_C(5) << SGDMA_INPUT_ERROR_SHIFT, 2, 3, 4}},
      {FILLED, .status = COMPLETED | SGDMA_STATUS_ERROR | AT_END,
-      .last_four = {4, 0, 5, 0}, .landed = {0, 2, 3, 4}}},
+      .last_four = {4, 0, 5, 0}, .landed = {0, 2, 3, 4},
+      .records = {RECORD_OF_D(4, 5, 0)}}},
     {"NeedsInput: no beat",
      {FILL, .beat_count = 0},
      {NOT_DONE, .ran.reason = SGDMA_REASON_NEEDS_INPUT, .ran.steps = 2,
@@ -144,11 +146,12 @@ static const struct row BEATS[] = {
      {FILL_ONE, .beats = {SGDMA_INPUT_ERROR_MASK}},
      {FILLED_ONE, .status = COMPLETED | SGDMA_STATUS_ERROR | AT_END,
       .last_four = {1, 0, SGDMA_INPUT_ERROR_MASK >> SGDMA_INPUT_ERROR_SHIFT, 0},
-      .landed = {0}}},
+      .landed = {0}, .records = {RECORD_OF_D(1, 0x7F, 0)}}},
     {"EOP of an input beat, length 0",
      {FILL_ONE, .d.length = 0, .beats = {SGDMA_INPUT_EOP}},
      {FILLED_ONE, .status = COMPLETED | SGDMA_STATUS_EOP_ENCOUNTERED | AT_END,
-      .last_four = {1, 0, 0, 0}, .landed = {0}}},
+      .last_four = {1, 0, 0, 0}, .landed = {0},
+      .records = {RECORD_OF_D(1, 0, 1)}}},
 };
 ROWS_END
 

@@ -15,10 +15,11 @@ struct lent {
     uint8_t window[LENGTH];
     uint8_t beats[8];
     uint8_t out[8];
+    uint8_t ledger[3 * SGDMA_RECORD_SIZE];
     uint8_t answer[SGDMA_DESCRIPTOR_ANSWER_SIZE + 2]; /* or value, or report */
-    size_t image_len, window_len, beats_len, out_len, answer_len;
+    size_t image_len, window_len, beats_len, out_len, ledger_len, answer_len;
     uint64_t base;
-    uint32_t mode, offset, address;
+    uint32_t mode, offset, address, used;
 };
 
 static uint32_t create(struct lent *l)
@@ -45,7 +46,8 @@ static uint32_t line(struct lent *l)
 static uint32_t run(struct lent *l)
 {
     return sgdma_run(l->image, l->image_len, l->window, l->window_len, l->beats,
-                     l->beats_len, l->out, l->out_len, 9, l->answer, l->answer_len);
+                     l->beats_len, l->out, l->out_len, l->ledger, l->ledger_len,
+                     l->used, 9, l->answer, l->answer_len);
 }
 
 static uint32_t build_descriptor(struct lent *l)
@@ -68,6 +70,9 @@ static void long_answer(struct lent *l) { l->answer_len += 2; }
 static void bad_image(struct lent *l) { l->image[0] ^= 0x10; }
 static void odd_beats(struct lent *l) { l->beats_len -= 1; }
 static void odd_out(struct lent *l) { l->out_len -= 1; }
+static void part_of_a_record(struct lent *l) { l->ledger_len -= 1; }
+static void one_record_short(struct lent *l) { l->used = 4; }
+static void most_used(struct lent *l) { l->used = UINT32_MAX; }
 static void bad_mode(struct lent *l) { l->mode += 1; }
 static void bad_base(struct lent *l) { l->base += UINT64_C(1) << 32; }
 static void other_window(struct lent *l) { l->window_len -= 1; }
@@ -85,7 +90,7 @@ static const struct call {
     const char *name;
     uint32_t (*make)(struct lent *);
     size_t answer_len;
-    struct error errors[9]; /* the last is none */
+    struct error errors[12]; /* the last is none */
 } CALLS[] = {
     {"sgdma_create", create, 0,
      {{short_image, SGDMA_BAD_SIZE}, {long_image, SGDMA_BAD_SIZE},
@@ -105,7 +110,9 @@ static const struct call {
      {{short_image, SGDMA_BAD_SIZE}, {long_image, SGDMA_BAD_SIZE},
       {short_answer, SGDMA_BAD_SIZE}, {long_answer, SGDMA_BAD_SIZE},
       {bad_image, SGDMA_BAD_IMAGE}, {odd_beats, SGDMA_ODD_STREAM},
-      {odd_out, SGDMA_ODD_STREAM}, {other_window, SGDMA_OTHER_WINDOW}}},
+      {odd_out, SGDMA_ODD_STREAM}, {part_of_a_record, SGDMA_BAD_LEDGER},
+      {one_record_short, SGDMA_BAD_LEDGER}, {most_used, SGDMA_BAD_LEDGER},
+      {other_window, SGDMA_OTHER_WINDOW}}},
     {"sgdma_build_descriptor", build_descriptor, 0,
      {{bad_base, SGDMA_BAD_WINDOW}, {misaligned, SGDMA_MISALIGNED},
       {outside, SGDMA_OUTSIDE}}},
@@ -115,24 +122,39 @@ static const struct call {
       {outside, SGDMA_OUTSIDE}}},
 };
 
-/* A call with no error, over a core that has steps to take. */
+/* A core that has steps to take, up to the write-back of a descriptor. */
+static void start(struct lent *l)
+{
+    check("create", create(l), SGDMA_DONE);
+    check("build", sgdma_build_descriptor(l->window, l->window_len, BASE, BASE, 0,
+                                          BASE + 64, BASE + 32, 4,
+                                          SGDMA_DESC_OWNED_BY_HW), SGDMA_DONE);
+    check("write", sgdma_write_register(l->image, l->image_len,
+                                        SGDMA_REGISTER_NEXT_DESCRIPTOR_POINTER,
+                                        BASE), SGDMA_DONE);
+    check("write", sgdma_write_register(l->image, l->image_len,
+                                        SGDMA_REGISTER_CONTROL,
+                                        SGDMA_CONTROL_RUN), SGDMA_DONE);
+}
+
+/* A call with no error. */
 static void prepare(struct lent *l, size_t answer_len)
 {
     memset(l, 0, sizeof *l);
+    memset(l->ledger, 0xEE, sizeof l->ledger);
     memset(l->answer, 0xEE, sizeof l->answer);
     l->image_len = SGDMA_IMAGE_SIZE;
     l->window_len = sizeof l->window;
     l->beats_len = sizeof l->beats;
     l->out_len = sizeof l->out;
+    l->ledger_len = sizeof l->ledger;
     l->answer_len = answer_len;
     l->base = BASE;
     l->mode = SGDMA_MODE_STREAM_TO_MEMORY;
     l->offset = SGDMA_REGISTER_CONTROL;
     l->address = BASE;
-    check("create", create(l), SGDMA_DONE);
-    check("write", sgdma_write_register(l->image, l->image_len,
-                                        SGDMA_REGISTER_CONTROL,
-                                        SGDMA_CONTROL_RUN), SGDMA_DONE);
+    l->used = 1;
+    start(l);
 }
 
 /* Makes those errors whose bits are set; the refusal that must be returned. */
@@ -176,9 +198,12 @@ static void check_null(void)
           SGDMA_OUTSIDE);
     check("answer", sgdma_read_descriptor(NULL, 0, 0, 0, NULL, 0), SGDMA_BAD_SIZE);
     check("no window", sgdma_create(image, sizeof image, 0, 0, 0), SGDMA_DONE);
-    check("window and streams", sgdma_run(image, sizeof image, NULL, 0, NULL, 0,
-                                          NULL, 0, 9, report, sizeof report),
-          SGDMA_DONE);
+    check("window, streams and ledger",
+          sgdma_run(image, sizeof image, NULL, 0, NULL, 0, NULL, 0, NULL, 0, 0, 9,
+                    report, sizeof report), SGDMA_DONE);
+    check("a ledger without the record that is used",
+          sgdma_run(image, sizeof image, NULL, 0, NULL, 0, NULL, 0, NULL, 0, 1, 9,
+                    report, sizeof report), SGDMA_BAD_LEDGER);
 }
 
 void test_refusals(void)

@@ -4,8 +4,6 @@
 
 #include "check.h"
 
-enum { UNMADE = 0xEE }; /* output before a run: what is not made stays so */
-
 static bool in_window(uint32_t address)
 {
     return address >= ROW_BASE && address < ROW_BASE + ROW_LENGTH;
@@ -63,6 +61,7 @@ static void check_report(struct ran ran, struct ran wanted)
     check("steps", ran.steps, wanted.steps);
     check("beats taken", ran.taken, wanted.taken);
     check("beats made", ran.made, wanted.made);
+    check("records used", ran.used, wanted.used);
 }
 
 static void check_made(struct stream out, const struct must *must)
@@ -72,24 +71,80 @@ static void check_made(struct stream out, const struct must *must)
               i < must->ran.made ? must->made[i] : UNMADE << 8 | UNMADE);
 }
 
+/* The records used, and past them the bytes as they were. */
+static void check_ledger(const uint8_t *records, const struct must *must)
+{
+    uint8_t wanted[sizeof must->records];
+
+    memset(wanted, UNMADE, sizeof wanted);
+    memcpy(wanted, must->records, SGDMA_RECORD_SIZE * must->ran.used);
+    check_bytes("ledger", records, wanted, sizeof wanted);
+}
+
+void set_up(struct setup *setup, const struct given *given)
+{
+    prepare(&setup->core, setup->memory, given);
+    setup->in = (struct stream){setup->beats, given->beat_count};
+    for (size_t i = 0; i < given->beat_count; i++)
+        put_beat(setup->in, i, given->beats[i]);
+    memset(setup->made, UNMADE, sizeof setup->made);
+    setup->out = (struct stream){setup->made, given->room};
+    memset(setup->records, UNMADE, sizeof setup->records);
+    setup->ledger = (struct ledger){setup->records, ROW_RECORDS, 0};
+}
+
+struct ran run_on(struct setup *setup, uint32_t budget)
+{
+    struct ran ran = core_run(&setup->core, setup->in, setup->out, setup->ledger,
+                              budget);
+
+    setup->in = stream_from(setup->in, ran.taken);
+    setup->out = stream_from(setup->out, ran.made);
+    setup->ledger.used = ran.used;
+    return ran;
+}
+
+/* Lends a record where the run stops for one, and so once for each that it uses. */
+static struct ran run_record_by_record(struct setup *setup, uint32_t budget)
+{
+    struct ran ran, all = {0};
+
+    setup->ledger.room = 0;
+    for (;;) {
+        ran = run_on(setup, budget - all.steps);
+        all.steps += ran.steps;
+        all.taken += ran.taken;
+        all.made += ran.made;
+        if (ran.reason != SGDMA_REASON_LEDGER_FULL || setup->ledger.room == ROW_RECORDS)
+            break;
+        setup->ledger.room++;
+    }
+    check("stops for want of room", setup->ledger.room, ran.used);
+    all.reason = ran.reason;
+    all.used = ran.used;
+    return all;
+}
+
+static void check_run(const struct row *row,
+                      struct ran (*run)(struct setup *, uint32_t budget))
+{
+    uint8_t before[ROW_LENGTH];
+    struct setup setup;
+
+    set_up(&setup, &row->given);
+    memcpy(before, setup.memory, sizeof before);
+    check_report(run(&setup, row->given.budget), row->must.ran);
+    check_registers(&setup.core, row);
+    check_memory(&setup.core, before, row);
+    check_made((struct stream){setup.made, row->given.room}, &row->must);
+    check_ledger(setup.records, &row->must);
+}
+
 void check_row(const struct row *row)
 {
-    uint8_t memory[ROW_LENGTH], before[ROW_LENGTH];
-    uint8_t in_bytes[sizeof row->given.beats], out_bytes[sizeof row->must.made];
-    struct stream in = {in_bytes, row->given.beat_count};
-    struct stream out = {out_bytes, row->given.room};
-    struct core core;
-
     check_case(row->name);
-    prepare(&core, memory, &row->given);
-    for (size_t i = 0; i < in.beats; i++)
-        put_beat(in, i, row->given.beats[i]);
-    memset(out_bytes, UNMADE, sizeof out_bytes);
-    memcpy(before, memory, sizeof before);
-    check_report(core_run(&core, in, out, row->given.budget), row->must.ran);
-    check_registers(&core, row);
-    check_memory(&core, before, row);
-    check_made(out, &row->must);
+    check_run(row, run_on);
+    check_run(row, run_record_by_record);
 }
 
 void run_one(struct core *core, uint8_t memory[ROW_LENGTH], struct one one)
@@ -101,10 +156,11 @@ void run_one(struct core *core, uint8_t memory[ROW_LENGTH], struct one one)
         .pointer = ROW_D,
         .control = one.control,
     };
-    uint8_t beat[SGDMA_BEAT_SIZE];
+    uint8_t beat[SGDMA_BEAT_SIZE], record[SGDMA_RECORD_SIZE];
     struct stream in = {beat, 1};
+    struct ledger ledger = {record, 1, 0};
 
     prepare(core, memory, &given);
     put_beat(in, 0, one.beat);
-    core_run(core, in, none, one.budget);
+    core_run(core, in, none, ledger, one.budget);
 }

@@ -15,7 +15,14 @@
 
 #include "core.h"
 
-enum { ROW_BASE = 4096, ROW_LENGTH = 256, ROW_D = 4096 };
+enum {
+    ROW_BASE = 4096,
+    ROW_LENGTH = 256,
+    ROW_D = 4096,
+    ROW_BEATS = 8,  /* the most that a row gives, */
+    ROW_MADE = 4,   /* has room for, */
+    ROW_RECORDS = 4 /* and the room of its ledger: one more than any row uses */
+};
 
 struct given {
     uint32_t mode;
@@ -24,7 +31,7 @@ struct given {
     uint32_t pointer;
     uint32_t control;
     uint32_t budget;
-    uint32_t beats[8];
+    uint32_t beats[ROW_BEATS];
     size_t beat_count;
     size_t room;
 };
@@ -36,7 +43,8 @@ struct must {
     uint8_t last_four[4]; /* of D */
     struct fault fault;
     uint8_t landed[4]; /* at D's destination, as far as the window reaches */
-    uint32_t made[4];
+    uint32_t made[ROW_MADE];
+    uint8_t records[SGDMA_RECORD_SIZE * ROW_RECORDS]; /* those used, byte for byte */
     bool line;
 };
 
@@ -51,10 +59,14 @@ struct row {
     .d.control = 0x80, .pointer = 4096, .control = 0x20, .budget = 100,        \
     .beats = {0x0011, 0x0022, 0x0033, 0x0044}, .beat_count = 4
 
+/* The bytes of a record: run number 0, address 4096, and the rest as said. */
+#define RECORD_OF_D(actual, errors, eop)                                       \
+    0, 0, 0, 0, 0x00, 0x00, 0x10, 0x00, 0, (actual), (errors), (eop)
+
 #define RUN_1                                                                  \
-    .ran.reason = 1, .ran.steps = 8, .ran.taken = 4, .status = 0x1C,           \
-    .pointer = 4128, .last_four = {4, 0, 0, 0},                                \
-    .landed = {0x11, 0x22, 0x33, 0x44}
+    .ran.reason = 1, .ran.steps = 8, .ran.taken = 4, .ran.used = 1,            \
+    .status = 0x1C, .pointer = 4128, .last_four = {4, 0, 0, 0},                \
+    .landed = {0x11, 0x22, 0x33, 0x44}, .records = {RECORD_OF_D(4, 0, 0)}
 
 /* A row may say again what GIVEN or RUN_1 has said: the later word holds. */
 #define ROWS_BEGIN                                                             \
@@ -62,8 +74,29 @@ struct row {
     _Pragma("GCC diagnostic ignored \"-Woverride-init\"")
 #define ROWS_END _Pragma("GCC diagnostic pop")
 
-/* Makes the run and compares everything that came of it. */
+/*
+ * Makes the run and compares everything that came of it; then once more, with a
+ * ledger that is lent record by record: the end must be the same.
+ */
 void check_row(const struct row *row);
+
+/* A core as it is given, and what its next run is lent. */
+struct setup {
+    struct core core;
+    uint8_t memory[ROW_LENGTH];
+    uint8_t beats[SGDMA_BEAT_SIZE * ROW_BEATS];
+    uint8_t made[SGDMA_BEAT_SIZE * ROW_MADE];
+    uint8_t records[SGDMA_RECORD_SIZE * ROW_RECORDS];
+    struct stream in, out;
+    struct ledger ledger;
+};
+
+enum { UNMADE = 0xEE }; /* output and ledger before a run: the rest stays so */
+
+void set_up(struct setup *setup, const struct given *given);
+
+/* Runs, and keeps what that has left for the next run. */
+struct ran run_on(struct setup *setup, uint32_t budget);
 
 /* A smaller run: D asks for one byte, and one beat is there. */
 struct one {

@@ -15,7 +15,7 @@
 #include "sgdma.h"
 
 /* The most that any one call takes. */
-enum { SLICES = 5, NUMBERS = 7 };
+enum { SLICES = 6, NUMBERS = 7 };
 
 enum function {
     CREATE,
@@ -90,7 +90,8 @@ static uint32_t make_call(uint64_t function, const uint64_t *number, const struc
     case LINE:
         return sgdma_line(SLICE(0), SLICE(1));
     case RUN:
-        return sgdma_run(SLICE(0), SLICE(1), SLICE(2), SLICE(3), number[0], SLICE(4));
+        return sgdma_run(SLICE(0), SLICE(1), SLICE(2), SLICE(3), SLICE(4), number[0], number[1],
+                         SLICE(5));
     case BUILD_DESCRIPTOR:
         return sgdma_build_descriptor(SLICE(0), number[0], number[1], number[2], number[3],
                                       number[4], number[5], number[6]);

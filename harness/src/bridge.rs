@@ -13,7 +13,7 @@ use std::io::{self, BufReader, Read, Write};
 use std::process::{Child, ChildStdout, Command, Stdio};
 
 /// The most that any one call takes, which gives each frame the same head.
-const SLICES: usize = 5;
+const SLICES: usize = 6;
 const NUMBERS: usize = 7;
 
 thread_local! {

@@ -21,8 +21,14 @@ pub struct Lent {
 }
 
 impl Lent {
+    /// Zeros take no memory before they are touched, so that a slice may be lent
+    /// that is longer than the memory.
     pub fn zeros(length: usize) -> Lent {
-        Lent::from(vec![0; length])
+        let end = CANARY.len() + length;
+        let mut guarded = vec![0; end + CANARY.len()];
+        guarded[..CANARY.len()].copy_from_slice(&CANARY);
+        guarded[end..].copy_from_slice(&CANARY);
+        Lent { guarded }
     }
 
     pub fn canaries_live(&self) -> bool {
@@ -105,6 +111,8 @@ pub enum Call {
         window: Lent,
         beats: Lent,
         out: Lent,
+        ledger: Lent,
+        used: u32,
         budget: u32,
         report: Lent,
     },
@@ -124,6 +132,31 @@ pub enum Call {
         address: u32,
         answer: Lent,
     },
+}
+
+/// The numbers of a run's report.
+#[derive(Clone, Copy, Debug, PartialEq, Eq)]
+pub struct Told {
+    pub reason: u16,
+    pub steps: u32,
+    pub taken: u32,
+    pub made: u32,
+    pub used: u32,
+}
+
+impl Told {
+    /// What a report of the size that is due tells.
+    pub fn of(report: &[u8]) -> Told {
+        let (numbers, _) = report[2..].as_chunks();
+        let number = |place: usize| u32::from_be_bytes(numbers[place]);
+        Told {
+            reason: u16::from_be_bytes([report[0], report[1]]),
+            steps: number(0),
+            taken: number(1),
+            made: number(2),
+            used: number(3),
+        }
+    }
 }
 
 /// An argument of a call, whichever it is.
@@ -207,9 +240,10 @@ impl Call {
                 vec![Lent("image", image), Long(offset), Long(value)],
             Call::Line { image, value } =>
                 vec![Lent("image", image), Lent("value", value)],
-            Call::Run { image, window, beats, out, budget, report } =>
+            Call::Run { image, window, beats, out, ledger, used, budget, report } =>
                 vec![Lent("image", image), Lent("window", window), Lent("beats", beats),
-                     Lent("out", out), Long(budget), Lent("report", report)],
+                     Lent("out", out), Lent("ledger", ledger), Long(used), Long(budget),
+                     Lent("report", report)],
             Call::BuildDescriptor {
                 window, base, address, source, destination, next, length, control,
             } =>
@@ -293,8 +327,8 @@ impl<Model: Calls> Party for Model {
                 self.sgdma_write_register(image, *offset, *value),
             Call::Line { image, value } =>
                 self.sgdma_line(image, value),
-            Call::Run { image, window, beats, out, budget, report } =>
-                self.sgdma_run(image, window, beats, out, *budget, report),
+            Call::Run { image, window, beats, out, ledger, used, budget, report } =>
+                self.sgdma_run(image, window, beats, out, ledger, *used, *budget, report),
             Call::BuildDescriptor {
                 window, base, address, source, destination, next, length, control,
             } =>
@@ -349,6 +383,8 @@ mod tests {
             window: Lent::zeros(2),
             beats: Lent::zeros(0),
             out: Lent::from(vec![0, 9]),
+            ledger: Lent::from(vec![8]),
+            used: 3,
             budget: 16,
             report: Lent::from(vec![1, 2]),
         };
@@ -357,8 +393,9 @@ mod tests {
             "    uint8_t window[2] = {0};",
             "    uint8_t *beats = NULL;",
             "    uint8_t out[2] = {[1] = 0x09};",
+            "    uint8_t ledger[1] = {0x08};",
             "    uint8_t report[2] = {0x01, 0x02};",
-            "    sgdma_run(image, 4, window, 2, beats, 0, out, 2, 0x10, report, 2);\n",
+            "    sgdma_run(image, 4, window, 2, beats, 0, out, 2, ledger, 1, 0x3, 0x10, report, 2);\n",
         ];
         assert_eq!(call.to_string(), expected.join("\n"));
     }

@@ -3,9 +3,11 @@
 //! A [`Point`] is one thing that a run of random calls must have done at least
 //! once. [`required`] lists all of them; [`Coverage`] counts them.
 
+mod ledgers;
 mod observe;
 mod refusals;
 
+pub use ledgers::{LedgerFlaw, LedgerUse};
 pub use refusals::{applying, first_applying};
 
 use crate::call::{Call, Function};
@@ -126,6 +128,19 @@ pub enum Point {
         stop: bool,
         errors: bool,
     },
+    /// A record was made under this PARK, of a descriptor with these errors, EOP.
+    Recorded {
+        mode: Mode,
+        park: bool,
+        errors: bool,
+        eop: bool,
+    },
+    /// A run of this mode used its ledger in this way.
+    Ledger(Mode, LedgerUse),
+    /// A run was refused for this flaw of its ledger.
+    NoLedger(LedgerFlaw),
+    /// .. on a machine of this mode in this phase.
+    NoLedgerIn(Mode, Phase),
     /// Data had overwritten the control byte of the descriptor written back.
     WroteBackOverData,
     Counted(AtMax, bool),
@@ -199,6 +214,7 @@ const OFFSETS: [u32; 3] = [
 pub fn required() -> Vec<Point> {
     let lists = [
         refusals::required(),
+        ledgers::required(),
         image_points(),
         run_points(),
         step_points(),

@@ -41,6 +41,9 @@ pub mod c {
             beats_len: usize,
             out: *mut u8,
             out_len: usize,
+            ledger: *mut u8,
+            ledger_len: usize,
+            used: u32,
             budget: u32,
             report: *mut u8,
             report_len: usize,
@@ -100,10 +103,11 @@ pub(crate) fn answer(library: Library, call: &mut Call) -> u32 {
                 c::sgdma_write_register(library.lend_mut(image), image.len(), *offset, *value),
             Call::Line { image, value } =>
                 c::sgdma_line(library.lend(image), image.len(), library.lend_mut(value), value.len()),
-            Call::Run { image, window, beats, out, budget, report } =>
+            Call::Run { image, window, beats, out, ledger, used, budget, report } =>
                 c::sgdma_run(library.lend_mut(image), image.len(),
                              library.lend_mut(window), window.len(),
                              library.lend(beats), beats.len(), library.lend_mut(out), out.len(),
+                             library.lend_mut(ledger), ledger.len(), *used,
                              *budget, library.lend_mut(report), report.len()),
             Call::BuildDescriptor {
                 window, base, address, source, destination, next, length, control,

@@ -1,18 +1,24 @@
 //! A host that makes only good calls, for tests whose figures are known.
 
-use crate::call::{Call, Lent, Party};
+use crate::call::{Call, Lent, Party, Told};
 use crate::compare::ask;
-use crate::model::{Descriptor, DESCRIPTOR_ANSWER_SIZE, IMAGE_SIZE, REPORT_SIZE, VALUE_SIZE};
+use crate::model::{
+    Descriptor, DESCRIPTOR_ANSWER_SIZE, IMAGE_SIZE, RECORD_SIZE, REPORT_SIZE, VALUE_SIZE,
+};
 
-/// What the output is filled with before a run: what is not made stays so.
-const UNMADE: u8 = 0xEE;
+/// What output and ledger are filled with where room is lent: what is not made,
+/// and what is not recorded, stays so.
+const UNWRITTEN: u8 = 0xEE;
 
-/// A core of one party, with its image and its window.
+/// A core of one party, with its image, its window and its ledger.
+#[derive(Clone)]
 pub struct Firmware<'party> {
     party: &'party dyn Party,
     base: u32,
     pub image: Vec<u8>,
     pub memory: Vec<u8>,
+    ledger: Vec<u8>,
+    used: u32,
 }
 
 /// What a run told, with the beats it made.
@@ -22,6 +28,8 @@ pub struct Ran {
     pub steps: u32,
     pub taken: u32,
     pub made: Vec<u16>,
+    /// How many records of the ledger are used now.
+    pub used: u32,
 }
 
 /// Beats as they are lent: two bytes each, the most significant first.
@@ -34,14 +42,34 @@ fn number(bytes: &[u8]) -> u32 {
     bytes.iter().fold(0, append)
 }
 
+fn is_unwritten(bytes: &[u8]) -> bool {
+    bytes.iter().all(|&byte| byte == UNWRITTEN)
+}
+
+/// What a run has told in its report, and the beats it has made.
+fn ran(report: &[u8], out: &[u8]) -> Ran {
+    let told = Told::of(report);
+    let (made, unmade) = out.split_at(2 * told.made as usize);
+    assert!(is_unwritten(unmade), "output past the beats made changed");
+    Ran {
+        reason: told.reason,
+        steps: told.steps,
+        taken: told.taken,
+        made: made.chunks(2).map(|beat| number(beat) as u16).collect(),
+        used: told.used,
+    }
+}
+
 impl<'party> Firmware<'party> {
-    /// A fresh core over a window of zeros.
+    /// A fresh core over a window of zeros, with no room for a record.
     pub fn new(party: &'party dyn Party, mode: u32, base: u32, length: usize) -> Self {
         let mut firmware = Firmware {
             party,
             base,
             image: vec![0xFF; IMAGE_SIZE],
             memory: vec![0; length],
+            ledger: Vec::new(),
+            used: 0,
         };
         let after = firmware.call(Call::Create {
             image: Lent::from(firmware.image.as_slice()),
@@ -128,32 +156,56 @@ impl<'party> Firmware<'party> {
         }
     }
 
-    /// Runs with these beats and room for so many.
+    /// Lends the runs to come room for so many records more.
+    pub fn lend_records(&mut self, more: usize) {
+        let length = self.ledger.len() + more * RECORD_SIZE;
+        self.ledger.resize(length, UNWRITTEN);
+    }
+
+    /// The used records.
+    pub fn records(&self) -> &[[u8; RECORD_SIZE]] {
+        let (records, _) = self.ledger.as_chunks();
+        &records[..self.used as usize]
+    }
+
+    /// Runs with these beats and room for so many. The ledger is handed on from
+    /// run to run, and the number of its used records.
     pub fn run(&mut self, beats: &[u16], room: usize, budget: u32) -> Ran {
         let after = self.call(Call::Run {
             image: Lent::from(self.image.as_slice()),
             window: Lent::from(self.memory.as_slice()),
             beats: Lent::from(stream(beats)),
-            out: Lent::from(vec![UNMADE; 2 * room]),
+            out: Lent::from(vec![UNWRITTEN; 2 * room]),
+            ledger: Lent::from(self.ledger.as_slice()),
+            used: self.used,
             budget,
             report: Lent::zeros(REPORT_SIZE),
         });
         self.keep(&after);
-        let Call::Run { out, report, .. } = after else {
+        let Call::Run {
+            out,
+            ledger,
+            report,
+            ..
+        } = after
+        else {
             unreachable!("a call stays what it is");
         };
-        let made = number(&report[10..14]) as usize;
-        let unmade = &out[2 * made..];
-        assert!(unmade.iter().all(|&byte| byte == UNMADE), "output changed");
-        Ran {
-            reason: number(&report[0..2]) as u16,
-            steps: number(&report[2..6]),
-            taken: number(&report[6..10]),
-            made: out[..2 * made]
-                .chunks(2)
-                .map(|beat| number(beat) as u16)
-                .collect(),
-        }
+        let ran = ran(&report, &out);
+        self.keep_ledger(&ledger, ran.used);
+        ran
+    }
+
+    /// What was recorded before stays, and so do the bytes past the records.
+    fn keep_ledger(&mut self, after: &[u8], used: u32) {
+        let [old, new] = [self.used, used].map(|records| records as usize * RECORD_SIZE);
+        assert_eq!(after[..old], self.ledger[..old], "a record changed");
+        assert!(
+            is_unwritten(&after[new..]),
+            "bytes past the records changed"
+        );
+        self.ledger.copy_from_slice(after);
+        self.used = used;
     }
 
     /// The fault code and address that the image holds.

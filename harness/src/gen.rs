@@ -1,12 +1,14 @@
 //! Random calls that lead to one another.
 //!
-//! A [`Host`] carries an image and a window from call to call, as firmware does,
-//! and starts anew after a while. Its choices lean towards what is easily missed:
-//! the ends of the window, the first and the last byte of a descriptor, one step
-//! at a time, one enable alone, images that differ from a good one in one field.
+//! A [`Host`] carries an image, a window and a ledger from call to call, as
+//! firmware does, and starts anew after a while. Its choices lean towards what is
+//! easily missed: the ends of the window, the first and the last byte of a
+//! descriptor, one step at a time, one enable alone, the last room in the ledger,
+//! images that differ from a good one in one field.
 
 mod images;
 mod layout;
+mod ledgers;
 mod rng;
 
 pub use rng::Rng;
@@ -26,6 +28,8 @@ pub struct Host {
     image: [u8; IMAGE_SIZE],
     memory: Vec<u8>,
     base: u64,
+    ledger: Vec<u8>,
+    used: u32,
     calls_left: u64,
 }
 
@@ -48,6 +52,8 @@ impl Host {
             image: [0; IMAGE_SIZE],
             memory: Vec::new(),
             base: 0,
+            ledger: Vec::new(),
+            used: 0,
             calls_left: 0,
         }
     }
@@ -112,6 +118,7 @@ impl Host {
                 self.memory.copy_from_slice(window);
             }
         }
+        self.carry_ledger(after);
     }
 
     /// The size that is due, or now and then another.
@@ -172,12 +179,15 @@ impl Host {
 
     fn run(&mut self) -> Call {
         let image = self.lent_image();
+        let (ledger, used) = self.lent_ledger();
         Call::Run {
             budget: self.budget(&image),
             image,
             window: self.lent_window(),
             beats: self.beats(),
             out: self.lent_output(),
+            ledger,
+            used,
             report: self.lent_answer(REPORT_SIZE),
         }
     }

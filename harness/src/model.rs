@@ -1,4 +1,5 @@
-//! The core as the scope paper describes it, written from the paper alone.
+//! The core as the scope paper describes it, written from the paper alone, and
+//! the ledger as its request does.
 //!
 //! One step moves one byte and steps are taken one by one. Each sentence of the
 //! paper is one small rule, and the rules are provided methods of a few traits,
@@ -10,6 +11,7 @@
 mod calls;
 mod descriptors;
 mod images;
+mod ledgers;
 mod machine;
 mod registers;
 mod steps;
@@ -18,6 +20,7 @@ mod windows;
 pub use calls::{Calls, Refusal, DESCRIPTOR_ANSWER_SIZE, REPORT_SIZE, VALUE_SIZE};
 pub use descriptors::{descriptor_control, Descriptor, Descriptors, DESCRIPTOR_SIZE};
 pub use images::{Image, ImageRule, Images, IMAGE_SIZE};
+pub use ledgers::{Ledger, Ledgers, Record, RECORD_SIZE};
 pub use machine::{Fault, Kept, Machine, Mode, Phase};
 pub use registers::{control, offset, status, Registers};
 pub use steps::{InputBeat, Ports, Reason, Report, Steps};
@@ -30,6 +33,7 @@ pub struct Paper;
 impl Windows for Paper {}
 impl Registers for Paper {}
 impl Descriptors for Paper {}
+impl Ledgers for Paper {}
 impl Steps for Paper {}
 impl Images for Paper {}
 impl Calls for Paper {}

@@ -1,6 +1,6 @@
-//! Good images to start a test from.
+//! Good images to start a test from, and a record to end it with.
 
-use crate::model::{control, status, Image, Kept, Machine, Mode, Phase, Window};
+use crate::model::{control, status, Image, Kept, Machine, Mode, Phase, Window, RECORD_SIZE};
 
 pub const BASE: u32 = 4096;
 pub const LENGTH: usize = 256;
@@ -37,4 +37,11 @@ pub fn image(mode: Mode, phase: Phase) -> Image {
         image.fault_address = 4324;
     }
     image
+}
+
+/// A record of the descriptor at this address: "run number 32", which is 0,
+/// "descriptor address 32", and then "actual 16, status 8, zero 7, EOP 1".
+pub const fn record(address: u32, [high, low, status, eop]: [u8; 4]) -> [u8; RECORD_SIZE] {
+    let [a, b, c, d] = address.to_be_bytes();
+    [0, 0, 0, 0, a, b, c, d, high, low, status, eop]
 }

@@ -4,6 +4,7 @@
 //! differ, until no edit does.
 
 use crate::call::{Argument, Call, Lent};
+use crate::model::RECORD_SIZE;
 use std::ops::Range;
 
 /// Bounds the work on a case with a large window.
@@ -16,7 +17,7 @@ const WINDOW_LENGTH: Range<usize> = 16..20;
 enum Edit {
     /// So many bytes fewer at the end of the window, also by the word of the image.
     ShortenWindow { by: usize },
-    /// Some bytes fewer in a stream.
+    /// Some beats fewer in a stream, or records in the ledger.
     Cut { place: usize, bytes: Range<usize> },
     /// Zero in the place of some bytes.
     Clear { place: usize, bytes: Range<usize> },
@@ -82,17 +83,30 @@ fn edits(call: &mut Call) -> Vec<Edit> {
     let shorter = halves(window as u64).map(|by| Edit::ShortenWindow { by: by as usize });
     let mut edits: Vec<Edit> = shorter.collect();
     for (place, argument) in call.arguments().iter().enumerate() {
-        if let Argument::Lent("beats" | "out", stream) = argument {
-            let cuts = blocks(stream.len() / 2).map(|beats| beats.start * 2..beats.end * 2);
-            edits.extend(cuts.map(|bytes| Edit::Cut { place, bytes }));
-        }
-        if let Argument::Lent(_, lent) = argument {
+        if let Argument::Lent(name, lent) = argument {
+            if let Some(size) = element_size(name) {
+                edits.extend(cuts(lent.len(), size).map(|bytes| Edit::Cut { place, bytes }));
+            }
             edits.extend(blocks(lent.len()).map(|bytes| Edit::Clear { place, bytes }));
         }
         let lower = halves(argument.number().unwrap_or(0));
         edits.extend(lower.map(|by| Edit::Lower { place, by }));
     }
     edits
+}
+
+/// The bytes of one element of a slice that may have fewer of them.
+fn element_size(name: &str) -> Option<usize> {
+    match name {
+        "beats" | "out" => Some(2),
+        "ledger" => Some(RECORD_SIZE),
+        _ => None,
+    }
+}
+
+/// The blocks of a slice that are of whole elements.
+fn cuts(length: usize, size: usize) -> impl Iterator<Item = Range<usize>> {
+    blocks(length / size).map(move |elements| elements.start * size..elements.end * size)
 }
 
 /// The number, its half, its quarter and so on down to 1: taken away one after
@@ -219,5 +233,30 @@ mod tests {
         };
         assert_eq!(**image, [0, 0, 0, 0, 0, 0xFF, 0, 0]);
         assert_eq!((*offset, *value), (0, 37));
+    }
+
+    /// A ledger that matters for its room behind a used record keeps one of each.
+    #[test]
+    fn records_that_matter_stay() {
+        let matters = |calls: &[Call]| {
+            let [Call::Run { ledger, used, .. }] = calls else {
+                return false;
+            };
+            let records = (ledger.len() / RECORD_SIZE) as u32;
+            (1..records).contains(used)
+        };
+        let run = |ledger: Vec<u8>, used| Call::Run {
+            image: Lent::zeros(0),
+            window: Lent::zeros(0),
+            beats: Lent::zeros(0),
+            out: Lent::zeros(0),
+            ledger: Lent::from(ledger),
+            used,
+            budget: 0,
+            report: Lent::zeros(0),
+        };
+        let long = run(vec![0xFF; 9 * RECORD_SIZE], 7);
+        let short = run(vec![0; 2 * RECORD_SIZE], 1);
+        assert_eq!(shrink(vec![long], &matters), [short]);
     }
 }

@@ -1,11 +1,13 @@
 //! Single steps and register writes, each worked out by hand from one sentence of
-//! the paper, by the model and by the library.
+//! the paper, or of the request for the ledger, by the model and by the library.
 
 use harness::call::{parties, Call, Lent, Party};
 use harness::compare::ask;
 use harness::firmware::stream;
-use harness::model::{offset, Image, Kept, Mode, Phase, Reason, REPORT_SIZE, VALUE_SIZE};
-use harness::samples::{image, BASE, LENGTH};
+use harness::model::{
+    offset, Image, Kept, Mode, Phase, Reason, RECORD_SIZE, REPORT_SIZE, VALUE_SIZE,
+};
+use harness::samples::{image, record, BASE, LENGTH};
 use Mode::{MemoryToMemory as M0, MemoryToStream as M1, StreamToMemory as M2};
 use Phase::{Ended, Faulted, Fetch, Halted, Move, Rest, WriteBack};
 
@@ -28,12 +30,15 @@ struct Step {
     memory: EditMemory,
     beats: &'static [u16],
     room: usize,
+    record_room: usize,
+    budget: u32,
     /// What the step changes.
     image_after: EditImage,
     memory_after: EditMemory,
     /// Reason, steps, beats taken.
     told: (Reason, u32, u32),
     made: &'static [u16],
+    recorded: Option<[u8; RECORD_SIZE]>,
 }
 
 /// A step that finds nothing and changes nothing.
@@ -45,10 +50,13 @@ const STEP: Step = Step {
     memory: |_| (),
     beats: &[],
     room: 0,
+    record_room: 1,
+    budget: 1,
     image_after: |_| (),
     memory_after: |_| (),
     told: (Reason::Budget, 1, 0),
     made: &[],
+    recorded: None,
 };
 
 /// Writes a 32-bit number into a descriptor.
@@ -208,6 +216,7 @@ const WRITTEN: Step = Step {
     phase: WriteBack,
     image_after: |i| leave(i, Fetch, 0x14),
     memory_after: |m| done(m, 0, 0),
+    recorded: Some(record(4096, [0, 4, 0, 0])),
     ..STEP
 };
 
@@ -225,17 +234,19 @@ const WRITE_BACKS: [Step; 16] = [
         ..WRITTEN },
     Step { name: "errors set ERROR and go on without STOP_DMA_ER",
         given: |i| i.kept.errors = 0x7F, image_after: |i| leave(i, Fetch, 0x15),
-        memory_after: |m| done(m, 0x7F, 0), ..WRITTEN },
+        memory_after: |m| done(m, 0x7F, 0), recorded: Some(record(4096, [0, 4, 0x7F, 0])),
+        ..WRITTEN },
     Step { name: "errors with STOP_DMA_ER halt",
         given: |i| { i.kept.errors = 1; i.control |= STOP_DMA_ER },
         image_after: |i| leave(i, Halted, 0x05), memory_after: |m| done(m, 1, 0),
-        told: (Reason::Halted, 1, 0), ..WRITTEN },
+        told: (Reason::Halted, 1, 0), recorded: Some(record(4096, [0, 4, 1, 0])), ..WRITTEN },
     Step { name: "RUN 0 comes before STOP_DMA_ER",
         given: |i| { i.kept.errors = 1; i.control = STOP_DMA_ER },
         image_after: |i| leave(i, Rest, 0x05), memory_after: |m| done(m, 1, 0),
-        told: (Reason::Rest, 1, 0), ..WRITTEN },
+        told: (Reason::Rest, 1, 0), recorded: Some(record(4096, [0, 4, 1, 0])), ..WRITTEN },
     Step { name: "EOP sets EOP_ENCOUNTERED",
-        given: |i| i.kept.eop_seen = true, image_after: |i| leave(i, Fetch, 0x16), ..WRITTEN },
+        given: |i| i.kept.eop_seen = true, image_after: |i| leave(i, Fetch, 0x16),
+        recorded: Some(record(4096, [0, 4, 0, 1])), ..WRITTEN },
     Step { name: "no event pends under the enable of another",
         given: |i| i.control |= 0x9B, image_after: |i| leave(i, Fetch, 0x14), ..WRITTEN },
     Step { name: "an event pends again where its bit is 1, without IE_GLOBAL",
@@ -244,10 +255,11 @@ const WRITE_BACKS: [Step; 16] = [
     Step { name: "errors pend under IE_ERROR",
         given: |i| { i.kept.errors = 2; i.control |= 1 },
         image_after: |i| { leave(i, Fetch, 0x15); i.pending = true },
-        memory_after: |m| done(m, 2, 0), ..WRITTEN },
+        memory_after: |m| done(m, 2, 0), recorded: Some(record(4096, [0, 4, 2, 0])), ..WRITTEN },
     Step { name: "EOP pends under IE_EOP",
         given: |i| { i.kept.eop_seen = true; i.control |= 2 },
-        image_after: |i| { leave(i, Fetch, 0x16); i.pending = true }, ..WRITTEN },
+        image_after: |i| { leave(i, Fetch, 0x16); i.pending = true },
+        recorded: Some(record(4096, [0, 4, 0, 1])), ..WRITTEN },
     Step { name: "the count goes up below MAX",
         given: |i| { i.count = 1; i.control |= 0x0380 },
         image_after: |i| { leave(i, Fetch, 0x14); i.count = 2 }, ..WRITTEN },
@@ -262,6 +274,94 @@ const WRITE_BACKS: [Step; 16] = [
         image_after: |i| { leave(i, Fetch, 0x14); i.count = 0 }, ..WRITTEN },
 ];
 
+#[rustfmt::skip]
+const RECORDS: [Step; 6] = [
+    Step { name: "a record has the most significant byte first",
+        given: |i| { i.kept.length = 0x0304; i.kept.moved = 0x0102; i.kept.eop_seen = true;
+                     i.kept.errors = 0x55 },
+        image_after: |i| leave(i, Fetch, 0x17),
+        memory_after: |m| m[28..32].copy_from_slice(&[2, 1, 0x55, 0]),
+        recorded: Some(record(4096, [1, 2, 0x55, 1])), ..WRITTEN },
+    Step { name: "a record has the address on the bus, of the descriptor itself",
+        given: |i| i.kept.address = 4128, memory_after: |m| done(&mut m[32..], 0, 0),
+        recorded: Some([0, 0, 0, 0, 0, 0, 0x10, 0x20, 0, 4, 0, 0]), ..WRITTEN },
+    Step { name: "length 0 is recorded as the bytes that were moved",
+        given: |i| (i.kept.length, i.kept.moved) = (0, 65_535),
+        memory_after: |m| m[28..32].copy_from_slice(&[0xFF, 0xFF, 0, 0]),
+        recorded: Some(record(4096, [0xFF, 0xFF, 0, 0])), ..WRITTEN },
+    Step { name: "a record is made in mode 0",
+        mode: M0, ..WRITTEN },
+    Step { name: "a generated EOP is not recorded",
+        mode: M1, given: |i| i.kept.control = 0x81, memory_after: |m| done(m, 0, 1), ..WRITTEN },
+    Step { name: "a parked descriptor is recorded with errors and EOP",
+        given: |i| { i.control |= PARK; i.kept.errors = 3; i.kept.eop_seen = true },
+        image_after: |i| leave(i, Fetch, 0x17), memory_after: |m| done(m, 3, 0x80),
+        recorded: Some(record(4096, [0, 4, 3, 1])), ..WRITTEN },
+];
+
+/// A step that finds no room for a record.
+const FULL: Step = Step {
+    phase: WriteBack,
+    record_room: 0,
+    told: (Reason::LedgerFull, 0, 0),
+    ..STEP
+};
+
+#[rustfmt::skip]
+const FULL_LEDGERS: [Step; 12] = [
+    Step { name: "no room for a record, no step",
+        ..FULL },
+    Step { name: "in mode 0 too",
+        mode: M0, ..FULL },
+    Step { name: "and in mode 1",
+        mode: M1, ..FULL },
+    Step { name: "LedgerFull comes before RUN 0",
+        given: |i| i.control = 0, ..FULL },
+    Step { name: "LedgerFull comes before errors and STOP_DMA_ER",
+        given: |i| { i.kept.errors = 1; i.control |= STOP_DMA_ER }, ..FULL },
+    Step { name: "PARK needs room too",
+        given: |i| i.control |= PARK, ..FULL },
+    Step { name: "LedgerFull comes before Budget, of which there is none",
+        budget: 0, ..FULL },
+    Step { name: "with room it is Budget",
+        record_room: 1, budget: 0, told: (Reason::Budget, 0, 0), ..FULL },
+    Step { name: "LedgerFull comes before Budget, which the last byte has spent",
+        phase: Move, given: |i| i.kept.moved = 3, beats: &[0x005A],
+        image_after: |i| (i.phase, i.kept.moved) = (3, 4), memory_after: |m| m[131] = 0x5A,
+        told: (Reason::LedgerFull, 1, 1), ..FULL },
+    Step { name: "a byte before the last needs no room for a record",
+        mode: M0, phase: Move, image_after: |i| i.kept.moved = 2, told: (Reason::Budget, 1, 0),
+        ..FULL },
+    Step { name: "Fetch needs none",
+        phase: Fetch, memory: |m| lay(m, 4), image_after: |i| keep(i, 4),
+        told: (Reason::NeedsInput, 1, 0), ..FULL },
+    Step { name: "nor does leaving Rest",
+        phase: Rest, image_after: |i| (i.phase, i.status) = (1, BUSY),
+        told: (Reason::Budget, 1, 0), ..FULL },
+];
+
+/// The ledger before and after a step. Behind one used record, of any bytes, there
+/// is the room, of any bytes as well.
+fn ledgers(step: &Step) -> [Vec<u8>; 2] {
+    let before = vec![0x5E; RECORD_SIZE * (1 + step.record_room)];
+    let mut after = before.clone();
+    if let Some(record) = step.recorded {
+        after[RECORD_SIZE..2 * RECORD_SIZE].copy_from_slice(&record);
+    }
+    [before, after]
+}
+
+/// The report of a step.
+fn report(step: &Step) -> Vec<u8> {
+    let (reason, steps, taken) = step.told;
+    let mut report = vec![0, reason as u8];
+    let used = 1 + u32::from(step.recorded.is_some());
+    for number in [steps, taken, step.made.len() as u32, used] {
+        report.extend(number.to_be_bytes());
+    }
+    report
+}
+
 /// The call of a step, and what it must have become.
 fn call_and_outcome(step: &Step) -> (Call, Call) {
     let mut before = image(step.mode, step.phase);
@@ -274,22 +374,21 @@ fn call_and_outcome(step: &Step) -> (Call, Call) {
     (step.memory_after)(&mut memory_after);
     let mut out_after = vec![0; 2 * step.room];
     out_after[..2 * step.made.len()].copy_from_slice(&stream(step.made));
-    let (reason, steps, taken) = step.told;
-    let mut report = vec![0, reason as u8];
-    for number in [steps, taken, step.made.len() as u32] {
-        report.extend(number.to_be_bytes());
-    }
-    let run = |image: Image, memory: Vec<u8>, out: Vec<u8>, report: Vec<u8>| Call::Run {
+    let [ledger, ledger_after] = ledgers(step);
+    let run = |image: Image, [memory, out, ledger, report]: [Vec<u8>; 4]| Call::Run {
         image: Lent::from(image.pack().to_vec()),
         window: Lent::from(memory),
         beats: Lent::from(stream(step.beats)),
         out: Lent::from(out),
-        budget: 1,
+        ledger: Lent::from(ledger),
+        used: 1,
+        budget: step.budget,
         report: Lent::from(report),
     };
+    let (out, no_report) = (vec![0; 2 * step.room], vec![0; REPORT_SIZE]);
     (
-        run(before, memory, vec![0; 2 * step.room], vec![0; REPORT_SIZE]),
-        run(after, memory_after, out_after, report),
+        run(before, [memory, out, ledger, no_report]),
+        run(after, [memory_after, out_after, ledger_after, report(step)]),
     )
 }
 
@@ -317,6 +416,16 @@ fn moves() {
 #[test]
 fn write_backs() {
     check_steps(&WRITE_BACKS);
+}
+
+#[test]
+fn records() {
+    check_steps(&RECORDS);
+}
+
+#[test]
+fn full_ledgers() {
+    check_steps(&FULL_LEDGERS);
 }
 
 /// A register write on an image, and what it changes.

@@ -224,6 +224,8 @@ fn calls_on(image: &Image) -> [Call; 4] {
             window: Lent::zeros(window_length),
             beats: Lent::zeros(0),
             out: Lent::zeros(0),
+            ledger: Lent::zeros(0),
+            used: 0,
             budget: 0,
             report: Lent::zeros(REPORT_SIZE),
         },

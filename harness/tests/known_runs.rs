@@ -1,12 +1,14 @@
-//! The eleven known runs of the paper, by the model and by the library.
+//! The eleven known runs of the paper, by the model and by the library, each made
+//! with room for just the records that it makes.
 //!
 //! "Base 4096, length 256, mode 2, descriptor D at 4096: destination 4224, next
 //! 4128, length 4, control 0x80; all other bytes zero. Pointer 4096, control 0x20,
 //! budget 100, beats 0x0011 0x0022 0x0033 0x0044, unless said."
 
 use harness::call::{parties, Party};
-use harness::firmware::Firmware;
-use harness::model::{offset, Descriptor, Reason};
+use harness::firmware::{Firmware, Ran};
+use harness::model::{offset, Descriptor, Reason, RECORD_SIZE};
+use harness::samples::record;
 
 const BASE: u32 = 4096;
 const LENGTH: usize = 256;
@@ -60,7 +62,14 @@ struct Expected {
     fault: (u8, u32),
     /// The bytes at D's destination, as far as the window reaches.
     landed: &'static [u8],
+    /// The ledger.
+    records: &'static [Record],
 }
+
+type Record = [u8; RECORD_SIZE];
+
+/// The record of a D that has moved its four bytes.
+const FOUR_MOVED: Record = record(D, [0, 4, 0, 0]);
 
 const RUN_1: Expected = Expected {
     reason: Reason::Ended,
@@ -72,6 +81,7 @@ const RUN_1: Expected = Expected {
     last_four: [4, 0, 0, 0],
     fault: (0, 0),
     landed: &[0x11, 0x22, 0x33, 0x44],
+    records: &[FOUR_MOVED],
 };
 
 /// Nothing but Rest, one Fetch and its end or fault.
@@ -80,6 +90,7 @@ const NOTHING_MOVED: Expected = Expected {
     taken: 0,
     last_four: [0, 0, 0, 0x80],
     landed: &[0, 0, 0, 0],
+    records: &[],
     ..RUN_1
 };
 
@@ -104,6 +115,29 @@ const STREAMED: Given = Given {
     ..GIVEN
 };
 
+/// D leads to itself and is parked.
+const PARKED: Given = Given {
+    descriptor: Descriptor {
+        next: 4096,
+        ..GIVEN.descriptor
+    },
+    control: 0x20020,
+    beats: &[0x11, 0x22, 0x33, 0x44, 0x55, 0x66, 0x77, 0x88],
+    ..GIVEN
+};
+
+const RUN_6: Expected = Expected {
+    reason: Reason::NeedsInput,
+    steps: 14,
+    taken: 8,
+    status: 0x14,
+    pointer: 4096,
+    last_four: [4, 0, 0, 0x80],
+    landed: &[0x55, 0x66, 0x77, 0x88],
+    records: &[FOUR_MOVED, FOUR_MOVED],
+    ..RUN_1
+};
+
 const RUNS: [(&str, Given, Expected); 15] = [
     ("1", GIVEN, RUN_1),
     (
@@ -118,6 +152,7 @@ const RUNS: [(&str, Given, Expected); 15] = [
             status: 0x1E,
             last_four: [2, 0, 0, 0],
             landed: &[0x11, 0x22, 0, 0],
+            records: &[record(D, [0, 2, 0, 1])],
             ..RUN_1
         },
     ),
@@ -145,6 +180,7 @@ const RUNS: [(&str, Given, Expected); 15] = [
             status: 0x10,
             last_four: [0, 0, 0, 0x80],
             landed: &[0x11, 0x22, 0x33, 0],
+            records: &[],
             ..RUN_1
         },
     ),
@@ -160,31 +196,11 @@ const RUNS: [(&str, Given, Expected); 15] = [
             steps: 7,
             status: 0x05,
             last_four: [4, 0, 3, 0],
+            records: &[record(D, [0, 4, 3, 0])],
             ..RUN_1
         },
     ),
-    (
-        "6: D next 4096, control 0x20020, 8 beats",
-        Given {
-            descriptor: Descriptor {
-                next: 4096,
-                ..GIVEN.descriptor
-            },
-            control: 0x20020,
-            beats: &[0x11, 0x22, 0x33, 0x44, 0x55, 0x66, 0x77, 0x88],
-            ..GIVEN
-        },
-        Expected {
-            reason: Reason::NeedsInput,
-            steps: 14,
-            taken: 8,
-            status: 0x14,
-            pointer: 4096,
-            last_four: [4, 0, 0, 0x80],
-            landed: &[0x55, 0x66, 0x77, 0x88],
-            ..RUN_1
-        },
-    ),
+    ("6: D next 4096, control 0x20020, 8 beats", PARKED, RUN_6),
     (
         "7: destination 4350",
         Given {
@@ -263,6 +279,7 @@ const RUNS: [(&str, Given, Expected); 15] = [
             made: &[0x02AA, 0x01BB],
             last_four: [2, 0, 0, 0x05],
             landed: &[0xAA, 0xBB, 0, 0],
+            records: &[record(D, [0, 2, 0, 0])],
             ..RUN_1
         },
     ),
@@ -281,6 +298,7 @@ const RUNS: [(&str, Given, Expected); 15] = [
             made: &[0x03AA],
             last_four: [1, 0, 0, 0x05],
             landed: &[0xAA, 0xBB, 0, 0],
+            records: &[record(D, [0, 1, 0, 0])],
             ..RUN_1
         },
     ),
@@ -297,8 +315,8 @@ const RUNS: [(&str, Given, Expected); 15] = [
     ),
 ];
 
-/// Makes the run with one party and checks every figure.
-fn check(party: &dyn Party, name: &str, given: &Given, expected: &Expected) {
+/// A core that stands before its run, with room for so many records.
+fn started<'party>(party: &'party dyn Party, given: &Given, records: usize) -> Firmware<'party> {
     let mut core = Firmware::new(party, given.mode, BASE, LENGTH);
     core.build(D, &given.descriptor);
     if !given.data.is_empty() {
@@ -306,7 +324,12 @@ fn check(party: &dyn Party, name: &str, given: &Given, expected: &Expected) {
     }
     core.write(offset::NEXT_DESCRIPTOR_POINTER, given.pointer);
     core.write(offset::CONTROL, given.control);
-    let ran = core.run(given.beats, given.room, given.budget);
+    core.lend_records(records);
+    core
+}
+
+/// Checks every figure of what a run has told and left.
+fn check(name: &str, core: &Firmware, ran: &Ran, given: &Given, expected: &Expected) {
     let found = (
         (ran.reason, ran.steps, ran.taken, ran.made.as_slice()),
         core.read(offset::STATUS),
@@ -314,6 +337,7 @@ fn check(party: &dyn Party, name: &str, given: &Given, expected: &Expected) {
         core.bytes(D + 28, 4),
         core.fault(),
         core.bytes(given.descriptor.destination, expected.landed.len()),
+        core.records(),
     );
     let wanted = (
         (
@@ -327,8 +351,9 @@ fn check(party: &dyn Party, name: &str, given: &Given, expected: &Expected) {
         expected.last_four.as_slice(),
         expected.fault,
         expected.landed,
+        expected.records,
     );
-    assert_eq!(found, wanted, "run {name} by the {}", party.name());
+    assert_eq!(found, wanted, "run {name}");
     assert_eq!(core.read(offset::CONTROL), given.control);
 }
 
@@ -336,7 +361,43 @@ fn check(party: &dyn Party, name: &str, given: &Given, expected: &Expected) {
 fn known_runs_have_the_figures_of_the_paper() {
     for party in parties() {
         for (name, given, expected) in &RUNS {
-            check(party.as_ref(), name, given, expected);
+            let mut core = started(party.as_ref(), given, expected.records.len());
+            let ran = core.run(given.beats, given.room, given.budget);
+            let name = format!("{name} by the {}", party.name());
+            check(&name, &core, &ran, given, expected);
         }
+    }
+}
+
+/// Known run 6 with room for one record: before the second is written back, it
+/// stops with LedgerFull, after Rest, two Fetches, eight bytes and one WriteBack.
+/// Lent more room, it goes on to the end that it has with room for both.
+#[test]
+fn a_full_ledger_stops_known_run_6_until_more_is_lent() {
+    let full = Expected {
+        reason: Reason::LedgerFull,
+        steps: 12,
+        records: &[FOUR_MOVED],
+        ..RUN_6
+    };
+    let gone_on = Expected {
+        steps: 2,
+        taken: 0,
+        ..RUN_6
+    };
+    for party in parties() {
+        let mut core = started(party.as_ref(), &PARKED, 1);
+        let ran = core.run(PARKED.beats, 0, PARKED.budget);
+        check("6, full", &core, &ran, &PARKED, &full);
+        let again = core.run(&[], 0, PARKED.budget);
+        let no_step = Expected {
+            steps: 0,
+            taken: 0,
+            ..full
+        };
+        check("6, still full", &core, &again, &PARKED, &no_step);
+        core.lend_records(1);
+        let ran = core.run(&[], 0, PARKED.budget);
+        check("6, gone on", &core, &ran, &PARKED, &gone_on);
     }
 }

@@ -1,9 +1,12 @@
 //! Long runs, by the model and by the library. Every figure is worked out from
 //! the paper here, not taken from the model.
 
-use harness::call::parties;
+use harness::call::{parties, Call, Lent, Party, Told};
 use harness::firmware::{Firmware, Ran};
-use harness::model::{descriptor_control, offset, Descriptor, Reason};
+use harness::model::{
+    descriptor_control, offset, Descriptor, Mode, Phase, Reason, RECORD_SIZE, REPORT_SIZE,
+};
+use harness::samples::{self, record};
 
 const FULL: usize = 65_536;
 /// The highest base of a full window, so that its end is 2^32.
@@ -25,17 +28,20 @@ fn data(place: usize) -> u8 {
     (place * 7 + place / 256) as u8
 }
 
+/// Starts a core that has one descriptor, and so needs room for one record.
 fn started(core: &mut Firmware, pointer: u32) {
+    core.lend_records(1);
     core.write(offset::NEXT_DESCRIPTOR_POINTER, pointer);
     core.write(offset::CONTROL, RUN);
 }
 
-fn ended(steps: u32, taken: u32) -> Ran {
+fn ended(steps: u32, taken: u32, used: u32) -> Ran {
     Ran {
         reason: Reason::Ended as u16,
         steps,
         taken,
         made: Vec::new(),
+        used,
     }
 }
 
@@ -54,7 +60,8 @@ fn length_zero_takes_65_535_beats_without_eop() {
         core.build(BASE, &fields);
         started(&mut core, BASE);
         let ran = core.run(&plain_beats(65_540), 0, u32::MAX);
-        assert_eq!(ran, ended(65_539, 65_535), "{}", party.name());
+        assert_eq!(ran, ended(65_539, 65_535, 1), "{}", party.name());
+        assert_eq!(core.records(), [record(BASE, [0xFF, 0xFF, 0, 0])]);
         assert_eq!(core.bytes(BASE + 28, 4), [0xFF, 0xFF, 0, 0x04]);
         assert_eq!(core.bytes(BASE + 64, 2), [data(65_534), 0]);
         assert_eq!(core.read(offset::STATUS), 0x1C);
@@ -91,9 +98,15 @@ fn slices_of_the_budget_come_to_the_same_end() {
         };
         let told = (at_once.reason, at_once.steps, at_once.taken as usize);
         assert_eq!((reason, steps, taken), told, "{}", party.name());
-        assert_eq!(sliced.image, whole.image);
-        assert!(sliced.memory == whole.memory);
+        assert_same(&sliced, &whole);
     }
+}
+
+/// Two cores have come to the same end.
+fn assert_same(core: &Firmware, other: &Firmware) {
+    assert_eq!(core.image, other.image);
+    assert!(core.memory == other.memory);
+    assert!(core.records() == other.records());
 }
 
 /// A stream over the full window but its first byte, and so over its own
@@ -112,7 +125,8 @@ fn a_full_window_is_filled() {
         core.build(TOP, &fields);
         started(&mut core, TOP);
         let ran = core.run(&plain_beats(65_535), 0, u32::MAX);
-        assert_eq!(ran, ended(65_539, 65_535), "{}", party.name());
+        assert_eq!(ran, ended(65_539, 65_535, 1), "{}", party.name());
+        assert_eq!(core.records(), [record(TOP, [0xFF, 0xFF, 0, 0])]);
         let mut expected = vec![0xC9];
         expected.extend((0..FULL - 1).map(data));
         expected[28..32].copy_from_slice(&[0xFF, 0xFF, 0, 0x28]);
@@ -142,15 +156,21 @@ fn a_long_descriptor_faults_at_the_end_of_the_bus() {
             "{}",
             party.name()
         );
+        assert!(core.records().is_empty());
         assert_eq!(core.bytes(TOP + 28, 4), [0, 0, 0, 0x80]);
         assert_eq!(core.bytes(u32::MAX, 1), [data(65_503)]);
     }
 }
 
 const CHAIN: u32 = 2_047;
+
 /// Every third descriptor ends at its fifth byte, by EOP.
-fn bytes_of(number: u32) -> usize {
-    if number.is_multiple_of(3) {
+fn ends_early(number: u32) -> bool {
+    number.is_multiple_of(3)
+}
+
+fn bytes_of(number: u32) -> u8 {
+    if ends_early(number) {
         5
     } else {
         32
@@ -160,8 +180,8 @@ fn bytes_of(number: u32) -> usize {
 fn chain_beats() -> Vec<u16> {
     let mut beats = Vec::new();
     for number in 0..CHAIN {
-        let mut part = plain_beats(bytes_of(number));
-        if part.len() < 32 {
+        let mut part = plain_beats(usize::from(bytes_of(number)));
+        if ends_early(number) {
             part[4] |= 0x0100;
         }
         beats.extend(part);
@@ -171,35 +191,108 @@ fn chain_beats() -> Vec<u16> {
 
 /// A full window of 2,047 descriptors that share the last 32 bytes. The last one
 /// leads to the first, which is done by then, so the chain ends.
+fn started_chain(party: &dyn Party) -> Firmware<'_> {
+    let mut core = Firmware::new(party, STREAM_TO_MEMORY, TOP, FULL);
+    for number in 0..CHAIN {
+        let fields = Descriptor {
+            destination: TOP + 32 * CHAIN,
+            next: TOP + 32 * ((number + 1) % CHAIN),
+            length: 32,
+            control: OWNED,
+            ..Descriptor::default()
+        };
+        core.build(TOP + 32 * number, &fields);
+    }
+    core.write(offset::NEXT_DESCRIPTOR_POINTER, TOP);
+    core.write(offset::CONTROL, RUN | 0xFF00);
+    core
+}
+
 #[test]
 fn a_chain_of_2047_descriptors_is_done() {
-    let landing = TOP + 32 * CHAIN;
     let beats = chain_beats();
     for party in parties() {
-        let mut core = Firmware::new(party.as_ref(), STREAM_TO_MEMORY, TOP, FULL);
-        for number in 0..CHAIN {
-            let fields = Descriptor {
-                destination: landing,
-                next: TOP + 32 * ((number + 1) % CHAIN),
-                length: 32,
-                control: OWNED,
-                ..Descriptor::default()
-            };
-            core.build(TOP + 32 * number, &fields);
-        }
-        core.write(offset::NEXT_DESCRIPTOR_POINTER, TOP);
-        core.write(offset::CONTROL, RUN | 0xFF00);
+        let mut core = started_chain(party.as_ref());
+        core.lend_records(CHAIN as usize);
         let ran = core.run(&beats, 0, u32::MAX);
         let taken = beats.len() as u32;
-        assert_eq!(ran, ended(2 + 2 * CHAIN + taken, taken), "{}", party.name());
-        for number in 0..CHAIN {
-            let done = core.descriptor(TOP + 32 * number);
-            let mark = (usize::from(done.actual), done.status, done.control);
-            assert_eq!(mark, (bytes_of(number), 0, 0), "descriptor {number}");
+        let expected = ended(2 + 2 * CHAIN + taken, taken, CHAIN);
+        assert_eq!(ran, expected, "{}", party.name());
+        for (number, found) in (0..CHAIN).zip(core.records()) {
+            let address = TOP + 32 * number;
+            let done = core.descriptor(address);
+            let (bytes, eop) = (bytes_of(number), u8::from(ends_early(number)));
+            let mark = (done.actual, done.status, done.control);
+            assert_eq!(mark, (u16::from(bytes), 0, 0), "descriptor {number}");
+            assert_eq!(*found, record(address, [0, bytes, 0, eop]));
         }
         // MAX_DESC_PROCESSED 255 was reached eight times.
         assert_eq!(u32::from(core.image[3]), CHAIN - 8 * 255);
         assert_eq!(core.read(offset::STATUS), 0x1E);
+    }
+}
+
+/// The same chain, lent room for 100 records at a time: it stops at each full
+/// ledger, 20 times, and comes to the same end.
+#[test]
+fn a_chain_goes_on_behind_each_full_ledger() {
+    let beats = chain_beats();
+    for party in parties() {
+        let mut core = started_chain(party.as_ref());
+        let mut whole = core.clone();
+        whole.lend_records(CHAIN as usize);
+        let at_once = whole.run(&beats, 0, u32::MAX);
+        let (mut steps, mut taken, mut full) = (0, 0, 0);
+        let last = loop {
+            core.lend_records(100);
+            let ran = core.run(&beats[taken..], 0, u32::MAX);
+            steps += ran.steps;
+            taken += ran.taken as usize;
+            if ran.reason != Reason::LedgerFull as u16 {
+                break ran;
+            }
+            full += 1;
+            assert_eq!(ran.used, 100 * full, "{}", party.name());
+        };
+        assert_eq!((full, steps), (CHAIN / 100, at_once.steps));
+        assert_eq!((last.reason, last.used), (at_once.reason, CHAIN));
+        assert_same(&core, &whole);
+    }
+}
+
+/// So many records are 8 bytes more than 4 GiB.
+const RECORDS_OF_4_GIB: u32 = 357_913_942;
+
+/// A record finds its place behind more bytes than 32 bits count, which take no
+/// memory where nothing writes them. The bridge could not carry them.
+#[test]
+fn a_record_is_appended_beyond_4_gib() {
+    let length = RECORD_SIZE * (RECORDS_OF_4_GIB as usize + 1);
+    if cfg!(have_bridge) || Vec::<u8>::new().try_reserve_exact(length).is_err() {
+        println!("not tried: {length} bytes cannot be lent here");
+        return;
+    }
+    for party in parties() {
+        let image = samples::image(Mode::StreamToMemory, Phase::WriteBack);
+        let mut call = Call::Run {
+            image: Lent::from(image.pack().to_vec()),
+            window: Lent::zeros(samples::LENGTH),
+            beats: Lent::zeros(0),
+            out: Lent::zeros(0),
+            ledger: Lent::zeros(length),
+            used: RECORDS_OF_4_GIB,
+            budget: 1,
+            report: Lent::zeros(REPORT_SIZE),
+        };
+        assert_eq!(party.answer(&mut call), 0, "{}", party.name());
+        let Call::Run { ledger, report, .. } = call else {
+            unreachable!("a call stays what it is");
+        };
+        assert_eq!(Told::of(&report).used, RECORDS_OF_4_GIB + 1);
+        assert_eq!(ledger[length - RECORD_SIZE..], record(4096, [0, 4, 0, 0]));
+        // Where 32 bits would have led.
+        assert_eq!(ledger[..20], [0; 20]);
+        assert!(ledger.canaries_live());
     }
 }
 
@@ -228,7 +321,8 @@ fn half_a_window_is_copied() {
         fill(&mut core);
         started(&mut core, BASE);
         let ran = core.run(&[], 0, u32::MAX);
-        assert_eq!(ran, ended(4 + half as u32, 0), "{}", party.name());
+        assert_eq!(ran, ended(4 + half as u32, 0, 1), "{}", party.name());
+        assert_eq!(core.records(), [record(BASE, [0x7F, 0xF0, 0, 0])]);
         let (source, copy) = core.memory[32..].split_at(half);
         assert!(source == copy && source[1] == data(33));
     }
@@ -252,7 +346,7 @@ fn an_overlapping_copy_repeats_its_first_byte() {
         fill(&mut core);
         started(&mut core, BASE);
         let ran = core.run(&[], 0, u32::MAX);
-        assert_eq!(ran, ended(4 + length as u32, 0), "{}", party.name());
+        assert_eq!(ran, ended(4 + length as u32, 0, 1), "{}", party.name());
         assert!(core.memory[32..].iter().all(|&byte| byte == data(32)));
     }
 }
@@ -279,5 +373,6 @@ fn a_full_window_is_streamed_out() {
         expected[65_534] |= 0x0100;
         assert_eq!((ran.reason, ran.steps), (Reason::Ended as u16, 65_539));
         assert!(ran.made == expected, "{}", party.name());
+        assert_eq!(core.records(), [record(BASE, [0xFF, 0xFF, 0, 0])]);
     }
 }

@@ -1,12 +1,13 @@
-//! What holds of every random call, by the model and by the library.
+//! What holds of every random call, and of random calls in a row, by the model and
+//! by the library.
 
-use harness::call::{parties, Call, Lent, Party};
+use harness::call::{parties, Call, Lent, Party, Told};
 use harness::compare::{ask, drive, Answer};
-use harness::firmware::Firmware;
+use harness::firmware::{Firmware, Ran};
 use harness::gen::Rng;
 use harness::model::{
-    Descriptor, Descriptors, Image, Images, Machine, Paper, Ports, Steps, DESCRIPTOR_SIZE,
-    IMAGE_SIZE,
+    control, descriptor_control, offset, Descriptor, Descriptors, Fault, Image, Images, Ledger,
+    Machine, Paper, Ports, Reason, Steps, DESCRIPTOR_SIZE, IMAGE_SIZE, RECORD_SIZE,
 };
 use std::convert::Infallible;
 
@@ -43,27 +44,37 @@ fn every_machine_reached_saves_and_loads() {
         if let Some(Ok(machine)) = image_of(&answer.after).map(|image| Paper.load(&image)) {
             check_round_trip(&machine);
         }
-        let Call::Run {
-            window, beats, out, ..
-        } = call
-        else {
-            return;
-        };
-        let loaded = image_of(call).map(|image| Paper.load(&image));
-        let Some(Ok(mut machine)) = loaded else {
-            panic!("a run was done on\n{call}");
-        };
-        let (mut memory, mut out) = (window.to_vec(), out.to_vec());
-        let mut ports = Ports::new(&mut memory, beats, &mut out);
-        for _ in 0..300 {
-            if Paper.step(&mut machine, &mut ports).is_err() {
-                break;
-            }
-            machines += 1;
-            check_round_trip(&machine);
-        }
+        machines += check_between_steps(call);
     });
     assert!(machines > 80_000, "only {machines} machines");
+}
+
+/// Checks the machines between the steps of a run, and tells how many.
+fn check_between_steps(call: &Call) -> u32 {
+    let Call::Run {
+        window,
+        beats,
+        out,
+        ledger,
+        used,
+        ..
+    } = call
+    else {
+        return 0;
+    };
+    let loaded = image_of(call).map(|image| Paper.load(&image));
+    let Some(Ok(mut machine)) = loaded else {
+        panic!("a run was done on\n{call}");
+    };
+    let (mut memory, mut out, mut ledger) = (window.to_vec(), out.to_vec(), ledger.to_vec());
+    let ledger = Ledger::new(&mut ledger, *used);
+    let mut ports = Ports::new(&mut memory, beats, &mut out, ledger);
+    let mut machines = 0;
+    while machines < 300 && Paper.step(&mut machine, &mut ports).is_ok() {
+        machines += 1;
+        check_round_trip(&machine);
+    }
+    machines
 }
 
 /// Whatever call is done, the image it leaves loads; whatever is refused changes
@@ -81,8 +92,42 @@ fn done_calls_leave_images_and_refused_calls_nothing() {
     }
 }
 
+/// "Records are appended .. and bytes past them stay": the used ones stay too.
+#[test]
+fn all_of_a_ledger_stays_but_the_records_appended() {
+    for party in parties() {
+        let mut appended = 0;
+        for_calls(party.as_ref(), 108, |call, answer| {
+            if answer.returned == 0 {
+                appended += check_appended(party.as_ref(), call, &answer.after);
+            }
+        });
+        assert!(appended > 4_000, "only {appended} records");
+    }
+}
+
+/// Checks the ledger that a call has left, and tells the records appended to it.
+fn check_appended(party: &dyn Party, call: &Call, after: &Call) -> u32 {
+    let Call::Run { ledger, used, .. } = call else {
+        return 0;
+    };
+    let Call::Run {
+        ledger: left,
+        report,
+        ..
+    } = after
+    else {
+        unreachable!("a call stays what it is");
+    };
+    let told = Told::of(report).used;
+    let [begin, end] = [*used, told].map(|records| records as usize * RECORD_SIZE);
+    let stays = left[..begin] == ledger[..begin] && left[end..] == ledger[end..];
+    assert!(stays, "{} changed more in\n{call}", party.name());
+    told - used
+}
+
 /// A run of a + b steps is a run of a steps and then one of b, with what the first
-/// left of the streams.
+/// left of the streams and of the ledger.
 #[test]
 fn a_run_may_be_taken_in_two() {
     let mut rng = Rng::new(103);
@@ -103,11 +148,11 @@ fn a_run_may_be_taken_in_two() {
 
 /// The same run in two calls, put together as if it had been one.
 fn in_two(party: &dyn Party, call: &Call, first_budget: u32) -> Call {
-    let Call::Run { budget, .. } = call else {
+    let &Call::Run { budget, used, .. } = call else {
         unreachable!("the call is a run");
     };
     let mut together = call.clone();
-    let mut told = Told::default();
+    let mut told = Parts { sums: [0; 3], used };
     for part in [first_budget, budget - first_budget] {
         let answer = ask(party, &rest_of(&together, &told, part));
         assert_eq!(answer.returned, 0, "a part was refused of\n{call}");
@@ -116,13 +161,14 @@ fn in_two(party: &dyn Party, call: &Call, first_budget: u32) -> Call {
     together
 }
 
-/// Steps, beats taken and beats made, as the reports told them.
-#[derive(Default)]
-struct Told {
+/// What the reports of the parts told: steps, beats taken and beats made in sum,
+/// and the records used by now.
+struct Parts {
     sums: [u32; 3],
+    used: u32,
 }
 
-impl Told {
+impl Parts {
     fn taken(&self) -> usize {
         self.sums[1] as usize
     }
@@ -132,27 +178,33 @@ impl Told {
     }
 }
 
-/// A run with what is left of the streams.
-fn rest_of(together: &Call, told: &Told, part: u32) -> Call {
+/// A run with what is left of the streams, and the number of records handed on.
+fn rest_of(together: &Call, told: &Parts, part: u32) -> Call {
     let mut rest = together.clone();
     if let Call::Run {
-        beats, out, budget, ..
+        beats,
+        out,
+        used,
+        budget,
+        ..
     } = &mut rest
     {
         *beats = Lent::from(&beats[2 * told.taken()..]);
         *out = Lent::from(&out[2 * told.made()..]);
+        *used = told.used;
         *budget = part;
     }
     rest
 }
 
 /// Adds what a part has left to what the parts before it have.
-fn add_part(together: &mut Call, part: &Call, told: &mut Told) {
+fn add_part(together: &mut Call, part: &Call, told: &mut Parts) {
     let (
         Call::Run {
             image,
             window,
             out,
+            ledger,
             report,
             ..
         },
@@ -160,6 +212,7 @@ fn add_part(together: &mut Call, part: &Call, told: &mut Told) {
             image: image_after,
             window: window_after,
             out: out_after,
+            ledger: ledger_after,
             report: report_after,
             ..
         },
@@ -170,13 +223,13 @@ fn add_part(together: &mut Call, part: &Call, told: &mut Told) {
     image.copy_from_slice(image_after);
     window.copy_from_slice(window_after);
     out[2 * told.made()..].copy_from_slice(out_after);
+    ledger.copy_from_slice(ledger_after);
     report.copy_from_slice(report_after);
-    for (sum, field) in told.sums.iter_mut().zip(report[2..].chunks_mut(4)) {
-        let number = field
-            .iter()
-            .fold(0, |number, &byte| number << 8 | u32::from(byte));
-        *sum += number;
-        field.copy_from_slice(&sum.to_be_bytes());
+    let part = Told::of(report_after);
+    told.used = part.used;
+    for (place, number) in [part.steps, part.taken, part.made].into_iter().enumerate() {
+        told.sums[place] += number;
+        report[2 + 4 * place..][..4].copy_from_slice(&told.sums[place].to_be_bytes());
     }
 }
 
@@ -253,4 +306,185 @@ fn the_descriptor_layout_is_the_papers() {
     bytes[28..31].copy_from_slice(&[0x1D, 0x1E, 0x1F]);
     let read = Paper.read_fields(&bytes);
     assert_eq!((read.actual, read.status), (0x1E1D, 0x1F));
+}
+
+const BASE: u32 = 4096;
+const SLOTS: u32 = 8;
+const WINDOW: usize = 512;
+
+/// A core of mode 2, from fresh on, with an account of the beats it has taken.
+struct Account<'party> {
+    core: Firmware<'party>,
+    taken: u32,
+    /// The bytes of descriptors that a reset or fault 14 has dropped.
+    abandoned: u32,
+    met: Met,
+}
+
+/// How often a core has met what the account depends on.
+#[derive(Debug, Default)]
+struct Met {
+    records: usize,
+    full_ledgers: u32,
+    resets: u32,
+    faults: u32,
+}
+
+impl Account<'_> {
+    fn of_fresh(party: &dyn Party) -> Account<'_> {
+        Account {
+            core: Firmware::new(party, 2, BASE, WINDOW),
+            taken: 0,
+            abandoned: 0,
+            met: Met::default(),
+        }
+    }
+
+    /// Writes a register. A write of SW_RESET that finds it 1 drops what is in
+    /// hand.
+    fn write(&mut self, offset: u32, value: u32) {
+        let before = image_in(&self.core);
+        let asks = offset == offset::CONTROL && value & control::SW_RESET != 0;
+        self.core.write(offset, value);
+        if asks && before.armed {
+            self.abandoned += u32::from(before.kept.moved);
+            self.met.resets += u32::from(before.kept.moved > 0);
+        }
+    }
+
+    /// Writes SW_RESET twice, so that it is found 1.
+    fn reset(&mut self) {
+        self.write(offset::CONTROL, control::SW_RESET);
+        self.write(offset::CONTROL, control::SW_RESET);
+    }
+
+    /// Begins anew at this descriptor, from wherever RUN can lead away.
+    fn start(&mut self, pointer: u32, control: u32) {
+        self.write(offset::CONTROL, 0);
+        self.write(offset::NEXT_DESCRIPTOR_POINTER, pointer);
+        self.write(offset::CONTROL, control);
+    }
+
+    /// Runs with these beats. Fault 14 drops what was in hand before it: the same
+    /// run shows that when its last step, the fault, is left out.
+    fn run(&mut self, beats: &[u16], budget: u32) {
+        let mut before_fault = self.core.clone();
+        let Ran {
+            reason,
+            steps,
+            taken,
+            ..
+        } = self.core.run(beats, 0, budget);
+        self.taken += taken;
+        self.met.full_ledgers += u32::from(reason == Reason::LedgerFull as u16);
+        if steps > 0 && self.core.fault().0 == Fault::DESTINATION_OUTSIDE {
+            before_fault.run(beats, 0, steps - 1);
+            let dropped = image_in(&before_fault).kept.moved;
+            self.abandoned += u32::from(dropped);
+            self.met.faults += u32::from(dropped > 0);
+        }
+    }
+
+    /// "its bytes sum to the beats taken less those of descriptors not written
+    /// back (in hand, or abandoned by a reset or fault)"
+    fn check(&self, party: &str) {
+        let actual = |record: &[u8; RECORD_SIZE]| u32::from(record[8]) << 8 | u32::from(record[9]);
+        let recorded: u32 = self.core.records().iter().map(actual).sum();
+        let in_hand = u32::from(image_in(&self.core).kept.moved);
+        let parts = [recorded, in_hand, self.abandoned];
+        assert_eq!(parts.iter().sum::<u32>(), self.taken, "{party}: {parts:?}");
+    }
+}
+
+fn image_in(core: &Firmware) -> Image {
+    let bytes = core.image.as_slice().try_into();
+    Image::unpack(bytes.expect("an image has its size"))
+}
+
+/// Lays descriptors of any kind from the start of the window, and any bytes behind
+/// them.
+fn rewrite_window(core: &mut Firmware, rng: &mut Rng) {
+    core.memory = rng.bytes(WINDOW);
+    for slot in 0..SLOTS {
+        let owned = descriptor_control::OWNED_BY_HW * u8::from(rng.chance(80));
+        let fixed = descriptor_control::WRITE_FIXED_ADDRESS * u8::from(rng.chance(25));
+        let near_the_end = BASE + WINDOW as u32 - rng.below(12) as u32;
+        let inside = BASE + rng.below(WINDOW as u64 - 40) as u32;
+        let fields = Descriptor {
+            destination: rng.pick(&[inside, inside, inside, near_the_end]),
+            next: slot_address(rng),
+            length: rng.pick(&[0, 1, 2, 5, 9, 20]),
+            control: owned | fixed,
+            ..Descriptor::default()
+        };
+        core.build(BASE + slot * DESCRIPTOR_SIZE as u32, &fields);
+    }
+}
+
+fn slot_address(rng: &mut Rng) -> u32 {
+    BASE + rng.below(u64::from(SLOTS)) as u32 * DESCRIPTOR_SIZE as u32
+}
+
+/// Control with each of these bits now and then.
+fn some_control(rng: &mut Rng) -> u32 {
+    let bits = [
+        (85, control::RUN),
+        (25, control::SW_RESET),
+        (30, control::PARK),
+        (20, control::STOP_DMA_ER),
+    ];
+    let taken = bits.map(|(percent, bit)| bit * u32::from(rng.chance(percent)));
+    taken.iter().sum()
+}
+
+/// Data, with EOP or errors now and then.
+fn some_beats(rng: &mut Rng) -> Vec<u16> {
+    let count = rng.below(40);
+    let mut beat = |_| {
+        let errors = (rng.number() as u16 & 0xFE00) * u16::from(rng.chance(5));
+        errors | u16::from(rng.chance(8)) << 8 | rng.below(256) as u16
+    };
+    (0..count).map(&mut beat).collect()
+}
+
+/// One turn of a session: some writes or a run, now and then on another window.
+fn take_turn(account: &mut Account, rng: &mut Rng) {
+    if rng.chance(15) {
+        rewrite_window(&mut account.core, rng);
+    }
+    match rng.below(20) {
+        0 => account.write(offset::STATUS, rng.number() as u32),
+        1..=2 => account.write(offset::CONTROL, some_control(rng)),
+        3..=4 => account.reset(),
+        5..=8 => account.start(slot_address(rng), some_control(rng)),
+        _ => {
+            account.core.lend_records(rng.pick(&[0, 0, 1, 2]));
+            let budget = rng.pick(&[1, 5, 30, u32::MAX]);
+            account.run(&some_beats(rng), budget);
+        }
+    }
+}
+
+/// The sum law: from fresh in mode 2, the ledger empty at first and each number
+/// handed on, no beat is lost or told twice.
+#[test]
+fn the_ledger_sums_to_the_beats_taken() {
+    for party in parties() {
+        let mut rng = Rng::new(109);
+        let mut met = Met::default();
+        for _ in 0..1_000 {
+            let mut account = Account::of_fresh(party.as_ref());
+            rewrite_window(&mut account.core, &mut rng);
+            for _ in 0..50 {
+                take_turn(&mut account, &mut rng);
+                account.check(party.name());
+            }
+            met.records += account.core.records().len();
+            met.full_ledgers += account.met.full_ledgers;
+            met.resets += account.met.resets;
+            met.faults += account.met.faults;
+        }
+        let enough = met.records > 4_000 && met.full_ledgers > 500;
+        assert!(enough && met.resets > 250 && met.faults > 250, "{met:?}");
+    }
 }

@@ -1,16 +1,20 @@
-//! Lent slices of wrong size, odd streams and empty slices. The library is tried
-//! with NULL for an empty slice as well as without.
+//! Lent slices of wrong size, odd streams, ledgers that are none and empty slices.
+//! The library is tried with NULL for an empty slice as well as without.
 
 use harness::call::{parties, Argument, Call, Lent, Party};
 use harness::compare::ask;
 use harness::model::{
-    Images, Machine, Mode, Paper, Window, DESCRIPTOR_ANSWER_SIZE, IMAGE_SIZE, REPORT_SIZE,
-    VALUE_SIZE,
+    Image, Images, Machine, Mode, Paper, Phase, Window, DESCRIPTOR_ANSWER_SIZE, IMAGE_SIZE,
+    REPORT_SIZE, VALUE_SIZE,
 };
+use harness::samples;
 
 const BASE: u64 = 4096;
+const OTHER_WINDOW: u32 = 4;
 const BAD_SIZE: u32 = 7;
+const BAD_IMAGE: u32 = 8;
 const ODD_STREAM: u32 = 9;
+const BAD_LEDGER: u32 = 19;
 
 fn fresh_image(mode: Mode, length: usize) -> Lent {
     let window = Window {
@@ -26,6 +30,8 @@ fn run(mode: Mode, length: usize) -> Call {
         window: Lent::zeros(length),
         beats: Lent::zeros(4),
         out: Lent::zeros(4),
+        ledger: Lent::zeros(24),
+        used: 1,
         budget: 10,
         report: Lent::zeros(REPORT_SIZE),
     }
@@ -114,6 +120,16 @@ fn resized(call: &Call, place: usize, size: usize) -> Call {
     resized
 }
 
+/// The slice that the call lends under this name.
+fn lent_as<'call>(call: &'call mut Call, sought: &str) -> &'call mut Lent {
+    let find = |argument| match argument {
+        Argument::Lent(name, lent) if name == sought => Some(lent),
+        _ => None,
+    };
+    let found = call.arguments().into_iter().find_map(find);
+    found.expect("the call lends such a slice")
+}
+
 #[test]
 fn good_calls_are_done() {
     for party in parties() {
@@ -152,15 +168,8 @@ fn odd_streams_are_refused_in_every_mode() {
         for mode in Mode::ALL {
             for (beats, out) in [(1, 0), (0, 1), (1, 1), (5, 4), (4, 5), (3, 3)] {
                 let mut call = run(mode, 64);
-                if let Call::Run {
-                    beats: lent_beats,
-                    out: lent_out,
-                    ..
-                } = &mut call
-                {
-                    *lent_beats = Lent::zeros(beats);
-                    *lent_out = Lent::zeros(out);
-                }
+                *lent_as(&mut call, "beats") = Lent::zeros(beats);
+                *lent_as(&mut call, "out") = Lent::zeros(out);
                 check_refused(party.as_ref(), &call, ODD_STREAM);
             }
         }
@@ -188,6 +197,108 @@ fn empty_slices_are_slices() {
     }
 }
 
+/// The size that a report had before runs kept a ledger.
+#[test]
+fn a_report_without_the_records_is_refused() {
+    for party in parties() {
+        let mut call = run(Mode::StreamToMemory, 64);
+        assert_eq!(lent_as(&mut call, "report").len(), 18);
+        *lent_as(&mut call, "report") = Lent::zeros(14);
+        check_refused(party.as_ref(), &call, BAD_SIZE);
+    }
+}
+
+/// A run that takes no step, on an image of the samples.
+fn run_with_ledger(image: &Image, length: usize, used: u32) -> Call {
+    Call::Run {
+        image: Lent::from(image.pack().to_vec()),
+        window: Lent::zeros(samples::LENGTH),
+        beats: Lent::zeros(0),
+        out: Lent::zeros(0),
+        ledger: Lent::from(vec![0x5E; length]),
+        used,
+        budget: 0,
+        report: Lent::zeros(REPORT_SIZE),
+    }
+}
+
+/// Lengths in bytes with the records that are said to be used, and what a run
+/// returns. Some numbers, times 12, are small again when only 32 bits are kept.
+const LEDGERS: [(usize, u32, u32); 22] = [
+    (0, 0, 0),
+    (12, 0, 0),
+    (12, 1, 0),
+    (24, 1, 0),
+    (1200, 100, 0),
+    (1, 0, BAD_LEDGER),
+    (2, 0, BAD_LEDGER),
+    (6, 0, BAD_LEDGER),
+    (11, 0, BAD_LEDGER),
+    (13, 0, BAD_LEDGER),
+    (13, 1, BAD_LEDGER),
+    (1199, 2, BAD_LEDGER),
+    (0, 1, BAD_LEDGER),
+    (12, 2, BAD_LEDGER),
+    (1200, 101, BAD_LEDGER),
+    (11, 1, BAD_LEDGER),
+    (0, u32::MAX, BAD_LEDGER),
+    (1200, u32::MAX, BAD_LEDGER),
+    (0, 1 << 30, BAD_LEDGER),
+    (12, (1 << 30) + 1, BAD_LEDGER),
+    (12, 357_913_942, BAD_LEDGER),
+    (1200, 1 << 16, BAD_LEDGER),
+];
+
+/// "BadLedger for a length not a multiple of 12 or fewer records than are said to
+/// be used": in every mode and phase, also where no record can be made.
+#[test]
+fn ledgers_are_looked_at_in_every_mode_and_phase() {
+    for party in parties() {
+        for (mode, phase) in Mode::ALL.iter().flat_map(|&m| Phase::ALL.map(|p| (m, p))) {
+            let image = samples::image(mode, phase);
+            if !Paper.broken_rules(&image).is_empty() {
+                continue;
+            }
+            for (length, used, number) in LEDGERS {
+                let call = run_with_ledger(&image, length, used);
+                if number != 0 {
+                    check_refused(party.as_ref(), &call, number);
+                    continue;
+                }
+                let answer = ask(party.as_ref(), &call);
+                assert_eq!(answer.returned, 0, "{} on\n{call}", party.name());
+            }
+        }
+    }
+}
+
+/// A run with everything wrong at once, put right refusal by refusal: "First that
+/// applies: 7, 8, 9, 19, 4".
+#[test]
+fn the_refusals_of_a_run_come_in_their_order() {
+    let right = run(Mode::StreamToMemory, 64);
+    for party in parties() {
+        let mut call = right.clone();
+        *lent_as(&mut call, "report") = Lent::zeros(17);
+        lent_as(&mut call, "image")[0] = 0xFF;
+        *lent_as(&mut call, "out") = Lent::zeros(5);
+        *lent_as(&mut call, "ledger") = Lent::zeros(25);
+        *lent_as(&mut call, "window") = Lent::zeros(65);
+        for (number, name) in [
+            (BAD_SIZE, "report"),
+            (BAD_IMAGE, "image"),
+            (ODD_STREAM, "out"),
+            (BAD_LEDGER, "ledger"),
+            (OTHER_WINDOW, "window"),
+        ] {
+            check_refused(party.as_ref(), &call, number);
+            *lent_as(&mut call, name) = lent_as(&mut right.clone(), name).clone();
+        }
+        assert!(call == right);
+        assert_eq!(ask(party.as_ref(), &call).returned, 0);
+    }
+}
+
 /// An empty window holds no descriptor: fault 11, with no stream lent either.
 #[test]
 fn an_empty_window_runs_into_a_fault() {
@@ -199,6 +310,8 @@ fn an_empty_window_runs_into_a_fault() {
             window: Lent::zeros(0),
             beats: Lent::zeros(0),
             out: Lent::zeros(0),
+            ledger: Lent::zeros(0),
+            used: 0,
             budget: u32::MAX,
             report: Lent::zeros(REPORT_SIZE),
         };
@@ -207,7 +320,8 @@ fn an_empty_window_runs_into_a_fault() {
             unreachable!("a call stays what it is");
         };
         assert_eq!(answer.returned, 0, "{}", party.name());
-        assert_eq!(*report, [0, 3, 0, 0, 0, 2, 0, 0, 0, 0, 0, 0, 0, 0]);
+        assert_eq!(report[..6], [0, 3, 0, 0, 0, 2]);
+        assert_eq!(report[6..], [0; 12]);
         assert_eq!(image[1] & 0x1F, 11);
     }
 }

@@ -2,7 +2,7 @@
 -- Assumes nothing.
 use Prim.Native.Nat.{ℕ}
 use Rattle.bus.specs.declared.Refusal.{Refusal}
-use Rattle.bus.specs.declared.Refusal.the-variants.{NoRegister, BadMode, BadWindow, OtherWindow, Misaligned, Outside, BadSize, BadImage, OddStream}
+use Rattle.bus.specs.declared.Refusal.the-variants.{NoRegister, BadMode, BadWindow, OtherWindow, Misaligned, Outside, BadSize, BadImage, OddStream, BadLedger}
 
 abbrev pub refusalNumber : Refusal → ℕ
 refusalNumber NoRegister = 1
@@ -14,3 +14,4 @@ refusalNumber Outside = 6
 refusalNumber BadSize = 7
 refusalNumber BadImage = 8
 refusalNumber OddStream = 9
+refusalNumber BadLedger = 19

@@ -15,6 +15,7 @@ pub enum Refusal {
     BadSize,
     BadImage,
     OddStream,
+    BadLedger,
 }
 
 impl Refusal {
@@ -32,6 +33,7 @@ impl Refusal {
             Refusal::BadSize => 7,
             Refusal::BadImage => 8,
             Refusal::OddStream => 9,
+            Refusal::BadLedger => 19,
         }
     }
 }

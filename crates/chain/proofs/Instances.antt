@@ -67,6 +67,7 @@ known-meets =
       inside = (refl, (refl, tt));
       apart = ((λ i a j b. omega arith, tt), (tt, tt));
       stream = (refl, tt);
+      ledger = omega arith;
       lands = (refl, (refl, (refl, (refl, tt))));
       outside = (known-off 4224 (omega arith), (known-off 4225 (omega arith), (known-off 4226 (omega arith), (known-off 4227 (omega arith), tt))));
     }
@@ -118,6 +119,7 @@ three-meets =
         ((λ i a j b. omega arith, (λ i a j b. omega arith, tt)), ((λ i a j b. omega arith, tt), (tt, tt))),
       );
       stream = (refl, (refl, (refl, tt)));
+      ledger = omega arith;
       lands = (refl, (refl, (refl, (refl, (refl, (refl, (refl, (refl, tt))))))));
       outside = (
         three-off 4224 (omega arith),

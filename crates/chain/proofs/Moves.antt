@@ -17,7 +17,7 @@ use Rattle.machine.specs.declared.Phase.the-variants.{Move, WriteBack}
 use Rattle.machine.specs.State.{withPhase}
 use Rattle.machine.specs.Step.{World, received, whole, destinationOf}
 use Rattle.machine.specs.Laws.{Along, here, more}
-use Rattle.chain.specs.Chain.{All, takes, enough, Sent, sentFrom, gathered}
+use Rattle.chain.specs.Chain.{All, takes, enough, Sent, sentFrom, gathered, endsPacket}
 use Rattle.chain.proofs.Memory.{writes}
 use Rattle.chain.proofs.Rules.{Set, receivedWorld, withBeat, goesTo, move-step}
 
@@ -70,6 +70,10 @@ worked-moved k (b ∷ t) = worked-moved (withBeat b k) t ∙ omega arith
 pub worked-errors : (k : Work) (t : List ℕ) → worked k t .errors ≡ gathered (k .errors) t
 worked-errors k [] = refl
 worked-errors k (b ∷ t) = worked-errors (withBeat b k) t
+
+pub worked-eop : (k : Work) (t : List ℕ) → worked k t .eop ≡ endsPacket (k .eop) t
+worked-eop k [] = refl
+worked-eop k (b ∷ t) = worked-eop (withBeat b k) t
 
 abbrev pub sentOf : Work → List ℕ → List Sent
 sentOf k t = sentFrom (writeFixed (k .control .0)) (k .destination) (k .moved) t

@@ -1,6 +1,6 @@
 -- The chain theorem of the calls that a user makes.
 -- Assumes nothing.
-use Prim.Native.Nat.{ℕ, _+_, _%_, _^_, _≤_, _<_}
+use Prim.Native.Nat.{ℕ, _+_, _*_, _%_, _^_, _≤_, _<_}
 use mathlib.Core.Path.{_≡_, refl, sym, ap, subst, subst⁻¹, _∙_}
 use mathlib.Core.Bool.{Bool, true, false, cond, Bool·beq, and-false}
 use mathlib.Core.List.{List, [], _∷_}
@@ -8,10 +8,13 @@ use native.Mathlib.Omega.{arith}
 use lib.ListN.{length}
 use borrow.Author.Tests.{eq-eqb, eqb-true, le-leb, lt-ltb}
 use Rattle.words.specs.Bits.{bit}
+use Rattle.words.specs.Slices.{put}
 use Rattle.bus.specs.declared.Window.{Window}
 use Rattle.bus.specs.declared.Refusal.the-variants.{BadImage}
 use Rattle.bus.specs.Window.{keepsLimits}
 use Rattle.regs.specs.declared.Mode.the-variants.{StreamToMemory}
+use Rattle.ledger.specs.declared.Entry.{Entry}
+use Rattle.ledger.specs.Records.{ledgerBytes, isLedger}
 use Rattle.image.specs.declared.Fields.{Fields}
 use Rattle.image.specs.Rules.{keepsRules, lowestBroken}
 use Rattle.image.proofs.EachRule.{each-rule, each-keeps}
@@ -23,11 +26,11 @@ use Rattle.machine.specs.State.{withPointer, withControl, fresh}
 use Rattle.machine.specs.Saved.{fieldsOf, keeps}
 use Rattle.machine.specs.Registers.{stored, controlWritten, writeOf, WasWritten}
 use Rattle.machine.specs.Step.{World}
-use Rattle.machine.specs.Run.{run, even, Lent, serves, lentOf, worldOf, ranAs, runAnswer, windowAfter, outAfter, outputOver}
+use Rattle.machine.specs.Run.{run, even, Lent, serves, lentOf, worldOf, ranAs, runAnswer, windowAfter, outAfter, ledgerAfter, outputOver, ledgerOver}
 use Rattle.machine.proofs.Writes.{write-runs}
 use Rattle.chain.specs.Chain.{Given, machineFor, worldFor, shares, cost, Premises, FirstFew, Outcome}
 use Rattle.chain.specs.Calls.{givenBy, Called, Finished}
-use Rattle.chain.proofs.Theorem.{chain-theorem, chain-at-every-step}
+use Rattle.chain.proofs.Theorem.{chain-theorem, chain-records, chain-at-every-step}
 
 -- a write that is done was made of a machine that keeps the rules
 wrote-pointer : (m n : Machine) (v : ℕ) → wrote.Done n ≡ writeOf m 8 v → (keeps m ≡ true) × (n ≡ withPointer v m)
@@ -99,10 +102,10 @@ module _ (window : Window) (h : keepsLimits (window .base) (window .length) ≡ 
   control-done pointer control p = p .answer ∙ rw (rest-keeps pointer 0 false 0 (omega arith) (omega arith))
 
 -- what is lent serves it
-serve : (m : Machine) (window beats out : List ℕ) → keeps m ≡ true → even beats ≡ true → even out ≡ true → length window ≡ m .window .length
-    → lentOf m window beats out ≡ serves
+serve : (m : Machine) (window beats out ledger : List ℕ) (used : ℕ) → keeps m ≡ true → even beats ≡ true → even out ≡ true
+    → isLedger (length ledger) used ≡ true → length window ≡ m .window .length → lentOf m window beats out ledger used ≡ serves
 unfolding lentOf
-serve m window beats out k e f l = rw (k, e, f, eq-eqb (length window) (m .window .length) l)
+serve m window beats out ledger used k e f d l = rw (k, e, f, d, eq-eqb (length window) (m .window .length) l)
 
 -- no byte is put where nothing is made
 nothing-made : (v : World) (out : List ℕ) → length (v .output) ≡ 0 → outputOver v out ≡ out
@@ -112,10 +115,10 @@ nothing-made v out e = by (v .output) refl e
     by [] f z = rw f
     by (x ∷ xs) f z = absurd (omega arith)
 
-module _ {window : Window} {pointer control : ℕ} {memory beats out : List ℕ} {budget : ℕ} {r : RunAnswer} {memory' out' : List ℕ} (k : ℕ)
-    (c : Called window pointer control memory beats out budget r memory' out') (h : Premises (givenBy window pointer control k memory beats out)) where
+module _ {window : Window} {pointer control : ℕ} {memory beats out ledger : List ℕ} {used budget : ℕ} {r : RunAnswer} {memory' out' ledger' : List ℕ} (k : ℕ)
+    (c : Called window pointer control memory beats out ledger used budget r memory' out' ledger') (h : Premises (givenBy window pointer control k memory beats out ledger used)) where
   abbrev g : Given
-  g = givenBy window pointer control k memory beats out
+  g = givenBy window pointer control k memory beats out ledger used
 
   m1-is : c .m1 ≡ withPointer pointer (fresh StreamToMemory window)
   m1-is = wrote-pointer (c .m0) (c .m1) pointer (c .pointed .answer) .1 ∙ ap (withPointer pointer) (c .made .value)
@@ -131,32 +134,35 @@ module _ {window : Window} {pointer control : ℕ} {memory beats out : List ℕ}
   m2-stored : c .m2 ≡ stored control (withPointer pointer (fresh StreamToMemory window))
   m2-stored = m2-is ∙ write-runs control (withPointer pointer (fresh StreamToMemory window)) (and-false (bit 16 control)) (h .run-set)
 
-  pub served : lentOf (c .m2) memory beats out ≡ serves
+  pub served : lentOf (c .m2) memory beats out ledger used ≡ serves
   served =
-      serve (c .m2) memory beats out (subst⁻¹ (λ (m : Machine). keeps m ≡ true) m2-stored
+      serve (c .m2) memory beats out ledger used (subst⁻¹ (λ (m : Machine). keeps m ≡ true) m2-stored
       (rest-keeps window limits pointer (control % 2 ^ 18) _ _ (omega arith) (let z = cond-same (bit 5 control) in omega arith)))
-      (c .even-beats) (c .even-out) (h .lent ∙ sym (ap (λ (m : Machine). m .window .length) m2-stored))
+      (c .even-beats) (c .even-out) (c .is-ledger) (h .lent ∙ sym (ap (λ (m : Machine). m .window .length) m2-stored))
 
   pub ends-as : memory' ≡ run budget (worldFor g) .world .memory
   ends-as =
-      c .ran .window-after ∙ ap (λ (l : Lent). windowAfter l (run budget (worldOf (c .m2) memory beats out) .world) memory) served
-      ∙ ap (λ (m : Machine). run budget (worldOf m memory beats out) .world .memory) m2-is
+      c .ran .window-after ∙ ap (λ (l : Lent). windowAfter l (run budget (worldOf (c .m2) memory beats out ledger used) .world) memory) served
+      ∙ ap (λ (m : Machine). run budget (worldOf m memory beats out ledger used) .world .memory) m2-is
 
   -- With budget enough the run is done, and this is its outcome.
-  pub chain-of-run : 2 + cost (shares (givenBy window pointer control k memory beats out)) ≤ budget
-      → Finished (givenBy window pointer control k memory beats out) r memory' out out'
+  pub chain-of-run : 2 + cost (shares (givenBy window pointer control k memory beats out ledger used)) ≤ budget
+      → Finished (givenBy window pointer control k memory beats out ledger used) r memory' out out' ledger ledger'
   chain-of-run b =
-      let o : Outcome g (ranAs (worldFor g) (run budget (worldFor g))) (run budget (worldFor g) .world .memory) = chain-theorem g h budget b in
+      let o : Outcome g (ranAs used (worldFor g) (run budget (worldFor g))) (run budget (worldFor g) .world .memory) = chain-theorem g h budget b in
       record {
-        told = ranAs (worldFor g) (run budget (worldFor g));
-        answer = c .ran .answer ∙ ap (λ (l : Lent). runAnswer l (worldOf (c .m2) memory beats out) budget) served
-            ∙ ap (λ (m : Machine). runAnswer serves (worldOf m memory beats out) budget) m2-is;
-        outcome = subst⁻¹ (Outcome g (ranAs (worldFor g) (run budget (worldFor g)))) ends-as o;
-        output = c .ran .out-after ∙ ap (λ (l : Lent). outAfter l (run budget (worldOf (c .m2) memory beats out) .world) out) served
-            ∙ ap (λ (m : Machine). outputOver (run budget (worldOf m memory beats out) .world) out) m2-is
+        told = ranAs used (worldFor g) (run budget (worldFor g));
+        answer = c .ran .answer ∙ ap (λ (l : Lent). runAnswer used l (worldOf (c .m2) memory beats out ledger used) budget) served
+            ∙ ap (λ (m : Machine). runAnswer used serves (worldOf m memory beats out ledger used) budget) m2-is;
+        outcome = subst⁻¹ (Outcome g (ranAs used (worldFor g) (run budget (worldFor g)))) ends-as o;
+        output = c .ran .out-after ∙ ap (λ (l : Lent). outAfter l (run budget (worldOf (c .m2) memory beats out ledger used) .world) out) served
+            ∙ ap (λ (m : Machine). outputOver (run budget (worldOf m memory beats out ledger used) .world) out) m2-is
             ∙ nothing-made (run budget (worldFor g) .world) out (o .made);
+        ledger-after = c .ran .ledger-after ∙ ap (λ (l : Lent). ledgerAfter l (run budget (worldOf (c .m2) memory beats out ledger used) .world) ledger used) served
+            ∙ ap (λ (m : Machine). ledgerOver (run budget (worldOf m memory beats out ledger used) .world) ledger used) m2-is
+            ∙ ap (λ (rs : List Entry). put ledger (12 * used) (ledgerBytes rs)) (chain-records g h budget b);
       }
 
   -- With any budget those marked done are the first few.
-  pub chain-of-run-at-every-step : FirstFew window memory (shares (givenBy window pointer control k memory beats out)) memory'
+  pub chain-of-run-at-every-step : FirstFew window memory (shares (givenBy window pointer control k memory beats out ledger used)) memory'
   chain-of-run-at-every-step = subst⁻¹ (FirstFew window memory (shares g)) ends-as (chain-at-every-step g h .first-few budget)

@@ -1,9 +1,10 @@
 -- The step rule where the chain meets it, phase by phase, in stream-to-memory mode.
 -- Assumes nothing.
-use Prim.Native.Nat.{ℕ, _+_, _%_}
-use mathlib.Core.Path.{_≡_, sym, ap, subst, _∙_}
+use Prim.Native.Nat.{ℕ, zero, suc, _+_, _-_, _%_, _<_}
+use mathlib.Core.Path.{_≡_, refl, sym, ap, subst, _∙_}
 use mathlib.Core.Bool.{true, false, cond, _&&_, _||_, and-false}
-use mathlib.Core.List.{List, _∷_}
+use mathlib.Core.List.{List, [], _∷_, _++_}
+use native.Mathlib.Omega.{arith}
 use lib.Dec.{eqb}
 use lib.ListN.{set}
 use borrow.Author.Tests.{eq-eqb}
@@ -21,7 +22,7 @@ use Rattle.machine.specs.declared.Work.{Work}
 use Rattle.machine.specs.declared.Phase.{Phase}
 use Rattle.machine.specs.declared.Phase.the-variants.{Rest, Fetch, Move, WriteBack}
 use Rattle.machine.specs.State.{remade, withPointer, withPhase, withBusy}
-use Rattle.machine.specs.Step.{World, taken, became, stored, received, restStep, ended, wantsLength, begun, fetched, fetchStep, whole, destinationOf, withByte, onward, receiveFrom, moveStep, writtenControl, writtenBack, completed, writeBackStep, stepIn, step}
+use Rattle.machine.specs.Step.{World, taken, became, stored, received, noted, entryFor, backTo, restStep, ended, wantsLength, begun, fetched, fetchStep, whole, destinationOf, withByte, onward, receiveFrom, moveStep, writtenControl, writtenBack, completed, writeBackStep, stepIn, step}
 use Rattle.chain.specs.Chain.{Link, linkAt}
 
 -- the machine runs, in this mode, and neither parks nor stops on errors
@@ -96,13 +97,26 @@ move-step w k b bs q p c i h g =
 -- ---- WriteBack
 
 -- the last four bytes are written
-abbrev pub markedWorld : World → Work → World
-markedWorld w k =
+abbrev markedBy : World → Work → (left : ℕ) → World
+markedBy w k left =
     let m = w .machine in
     let n = completed (w .machine) k in
-    stored w (remade (n .status) (m .control) (m .pointer) Fetch (n .pending) (n .count) m)
-    (putAt (w .memory) (placeOf (m .window) (k .at) + 28) (lastFour (k .moved) (k .errors) (k .control .0 % 128)))
+    noted
+    (stored w (remade (n .status) (m .control) (m .pointer) Fetch (n .pending) (n .count) m)
+    (putAt (w .memory) (placeOf (m .window) (k .at) + 28) (lastFour (k .moved) (k .errors) (k .control .0 % 128))))
+    (w .records ++ entryFor m k ∷ []) left
 
-pub write-step : (w : World) (k : Work) → w .machine .phase ≡ WriteBack k → Set (w .machine) → step w ≡ taken (markedWorld w k)
-unfolding step writeBackStep writtenBack writtenControl completed
-write-step w k p c = ap (λ (x : Phase). stepIn x w) p ∙ simp (c .runs, c .unparked, c .unstopped, and-false)
+abbrev pub markedWorld : World → Work → World
+markedWorld w k = markedBy w k (w .left - 1)
+
+write-by : (w : World) (k : Work) → Set (w .machine) → (left : ℕ) → w .left ≡ left → 0 < left → backTo w k left ≡ taken (markedWorld w k)
+unfolding writtenBack writtenControl completed
+write-by w k c zero l h = absurd (omega arith)
+write-by w k c (suc left) l h =
+    let one : left ≡ w .left - 1 = omega (arith, l) in
+    let back : backTo w k (suc left) ≡ taken (markedBy w k left) = simp (c .runs, c .unparked, c .unstopped, and-false) in
+    back ∙ ap (λ (n : ℕ). taken (markedBy w k n)) one
+
+pub write-step : (w : World) (k : Work) → w .machine .phase ≡ WriteBack k → Set (w .machine) → 0 < w .left → step w ≡ taken (markedWorld w k)
+unfolding step writeBackStep
+write-step w k p c h = ap (λ (x : Phase). stepIn x w) p ∙ write-by w k c (w .left) refl h

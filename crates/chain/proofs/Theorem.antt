@@ -1,6 +1,6 @@
 -- Demand 3: the chain theorem.
 -- Assumes nothing.
-use Prim.Native.Nat.{ℕ, suc, _+_, _-_, _/_, _%_, _≤_}
+use Prim.Native.Nat.{ℕ, zero, suc, _+_, _-_, _/_, _%_, _≤_}
 use mathlib.Core.Path.{_≡_, refl, sym, ap, ap₂, subst, subst⁻¹, _∙_}
 use mathlib.Core.Logic.{_≢_}
 use mathlib.Core.Bool.{true, and-false}
@@ -21,7 +21,7 @@ use Rattle.machine.specs.Run.{Report, run, takenSince, ranAs}
 use Rattle.machine.specs.Laws.{Along, more}
 use Rattle.machine.proofs.Writes.{write-runs}
 use Rattle.machine.proofs.RunLaws.{along-first, along-map, run-to-end, run-short, run-on-way}
-use Rattle.chain.specs.Chain.{All, Given, worldFor, Link, links, last, everyLink, sharesOf, shares, given, cost, Sent, sent, Off, Premises, Done, FirstFew, AtEveryStep, counts, Outcome}
+use Rattle.chain.specs.Chain.{All, Given, worldFor, Link, linksFrom, links, last, everyLink, sharesOf, shares, given, cost, recordsOf, Sent, sent, Off, Premises, Done, FirstFew, AtEveryStep, counts, Outcome}
 use Rattle.chain.proofs.Lists.{all-map, all-left, all-right, all-shares}
 use Rattle.chain.proofs.Memory.{Placed, placed, lastAt, lastAt-none, lastAt-last}
 use Rattle.chain.proofs.Links.{chain-is, all-bytes, links-short}
@@ -44,20 +44,28 @@ counts-given : (w : Window) (m : List ℕ) (ls : List Link) (bs : List ℕ) → 
 counts-given w m [] bs a = refl
 counts-given w m (l ∷ ls) bs a = ap₂ _+_ (a .0 .count) (counts-given w m ls _ (a .1))
 
+length-links : (w : Window) (m : List ℕ) (a n : ℕ) → length (linksFrom w m a n) ≡ n
+length-links w m a zero = refl
+length-links w m a (suc n) = ap suc (length-links w m _ n)
+
+length-records : (ls : List Link) (bs : List ℕ) → length (recordsOf (sharesOf ls bs)) ≡ length ls
+length-records [] bs = refl
+length-records (l ∷ ls) bs = ap suc (length-records ls _)
+
 module _ (g : Given) (h : Premises g) where
   -- the machine after the two writes, and after the step out of Rest
   abbrev m0 : Machine
   m0 = stored (g .control) (withPointer (g .pointer) (fresh StreamToMemory (g .window)))
 
   abbrev w0 : World
-  w0 = opened m0 (g .memory) (g .beats) (g .room)
+  w0 = opened m0 (g .memory) (g .beats) (g .room) (g .left)
 
   abbrev w1 : World
   w1 = became w0 (withPhase Fetch (withBusy true m0))
 
   starts : worldFor g ≡ w0
   starts =
-      ap (λ (m : Machine). opened m (g .memory) (g .beats) (g .room))
+      ap (λ (m : Machine). opened m (g .memory) (g .beats) (g .room) (g .left))
       (write-runs (g .control) (withPointer (g .pointer) (fresh StreamToMemory (g .window))) (and-false (bit 16 (g .control))) (h .run-set))
 
   ready : Ready w1 (links g) (last g)
@@ -78,6 +86,7 @@ module _ (g : Given) (h : Premises g) where
         inside = h .inside;
         apart = h .apart;
         stream = h .stream;
+        ledger = rw (length-links (g .window) (g .memory) (g .pointer) (g .k)) (h .ledger);
         lands = h .lands;
         outside = h .outside;
       }
@@ -118,7 +127,7 @@ module _ (g : Given) (h : Premises g) where
       ∙ ap (λ (x : List Sent). lastAt (s .to) x (getD (g .memory) p 0)) e
       ∙ lastAt-last s before after (getD (g .memory) p 0) a
 
-  outcome : Outcome g (ranAs w0 report) (walked .last .memory)
+  outcome : Outcome g (ranAs (g .used) w0 report) (walked .last .memory)
   outcome =
       let given-taken : takenSince w0 (walked .last) ≡ given (shares g) = omega (arith, walked .taken) in
       record {
@@ -131,12 +140,19 @@ module _ (g : Given) (h : Premises g) where
         size = walked .size;
         taken = given-taken;
         made = ap length (walked .made);
+        used = ap (λ (n : ℕ). g .used + n) (ap length (walked .records) ∙ length-records (links g) (g .beats) ∙ length-links (g .window) (g .memory) (g .pointer) (g .k));
         pointer = walked .pointer;
       }
 
   -- With budget enough: for every budget at least that number.
   pub chain-theorem : (budget : ℕ) → 2 + cost (shares g) ≤ budget
-      → Outcome g (ranAs (worldFor g) (run budget (worldFor g))) (run budget (worldFor g) .world .memory)
+      → Outcome g (ranAs (g .used) (worldFor g) (run budget (worldFor g))) (run budget (worldFor g) .world .memory)
   chain-theorem budget k =
-      subst⁻¹ (λ (w : World). Outcome g (ranAs w (run budget w)) (run budget w .world .memory)) starts
-      (subst⁻¹ (λ (r : Report). Outcome g (ranAs w0 r) (r .world .memory)) (run-to-end way (walked .stops) budget k) outcome)
+      subst⁻¹ (λ (w : World). Outcome g (ranAs (g .used) w (run budget w)) (run budget w .world .memory)) starts
+      (subst⁻¹ (λ (r : Report). Outcome g (ranAs (g .used) w0 r) (r .world .memory)) (run-to-end way (walked .stops) budget k) outcome)
+
+  -- and the records made are those of the k, in order
+  pub chain-records : (budget : ℕ) → 2 + cost (shares g) ≤ budget → run budget (worldFor g) .world .records ≡ recordsOf (shares g)
+  chain-records budget k =
+      ap (λ (w : World). run budget w .world .records) starts
+      ∙ ap (λ (r : Report). r .world .records) (run-to-end way (walked .stops) budget k) ∙ walked .records

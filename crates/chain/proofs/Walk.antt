@@ -4,7 +4,7 @@ use Prim.Native.Nat.{ℕ, suc, _+_, _-_, _%_, _≤_, _<_}
 use mathlib.Core.Path.{_≡_, refl, sym, ap, subst, _∙_}
 use mathlib.Core.Logic.{_≢_}
 use mathlib.Core.Bool.{true}
-use mathlib.Core.List.{List, [], _∷_, _++_}
+use mathlib.Core.List.{List, [], _∷_, _++_, append-nil, append-assoc}
 use native.Mathlib.Omega.{arith}
 use lib.ListN.{length, getD, drop, length-drop}
 use Rattle.words.specs.Slices.{part, putAt}
@@ -15,6 +15,7 @@ use Rattle.descriptor.specs.Layout.{owned, lastFour}
 use Rattle.regs.specs.declared.Mode.{Mode}
 use Rattle.regs.specs.Modes.{modeNumber}
 use Rattle.image.specs.Rules.{asked}
+use Rattle.ledger.specs.declared.Entry.{Entry}
 use Rattle.machine.specs.declared.Work.{Work}
 use Rattle.machine.specs.declared.Phase.the-variants.{Fetch}
 use Rattle.machine.specs.declared.Reason.the-variants.{Ended}
@@ -22,12 +23,12 @@ use Rattle.machine.specs.Step.{World, taken, stopped, became, ended, begun, who
 use Rattle.machine.specs.Laws.{Along, here, more}
 use Rattle.machine.proofs.Puts.{length-put-at, put-off}
 use Rattle.machine.proofs.RunLaws.{join, along-map, along-last}
-use Rattle.chain.specs.Chain.{All, Pairwise, Link, linkAt, Off, Apart, wants, takes, Enough, Share, sharesOf, given, cost, gathered, Sent, sentBy, sentByAll, Done}
+use Rattle.chain.specs.Chain.{All, Pairwise, Link, linkAt, Off, Apart, wants, takes, Enough, Share, sharesOf, given, cost, gathered, recordOf, recordsOf, Sent, sentBy, sentByAll, Done}
 use Rattle.chain.proofs.Lists.{all-map, all-map2, all-left, all-right, all-drop, all-each, all-swap, all-shares}
 use Rattle.chain.proofs.Memory.{Placed, placed, part-ext, says-same, lastAt, last-writer, lastAt-append}
 use Rattle.chain.proofs.Links.{Chain, chain-same, chain-owned, wants-is, wants-some, wants-short}
 use Rattle.chain.proofs.Rules.{Set, fetchedWorld, fetch-step, end-step, markedWorld, write-step}
-use Rattle.chain.proofs.Moves.{Takes, takes-taken, takes-fit, worked, worked-at, worked-control, worked-moved, worked-errors, deliveredWorld, moves}
+use Rattle.chain.proofs.Moves.{Takes, takes-taken, takes-fit, worked, worked-at, worked-control, worked-moved, worked-errors, worked-eop, deliveredWorld, moves}
 use Rattle.chain.proofs.Blocks.{Same, OffBytes, OffFour, off-four, apart-sym, Kept, kept-none, kept-byte, kept-block, Inv, inv-block, done-by-four, done-stays, waits}
 
 -- ---- what holds at a Fetch, with the links ls and the last one e ahead
@@ -42,6 +43,7 @@ pub record Ready (w : World) (ls : List Link) (e : Link) : Type 0 where
   pub inside : All (λ l. inWindow (w .machine .window) (l .at) 32 ≡ true) (ls ++ e ∷ [])
   pub apart : Pairwise Apart (ls ++ e ∷ [])
   pub stream : Enough ls (w .input)
+  pub ledger : length ls ≤ w .left
   pub lands : All (λ s. inWindow (w .machine .window) (s .to) 1 ≡ true) (sentByAll (sharesOf ls (w .input)))
   pub outside : All (λ s. All (λ l. Off l (s .to)) (ls ++ e ∷ [])) (sentByAll (sharesOf ls (w .input)))
 
@@ -52,6 +54,7 @@ pub record Walked (w : World) (ls : List Link) (e : Link) : Type 0 where
   pub stops : step last ≡ stopped Ended
   pub taken : length (w .input) ≡ given (sharesOf ls (w .input)) + length (last .input)
   pub made : last .output ≡ w .output
+  pub records : last .records ≡ w .records ++ recordsOf (sharesOf ls (w .input))
   pub pointer : last .machine .pointer .0 ≡ e .at
   pub done : All (Done (w .machine .window) (last .memory)) (sharesOf ls (w .input))
   pub size : length (last .memory) ≡ length (w .memory)
@@ -69,6 +72,7 @@ walk-none w e r =
       stops = refl;
       taken = omega arith;
       made = refl;
+      records = sym (append-nil (w .records));
       pointer = sym (ap (λ (l : Link). l .at) (r .chain .0));
       done = tt;
       size = refl;
@@ -159,7 +163,7 @@ module _ (w : World) (l : Link) (ls : List Link) (e : Link) (r : Ready w (l ∷ 
   -- ---- the mark
 
   mark-step : step w1 ≡ taken w2
-  mark-step = write-step w1 k refl (r .set)
+  mark-step = write-step w1 k refl (r .set) (let h = r .ledger in omega arith)
 
   abbrev four : List ℕ
   four = lastFour (length t) (gathered 0 t) (l .says .control .0 % 128)
@@ -168,6 +172,11 @@ module _ (w : World) (l : Link) (ls : List Link) (e : Link) (r : Ready w (l ∷ 
   mark-is =
       let n : k .moved ≡ length t = worked-moved begins t ∙ omega arith in
       rw (worked-at begins t, n, worked-errors begins t, worked-control begins t)
+
+  mark-records : w2 .records ≡ w .records ++ recordOf share ∷ []
+  mark-records =
+      let n : k .moved ≡ length t = worked-moved begins t ∙ omega arith in
+      rw (worked-at begins t, n, worked-errors begins t, worked-eop begins t)
 
   mark-size : length (w2 .memory) ≡ length (w .memory)
   mark-size = ap length mark-is ∙ length-put-at (w1 .memory) _ _ ∙ kept .size
@@ -221,6 +230,7 @@ module _ (w : World) (l : Link) (ls : List Link) (e : Link) (r : Ready w (l ∷ 
         inside = r .inside .1;
         apart = r .apart .1;
         stream = r .stream .1;
+        ledger = (let h = r .ledger in omega arith);
         lands = all-right (λ s. inWindow (windowOf w) (s .to) 1 ≡ true) (sentBy share) (sentByAll others) (r .lands);
         outside = all-map (λ s a. a .1) (sentByAll others)
             (all-right (λ s. All (λ x. Off x (s .to)) (l ∷ ls ++ e ∷ [])) (sentBy share) (sentByAll others) (r .outside));
@@ -267,6 +277,7 @@ module _ (w : World) (l : Link) (ls : List Link) (e : Link) (r : Ready w (l ∷ 
         stops = z .stops;
         taken = (let f = takes-fit taking in omega (arith, z .taken, length-drop (length t) (w .input)));
         made = z .made;
+        records = z .records ∙ ap (λ (l : List Entry). l ++ recordsOf others) mark-records ∙ append-assoc (w .records) (recordOf share ∷ []) (recordsOf others);
         pointer = z .pointer;
         done = (stays-done (z .last .memory) (along-last (z .along)), z .done);
         size = z .size ∙ mark-size;

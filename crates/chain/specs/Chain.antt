@@ -17,6 +17,7 @@ use Rattle.descriptor.specs.declared.Descriptor.{Descriptor}
 use Rattle.descriptor.specs.Layout.{writeFixed, owned, descriptorAt, lastFour}
 use Rattle.regs.specs.declared.Mode.the-variants.{StreamToMemory}
 use Rattle.regs.specs.Control as register
+use Rattle.ledger.specs.declared.Entry.{Entry}
 use Rattle.flow.specs.Beats.{beatError, beatEop, beatData}
 use Rattle.machine.specs.declared.Machine.{Machine}
 use Rattle.machine.specs.declared.Reason.the-variants.{Ended, Budget}
@@ -37,8 +38,8 @@ Pairwise R (x ∷ xs) = All (R x) xs × Pairwise R xs
 
 -- ---- what is given
 
--- the window and its bytes; what is written to pointer and control; the beats lent, the room for output; how many owned
--- descriptors the chain has
+-- the window and its bytes; what is written to pointer and control; the beats lent, the room for output; the records used, and
+-- the room for more; how many owned descriptors the chain has
 pub record Given : Type 0 where
   pub window : Window
   pub memory : List ℕ
@@ -46,6 +47,8 @@ pub record Given : Type 0 where
   pub control : ℕ
   pub beats : List ℕ
   pub room : ℕ
+  pub used : ℕ
+  pub left : ℕ
   pub k : ℕ
 
 -- "a fresh machine in stream-to-memory mode, its pointer set, then" control written
@@ -54,7 +57,7 @@ machineFor g = controlWritten (g .control) (withPointer (g .pointer) (fresh Stre
 
 -- where the one run is made
 abbrev pub worldFor : Given → World
-worldFor g = opened (machineFor g) (g .memory) (g .beats) (g .room)
+worldFor g = opened (machineFor g) (g .memory) (g .beats) (g .room) (g .left)
 
 -- ---- the chain in memory
 
@@ -143,6 +146,20 @@ abbrev pub gathered : (errors : ℕ) → List ℕ → ℕ
 gathered errors [] = errors
 gathered errors (b ∷ bs) = gathered (bitOr errors (beatError b)) bs
 
+-- whether the last of the beats had EOP
+abbrev pub endsPacket : (before : Bool) → List ℕ → Bool
+endsPacket before [] = before
+endsPacket before (b ∷ bs) = endsPacket (beatEop b) bs
+
+-- the record of each. (The run number is order 4's; 0 until then)
+abbrev pub recordOf : Share → Entry
+recordOf s =
+    record { run = 0; at = s .link .at; actual = length (s .beats); status = gathered 0 (s .beats); eop = endsPacket false (s .beats) }
+
+abbrev pub recordsOf : List Share → List Entry
+recordsOf [] = []
+recordsOf (s ∷ ss) = recordOf s ∷ recordsOf ss
+
 -- ---- where each byte lands
 
 -- a byte on its way to an address
@@ -190,6 +207,8 @@ pub record Premises (g : Given) : Type 0 where
   pub apart : Pairwise Apart (everyLink g)
   -- "The stream holds every byte the chain will take"
   pub stream : Enough (links g) (g .beats)
+  -- "room for k records"
+  pub ledger : g .k ≤ g .left
   -- "and each lands in the window outside those descriptors"
   pub lands : All (λ s. inWindow (g .window) (s .to) 1 ≡ true) (sent g)
   pub outside : All (λ s. All (λ l. Off l (s .to)) (everyLink g)) (sent g)
@@ -248,4 +267,6 @@ pub record Outcome (g : Given) (ran : Ran) (memory : List ℕ) : Type 0 where
   -- the beats taken are those given, none is made, and the pointer is at the chain's end
   pub taken : ran .taken ≡ given (shares g)
   pub made : ran .made ≡ 0
+  -- one record more is used for each of the k
+  pub used : ran .used ≡ g .used + g .k
   pub pointer : ran .machine .pointer .0 ≡ last g .at

@@ -25,7 +25,7 @@ abbrev pub after : Given → List ℕ
 after g = run 100 (worldFor g) .world .memory
 
 abbrev pub told : Given → Ran
-told g = ranAs (worldFor g) (run 100 (worldFor g))
+told g = ranAs (g .used) (worldFor g) (run 100 (worldFor g))
 
 pub record InNumbers (g : Given) (steps taken pointer : ℕ) (fours : List There) (landed : List Sent) : Type 0 where
   pub meets : Premises g
@@ -51,6 +51,8 @@ known =
       control = 0x20;
       beats = 0x0011 ∷ 0x0022 ∷ 0x0033 ∷ 0x0044 ∷ [];
       room = 0;
+      used = 0;
+      left = 1;
       k = 1;
     }
 
@@ -67,5 +69,7 @@ three =
       control = 0x801102BF;
       beats = 0x0011 ∷ 0x0022 ∷ 0x0033 ∷ 0x0044 ∷ 0x0755 ∷ 0x0266 ∷ 0x0077 ∷ 0x0088 ∷ 0x0099 ∷ [];
       room = 7;
+      used = 5;
+      left = 3;
       k = 3;
     }

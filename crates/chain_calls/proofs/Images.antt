@@ -89,7 +89,7 @@ module _ {xs ys : List ℕ} {offset v r : ℕ} (b : LoadsBack xs) (bits : v < 2 
 -- a run over one, done or refused
 module _ {x : RunLent} {y : RunLeft} (b : LoadsBack (x .image)) (window : AllBytes (x .memory)) (beats : AllBytes (x .beats)) (p : Promised x y) where
   abbrev call : RunAnswer
-  call = runCall (x .image) (x .memory) (x .beats) (x .out) (x .budget) (x .report)
+  call = runCall (x .image) (x .memory) (x .beats) (x .out) (x .ledger) (x .used) (x .budget) (x .report)
 
   size : length (x .image) ≡ 44
   size = ap length (b .image) ∙ length-image (fieldsOf (b .machine))
@@ -97,20 +97,20 @@ module _ {x : RunLent} {y : RunLeft} (b : LoadsBack (x .image)) (window : AllByt
   refused-back : {why : Refusal} → call ≡ many.Refused why → LoadsBack (y .image)
   refused-back e = subst LoadsBack (sym (p .image-after ∙ ap (λ (a : RunAnswer). ranOver a (x .image)) e)) b
 
-  module _ (report-size : length (x .report) ≡ 14) where
+  module _ (report-size : length (x .report) ≡ 18) where
     run-back : (a : RunAnswer) → runAs x size report-size (b .loads) ≡ a → LoadsBack (y .image)
     run-back (many.Done r) e =
-        let h : HasRun (b .machine) (x .memory) (x .beats) (x .out) (x .budget) (many.Done r) (y .memory) (y .out) =
-        subst (λ (a : RunAnswer). HasRun (b .machine) (x .memory) (x .beats) (x .out) (x .budget) a (y .memory) (y .out)) e
+        let h : HasRun (b .machine) (x .memory) (x .beats) (x .out) (x .ledger) (x .used) (x .budget) (many.Done r) (y .memory) (y .out) (y .ledger) =
+        subst (λ (a : RunAnswer). HasRun (b .machine) (x .memory) (x .beats) (x .out) (x .ledger) (x .used) (x .budget) a (y .memory) (y .out) (y .ledger)) e
         (has-run x size report-size (b .loads) y p) in
         loads-back (met.ran (b .met) window beats h)
         (p .image-after ∙ ap (λ (a : RunAnswer). ranOver a (x .image)) (runs-as x size report-size (b .loads) ∙ e))
     run-back (many.Refused why) e = refused-back (runs-as x size report-size (b .loads) ∙ e)
 
-  by-report : (k : Bool) → isSize 14 (x .report) ≡ k → LoadsBack (y .image)
+  by-report : (k : Bool) → isSize 18 (x .report) ≡ k → LoadsBack (y .image)
   unfolding runCall
   by-report true e = run-back (eqb-true _ _ e) _ refl
-  by-report false e = refused-back (second-wrong _ _ 14 (x .image) (x .report) size (eqb-false _ _ e))
+  by-report false e = refused-back (second-wrong _ _ 18 (x .image) (x .report) size (eqb-false _ _ e))
 
 -- Every image in use loads back.
 pub images-load : {xs : List ℕ} → InUse xs → LoadsBack xs

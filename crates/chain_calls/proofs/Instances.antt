@@ -1,13 +1,13 @@
 -- Known run 1 through the C calls, in numbers. What is lent for it, and for the chain of three of crate chain, is well lent.
 -- Assumes nothing.
-use Prim.Native.Nat.{ℕ, zero, suc, _*_, _%_, _^_, _<_}
+use Prim.Native.Nat.{ℕ, zero, suc, _+_, _*_, _/_, _%_, _^_, _≤_, _<_}
 use mathlib.Core.Path.{_≡_, refl, _∙_}
 use mathlib.Core.Bool.{true}
 use mathlib.Core.List.{List, [], _∷_}
 use native.Mathlib.Nat.{mod-lt}
 use native.Mathlib.Omega.{arith}
 use lib.ListN.{length, replicate, length-replicate}
-use borrow.Author.Tests.{eq-eqb}
+use borrow.Author.Tests.{eq-eqb, le-leb}
 use Rattle.words.specs.Slices.{putAt, AllBytes}
 use Rattle.bus.specs.Window.{keepsLimits, inWindow}
 use Rattle.descriptor.specs.Layout.{bytesFor, descriptorAt}
@@ -19,6 +19,7 @@ use Rattle.flow.proofs.Streams.{length-beat-bytes}
 use Rattle.machine.specs.Saved.{fieldsOf}
 use Rattle.machine.specs.Registers.{controlWritten}
 use Rattle.machine.specs.Step.{restStep, fetched, fetchStep, sourceOf, destinationOf, onward, copyStep, beatFor, sendStep, writtenControl, writtenBack, completed, writeBackStep, step}
+use Rattle.ledger.specs.Records.{capacity, isLedger}
 use Rattle.machine.specs.Run.{run, even}
 use Rattle.chain.specs.Chain.{Given, machineFor, worldFor, Premises}
 use Rattle.chain.specs.Known.{known, three}
@@ -41,6 +42,9 @@ beat-bytes (b ∷ bs) = (mod-lt _ (omega arith), (mod-lt _ (omega arith), beat-b
 whole : (xs : List ℕ) (n : ℕ) → length xs ≡ 2 * n → even xs ≡ true
 whole xs n l = eq-eqb (length xs % 2) 0 (omega arith)
 
+whole-records : (xs : List ℕ) (n used : ℕ) → length xs ≡ 12 * n → used ≤ n → isLedger (length xs) used ≡ true
+whole-records xs n used l h = rw (eq-eqb (length xs % 12) 0 (omega arith), le-leb used (length xs / 12) (omega arith))
+
 -- within the limits and with registers of 32 bits all is well lent
 well-lent : (g : Given) → keepsLimits (g .window .base) (g .window .length) ≡ true → g .pointer < 2 ^ 32 → g .control < 2 ^ 32
     → WellLent (lends g)
@@ -50,6 +54,7 @@ well-lent g limits pointer control =
       report-size = refl;
       even-beats = whole (beatBytes (g .beats)) (length (g .beats)) (length-beat-bytes (g .beats));
       even-out = whole (replicate (2 * g .room) 0) (g .room) (length-replicate (2 * g .room) 0);
+      is-ledger = whole-records (replicate (12 * (g .used + g .left)) 0) (g .used + g .left) (g .used) (length-replicate (12 * (g .used + g .left)) 0) (omega arith);
       limits = limits;
       beat-bytes = beat-bytes (g .beats);
       pointer-bits = pointer;
@@ -57,15 +62,17 @@ well-lent g limits pointer control =
     }
 
 -- what the run is lent then is bytes
-pub in-bytes : (g : Given) → Premises g → InBytes (lentTo g)
-in-bytes g h =
+pub in-bytes : (g : Given) → Premises g → g .used < 2 ^ 32 → InBytes (lentTo g)
+in-bytes g h u =
     record {
       image = image-bytes (fieldsOf (machineFor g));
       memory = are-all-bytes (g .memory) (h .bytes);
       beats = beat-bytes (g .beats);
       out = zero-bytes (2 * g .room);
+      ledger = zero-bytes (12 * (g .used + g .left));
+      used = u;
       budget = omega arith;
-      report = zero-bytes 14;
+      report = zero-bytes 18;
     }
 
 pub known-lent : WellLent (lends known)
@@ -86,11 +93,11 @@ known-ends = (refl, refl)
 -- Known run 1 through the C calls: each gives back 0, and these bytes are left.
 pub known-run-1-in-c : {created pointed started : ℕ} {left : RunLeft} → Called (lends known) created pointed started left
     → NoneRefused created pointed started left × (left ≡ knownLeft)
-unfolding descriptorAt bytesFor
+unfolding descriptorAt bytesFor capacity
 known-run-1-in-c c =
     let p = run-is known-lent c in
     let f = chain-of-calls 1 c known-lent (known-run-1 .meets) (omega arith) in
     let n = none-refused 1 c known-lent (known-run-1 .meets) in
     let image = run-image 1 known-lent (known-run-1 .meets) p ∙ known-ends .0 in
     let memory = run-memory 1 known-lent (known-run-1 .meets) p ∙ known-ends .1 in
-    (n, λ i. record { number = n .run i; image = image i; memory = memory i; out = f .output i; report = f .report i })
+    (n, λ i. record { number = n .run i; image = image i; memory = memory i; out = f .output i; ledger = f .ledger i; report = f .report i })

@@ -13,6 +13,7 @@ use Rattle.image.proofs.RoundTrip.{length-image}
 use Rattle.machine.specs.declared.RunAnswer.{RunAnswer}
 use Rattle.machine.specs.declared.LoadedMachine.the-variants.{Good}
 use Rattle.machine.specs.Saved.{fieldsOf, WasLoaded}
+use Rattle.ledger.specs.Records.{capacity}
 use Rattle.machine.specs.Run.{Lent, serves, run, worldOf, runAnswer}
 use Rattle.machine.proofs.Answers.{was-loaded}
 use Rattle.machine.proofs.RunLaws.{run-tells}
@@ -29,28 +30,29 @@ use Rattle.chain_calls.proofs.Instances.{in-bytes, known-lent, three-le
 -- ---- the promise can be kept
 
 pub honest-keeps : Keeps honest
-honest-keeps x b = record { number = refl; image-after = refl; window-after = refl; out-after = refl; report-after = refl }
+honest-keeps x b = record { number = refl; image-after = refl; window-after = refl; out-after = refl; ledger-after = refl; report-after = refl }
 
 -- ---- what a model that keeps it makes of known run 1, and of the chain of three
 
 module _ (f : Model) (k : Keeps f) where
   known-found : Found known (lends known) (f (lentTo known))
-  unfolding descriptorAt bytesFor
-  known-found = run-finds 1 known-lent (known-run-1 .meets) (k (lentTo known) (in-bytes known (known-run-1 .meets))) (omega arith)
+  unfolding descriptorAt bytesFor capacity
+  known-found = run-finds 1 known-lent (known-run-1 .meets) (k (lentTo known) (in-bytes known (known-run-1 .meets) (omega arith))) (omega arith)
 
   three-found : Found three (lends three) (f (lentTo three))
-  unfolding descriptorAt bytesFor
-  three-found = run-finds 3 three-lent (chain-of-three .meets) (k (lentTo three) (in-bytes three (chain-of-three .meets))) (omega arith)
+  unfolding descriptorAt bytesFor capacity
+  three-found = run-finds 3 three-lent (chain-of-three .meets) (k (lentTo three) (in-bytes three (chain-of-three .meets) (omega arith))) (omega arith)
 
 -- ---- the models
 
 -- known run 1 gives back 0
 pub refuser-fails : (f : Model) → RefusesEverything f → Keeps f → ⊥
-refuser-fails f r k = r (lentTo known) (run-not-refused 1 known-lent (known-run-1 .meets) (k (lentTo known) (in-bytes known (known-run-1 .meets))))
+unfolding capacity
+refuser-fails f r k = r (lentTo known) (run-not-refused 1 known-lent (known-run-1 .meets) (k (lentTo known) (in-bytes known (known-run-1 .meets) (omega arith))))
 
 -- known run 1 takes 8 steps, and the chain of three 16
 pub fixed-fails : (f : Model) → OneFixedAnswer f → Keeps f → ⊥
-unfolding descriptorAt bytesFor
+unfolding descriptorAt bytesFor capacity
 fixed-fails f e k =
     let same = e (lentTo known) (lentTo three) in
     let z : _≡_ {A = ℕ} 8 16 = ap (λ (r : List ℕ). getD r 5 0) (sym (known-found f k .report) ∙ same ∙ three-found f k .report) in
@@ -58,7 +60,7 @@ fixed-fails f e k =
 
 -- in known run 1 the byte 0x11 lands at place 128, where 0 was
 pub never-moving-fails : (f : Model) → NeverMoves f → Keeps f → ⊥
-unfolding descriptorAt bytesFor
+unfolding descriptorAt bytesFor capacity
 never-moving-fails f n k =
     let landed : getD (f (lentTo known) .memory) 128 0 ≡ 0x11 = landed-nth (known-found f k .outcome) 0 (omega arith) refl in
     let z : _≡_ {A = ℕ} 0x11 0 = sym landed ∙ ap (λ (m : List ℕ). getD m 128 0) (n (lentTo known)) in
@@ -66,7 +68,7 @@ never-moving-fails f n k =
 
 -- in the chain of three the second descriptor's byte 0x55 lands at place 131, where 0 was
 pub marker-fails : (f : Model) → OnlyMarksTheOthers f → Keeps f → ⊥
-unfolding descriptorAt bytesFor
+unfolding descriptorAt bytesFor capacity
 marker-fails f o k =
     let landed : getD (f (lentTo three) .memory) 131 0 ≡ 0x55 = landed-nth (three-found f k .outcome) 4 (omega arith) refl in
     let kept = o (lends three) 3 three-lent (chain-of-three .meets) 131
@@ -79,13 +81,13 @@ marker-fails f o k =
 pub made-up-fails : (f : Model) → MakesUpSteps f → Keeps f → ⊥
 made-up-fails f u k =
     let x = u .lent in
-    let w = worldOf (u .machine) (x .memory) (x .beats) (x .out) in
+    let w = worldOf (u .machine) (x .memory) (x .beats) (x .out) (x .ledger) (x .used) in
     let l : WasLoaded (x .image) (Good (u .machine)) = was-loaded (sym (u .loads)) in
     let size : length (x .image) ≡ 44 =
     ap length (loads-exactly (x .image) (u .machine) (u .bytes .image) (loaded-typed l) .0 l .1) ∙ length-image (fieldsOf (u .machine)) in
-    let answer : runCall (x .image) (x .memory) (x .beats) (x .out) (x .budget) (x .report) ≡ runAnswer serves w (x .budget) =
-    runs-as x size (u .report-size) (u .loads) ∙ ap (λ (s : Lent). runAnswer s w (x .budget)) (u .not-refused) in
-    let told : stepsTold (f x .report) ≡ stepsTold (reportOver (runAnswer serves w (x .budget)) (x .report)) =
+    let answer : runCall (x .image) (x .memory) (x .beats) (x .out) (x .ledger) (x .used) (x .budget) (x .report) ≡ runAnswer (x .used) serves w (x .budget) =
+    runs-as x size (u .report-size) (u .loads) ∙ ap (λ (s : Lent). runAnswer (x .used) s w (x .budget)) (u .not-refused) in
+    let told : stepsTold (f x .report) ≡ stepsTold (reportOver (runAnswer (x .used) serves w (x .budget)) (x .report)) =
     ap stepsTold (k x (u .bytes) .report-after ∙ ap (λ (a : RunAnswer). reportOver a (x .report)) answer) in
     let steps = run (x .budget) w .steps in
     let fits : steps < 4294967296 = omega (arith, run-tells (x .budget) w .within, u .bytes .budget) in

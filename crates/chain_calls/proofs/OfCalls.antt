@@ -33,7 +33,7 @@ use Rattle.chain.specs.Calls.{Finished}
 use Rattle.chain.specs.Calls as methods
 use Rattle.chain.proofs.Theorem.{chain-at-every-step}
 use Rattle.chain.proofs.OfRun.{pointer-done, control-done, served, ends-as, chain-of-run, chain-of-run-at-every-step}
-use Rattle.sgdma.specs.Calls.{imageOf, createNumber, ifDone, writtenIn, writtenOver, RegisterWritten, runIn, runCall, windowIn, outIn, ranOver, reportOver}
+use Rattle.sgdma.specs.Calls.{imageOf, createNumber, ifDone, writtenIn, writtenOver, RegisterWritten, runIn, runCall, windowIn, outIn, ledgerIn, ranOver, reportOver}
 use Rattle.sgdma.proofs.Opened.{sizes-right}
 use Rattle.chain_calls.specs.InC.{RunLent, RunLeft, Promised, Lends, WellLent, givenIn, runLent, Called, NoneRefused, Found, FoundAtEveryStep}
 
@@ -56,25 +56,27 @@ written-over {xs} {ys} {m} {n} {offset} {v} e d w =
     (w .number ∙ ap wroteNumber a, w .image-after ∙ ap (λ (x : WroteRegister). writtenOver x xs) a)
 
 -- a run over an image that loads is the machine's run
-module _ (x : RunLent) {m : Machine} (size : length (x .image) ≡ 44) (report-size : length (x .report) ≡ 14) (e : loadOf (x .image) ≡ Good m) where
+module _ (x : RunLent) {m : Machine} (size : length (x .image) ≡ 44) (report-size : length (x .report) ≡ 18) (e : loadOf (x .image) ≡ Good m) where
   abbrev pub runAs : RunAnswer
-  runAs = runAnswer (lentOf m (x .memory) (x .beats) (x .out)) (worldOf m (x .memory) (x .beats) (x .out)) (x .budget)
+  runAs = runAnswer (x .used) (lentOf m (x .memory) (x .beats) (x .out) (x .ledger) (x .used)) (worldOf m (x .memory) (x .beats) (x .out) (x .ledger) (x .used)) (x .budget)
 
-  pub runs-as : runCall (x .image) (x .memory) (x .beats) (x .out) (x .budget) (x .report) ≡ runAs
+  pub runs-as : runCall (x .image) (x .memory) (x .beats) (x .out) (x .ledger) (x .used) (x .budget) (x .report) ≡ runAs
   unfolding runCall
   runs-as =
-      sizes-right _ _ 14 (x .image) (x .report) size report-size
-      ∙ ap (λ (y : LoadedMachine). runIn y (x .memory) (x .beats) (x .out) (x .budget)) e
+      sizes-right _ _ 18 (x .image) (x .report) size report-size
+      ∙ ap (λ (y : LoadedMachine). runIn y (x .memory) (x .beats) (x .out) (x .ledger) (x .used) (x .budget)) e
 
-  pub has-run : (y : RunLeft) → Promised x y → HasRun m (x .memory) (x .beats) (x .out) (x .budget) runAs (y .memory) (y .out)
+  pub has-run : (y : RunLeft) → Promised x y → HasRun m (x .memory) (x .beats) (x .out) (x .ledger) (x .used) (x .budget) runAs (y .memory) (y .out) (y .ledger)
   has-run y p =
       record {
         answer = refl;
-        number = run-number (lentOf m (x .memory) (x .beats) (x .out)) _ (x .budget);
-        window-after = p .window-after ∙ sizes-right _ _ 14 (x .image) (x .report) size report-size
-            ∙ ap (λ (y : LoadedMachine). windowIn y (x .memory) (x .beats) (x .out) (x .budget)) e;
-        out-after = p .out-after ∙ sizes-right _ _ 14 (x .image) (x .report) size report-size
-            ∙ ap (λ (y : LoadedMachine). outIn y (x .memory) (x .beats) (x .out) (x .budget)) e;
+        number = run-number (x .used) (lentOf m (x .memory) (x .beats) (x .out) (x .ledger) (x .used)) _ (x .budget);
+        window-after = p .window-after ∙ sizes-right _ _ 18 (x .image) (x .report) size report-size
+            ∙ ap (λ (y : LoadedMachine). windowIn y (x .memory) (x .beats) (x .out) (x .ledger) (x .used) (x .budget)) e;
+        out-after = p .out-after ∙ sizes-right _ _ 18 (x .image) (x .report) size report-size
+            ∙ ap (λ (y : LoadedMachine). outIn y (x .memory) (x .beats) (x .out) (x .ledger) (x .used) (x .budget)) e;
+        ledger-after = p .ledger-after ∙ sizes-right _ _ 18 (x .image) (x .report) size report-size
+            ∙ ap (λ (y : LoadedMachine). ledgerIn y (x .memory) (x .beats) (x .out) (x .ledger) (x .used) (x .budget)) e;
       }
 
 -- ---- the machine between the calls
@@ -130,10 +132,10 @@ module _ {l : Lends} {left : RunLeft} (k : ℕ) (w : WellLent l) (h : Premises (
   loaded = loads-as (met2 w)
 
   abbrev answer : RunAnswer
-  answer = runAnswer (lentOf (machineFor g) (l .memory) (l .beats) (l .out)) (worldFor g) (l .budget)
+  answer = runAnswer (l .used) (lentOf (machineFor g) (l .memory) (l .beats) (l .out) (l .ledger) (l .used)) (worldFor g) (l .budget)
 
   -- the same by the methods
-  abbrev by-methods : methods.Called (l .window) (l .pointer) (l .control) (l .memory) (l .beats) (l .out) (l .budget) answer (left .memory) (left .out)
+  abbrev by-methods : methods.Called (l .window) (l .pointer) (l .control) (l .memory) (l .beats) (l .out) (l .ledger) (l .used) (l .budget) answer (left .memory) (left .out) (left .ledger)
   by-methods =
       record {
         m0 = m0 w;
@@ -144,17 +146,18 @@ module _ {l : Lends} {left : RunLeft} (k : ℕ) (w : WellLent l) (h : Premises (
         started = was-written (sym (started-as w));
         even-beats = w .even-beats;
         even-out = w .even-out;
+        is-ledger = w .is-ledger;
         ran = has-run (runLent l (imageOf (machineFor g))) (length-image (fieldsOf (machineFor g))) (w .report-size) loaded left p;
       }
 
   abbrev ran : Ran
-  ran = ranAs (worldFor g) (run (l .budget) (worldFor g))
+  ran = ranAs (l .used) (worldFor g) (run (l .budget) (worldFor g))
 
   -- whatever the budget it is not refused
   done : answer ≡ many.Done ran
-  done = ap (λ (x : Lent). runAnswer x (worldFor g) (l .budget)) (served k by-methods h)
+  done = ap (λ (x : Lent). runAnswer (l .used) x (worldFor g) (l .budget)) (served k by-methods h)
 
-  called : runCall (imageOf (machineFor g)) (l .memory) (l .beats) (l .out) (l .budget) (l .report) ≡ many.Done ran
+  called : runCall (imageOf (machineFor g)) (l .memory) (l .beats) (l .out) (l .ledger) (l .used) (l .budget) (l .report) ≡ many.Done ran
   called = runs-as (runLent l (imageOf (machineFor g))) (length-image (fieldsOf (machineFor g))) (w .report-size) loaded ∙ done
 
   pub run-not-refused : left .number ≡ 0
@@ -168,32 +171,33 @@ module _ {l : Lends} {left : RunLeft} (k : ℕ) (w : WellLent l) (h : Premises (
   run-image = p .image-after ∙ ap (λ (a : RunAnswer). ranOver a (imageOf (machineFor g))) called
 
   run-report : left .report
-      ≡ rowBytes MostFirst (2 ∷ 4 ∷ 4 ∷ 4 ∷ []) (reasonNumber (ran .reason) ∷ ran .steps ∷ ran .taken ∷ ran .made ∷ [])
+      ≡ rowBytes MostFirst (2 ∷ 4 ∷ 4 ∷ 4 ∷ 4 ∷ []) (reasonNumber (ran .reason) ∷ ran .steps ∷ ran .taken ∷ ran .made ∷ ran .used ∷ [])
   run-report = p .report-after ∙ ap (λ (a : RunAnswer). reportOver a (l .report)) called
 
   run-loads : loadOf (left .image) ≡ Good (ran .machine)
   run-loads =
       let r = by-methods .ran in
-      let made : HasRun (machineFor g) (l .memory) (l .beats) (l .out) (l .budget) (many.Done ran) (left .memory) (left .out) =
-      record { answer = sym done; number = ap runNumber (sym done) ∙ r .number; window-after = r .window-after; out-after = r .out-after } in
+      let made : HasRun (machineFor g) (l .memory) (l .beats) (l .out) (l .ledger) (l .used) (l .budget) (many.Done ran) (left .memory) (left .out) (left .ledger) =
+      record { answer = sym done; number = ap runNumber (sym done) ∙ r .number; window-after = r .window-after; out-after = r .out-after; ledger-after = r .ledger-after } in
       ap loadOf run-image ∙ loads-as (met.ran (met2 w) (are-all-bytes (l .memory) (h .bytes)) (w .beat-bytes) made)
 
   pub run-finds : 2 + cost (shares g) ≤ l .budget → Found g l left
   run-finds b =
-      let f : Finished g answer (left .memory) (l .out) (left .out) = chain-of-run k by-methods h b in
+      let f : Finished g answer (left .memory) (l .out) (left .out) (l .ledger) (left .ledger) = chain-of-run k by-methods h b in
       let same : many.Done (f .told) ≡ many.Done ran = sym (f .answer) ∙ done in
       let o : Outcome g ran (left .memory) = subst (λ (r : Ran). Outcome g r (left .memory)) (cc) (f .outcome) in
       let reason : reasonNumber (ran .reason) ≡ 1 = ap reasonNumber (o .reason) in
-      let row : _≡_ {A = List ℕ} (reasonNumber (ran .reason) ∷ ran .steps ∷ ran .taken ∷ ran .made ∷ []) (1 ∷ (2 + cost (shares g)) ∷ given (shares g) ∷ 0 ∷ []) =
-      cc (o .steps, o .taken, o .made) in
+      let row : _≡_ {A = List ℕ} (reasonNumber (ran .reason) ∷ ran .steps ∷ ran .taken ∷ ran .made ∷ ran .used ∷ []) (1 ∷ (2 + cost (shares g)) ∷ given (shares g) ∷ 0 ∷ (g .used + g .k) ∷ []) =
+      cc (o .steps, o .taken, o .made, o .used) in
       record {
         told = ran;
         is-run = refl;
         outcome = o;
-        report = run-report ∙ ap (rowBytes MostFirst (2 ∷ 4 ∷ 4 ∷ 4 ∷ [])) row;
+        report = run-report ∙ ap (rowBytes MostFirst (2 ∷ 4 ∷ 4 ∷ 4 ∷ 4 ∷ [])) row;
         image = run-image;
         loads = run-loads;
         output = f .output;
+        ledger = f .ledger-after;
       }
 
   pub run-finds-at-every-step : FoundAtEveryStep g l left

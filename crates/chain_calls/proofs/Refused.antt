@@ -8,7 +8,7 @@ use mathlib.Core.List.{List}
 use lib.Dec.{eqb, leb}
 use lib.ListN.{length}
 use Rattle.bus.specs.declared.Refusal.{Refusal}
-use Rattle.bus.specs.declared.Refusal.the-variants.{OtherWindow, BadSize, BadImage, OddStream}
+use Rattle.bus.specs.declared.Refusal.the-variants.{OtherWindow, BadSize, BadImage, OddStream, BadLedger}
 use Rattle.bus.specs.Refusal.{refusalNumber}
 use Rattle.bus.specs.Window.{keepsLimits, inWindow}
 use Rattle.descriptor.specs.declared.Job.{Job}
@@ -26,6 +26,7 @@ use Rattle.machine.specs.declared.LoadedMachine.{LoadedMachine}
 use Rattle.machine.specs.declared.LoadedMachine.the-variants as loaded
 use Rattle.machine.specs.Saved.{keeps, machineOf, loadedAs, loadOf}
 use Rattle.machine.specs.Registers.{readOf, writeOf, readNumber, wroteNumber, lineNumber}
+use Rattle.ledger.specs.Records.{isLedger}
 use Rattle.machine.specs.Run.{serves, refused, even, lentOf, runNumber, lentNumber}
 use Rattle.machine.proofs.Answers.{was-loaded, was-register, was-written, was-line, run-number}
 use Rattle.met.proofs.RoundTrip.{loaded-keeps}
@@ -128,27 +129,29 @@ line-in-order {xs} {value} p =
 
 -- ---- a run
 
-lent-number : (even right : Bool)
-    → lentNumber (cond even (cond right serves (refused OtherWindow)) (refused OddStream)) ≡ cond (not even) 9 (cond (not right) 4 0)
-lent-number true true = refl
-lent-number true false = refl
-lent-number false right = refl
+lent-number : (even kept right : Bool)
+    → lentNumber (cond even (cond kept (cond right serves (refused OtherWindow)) (refused BadLedger)) (refused OddStream))
+    ≡ cond (not even) 9 (cond (not kept) 19 (cond (not right) 4 0))
+lent-number true true true = refl
+lent-number true true false = refl
+lent-number true false right = refl
+lent-number false kept right = refl
 
-pub run-in-order : {xs window beats out report x w o p : List ℕ} {budget r : ℕ}
-    → RunMade xs window beats out budget report r x w o p → FirstThatApplies (runTests xs window beats out report) r
+pub run-in-order : {xs window beats out ledger report x w o l p : List ℕ} {used budget r : ℕ}
+    → RunMade xs window beats out ledger used budget report r x w o l p → FirstThatApplies (runTests xs window beats out ledger used report) r
 unfolding runCall lentOf
-run-in-order {xs} {window} {beats} {out} {report} {budget = budget} p =
+run-in-order {xs} {window} {beats} {out} {ledger} {report} {used = used} {budget = budget} p =
     record {
-      number = p .number ∙ chosen runNumber (sized xs && isSize 14 report) _ _
-          ∙ opened-with xs (λ l. runNumber (runIn l window beats out budget)) (λ why. refl) (isSize 14 report) known;
+      number = p .number ∙ chosen runNumber (sized xs && isSize 18 report) _ _
+          ∙ opened-with xs (λ l. runNumber (runIn l window beats out ledger used budget)) (λ why. refl) (isSize 18 report) known;
       in-order = refl;
     }
   where
-    known : sized xs ≡ true → keepsRules (fields xs) ≡ true → runNumber (runIn (loaded.Good (machine xs)) window beats out budget)
-        ≡ cond (not (even beats && even out)) 9 (cond (not (eqb (length window) (fields xs .window))) 4 0)
+    known : sized xs ≡ true → keepsRules (fields xs) ≡ true → runNumber (runIn (loaded.Good (machine xs)) window beats out ledger used budget)
+        ≡ cond (not (even beats && even out)) 9 (cond (not (isLedger (length ledger) used)) 19 (cond (not (eqb (length window) (fields xs .window))) 4 0))
     known s k =
-        run-number (lentOf (machine xs) window beats out) _ budget
-        ∙ rw (keeps-loaded xs s k) (lent-number (even beats && even out) (eqb (length window) (fields xs .window)))
+        run-number used (lentOf (machine xs) window beats out ledger used) _ budget
+        ∙ rw (keeps-loaded xs s k) (lent-number (even beats && even out) (isLedger (length ledger) used) (eqb (length window) (fields xs .window)))
 
 -- ---- descriptors
 

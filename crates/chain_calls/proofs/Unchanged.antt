@@ -28,8 +28,8 @@ use Rattle.machine.specs.declared.RunAnswer.the-variants as ran
 use Rattle.machine.specs.Saved.{loadOf}
 use Rattle.machine.specs.Step.{World}
 use Rattle.machine.specs.Registers.{readNumber, wroteNumber, lineNumber}
-use Rattle.machine.specs.Run.{Lent, serves, refused, lentOf, worldOf, runAnswer, windowAfter, outAfter, runNumber}
-use Rattle.sgdma.specs.Calls.{createNumber, Created, readCall, valueOver, RegisterRead, writtenIn, writtenOver, RegisterWritten, lineCall, lineOver, LineRead, isSize, runIn, runCall, ranOver, reportOver, windowIn, outIn, RunMade, DescriptorBuilt, descriptorCall, answerOver, DescriptorRead}
+use Rattle.machine.specs.Run.{Lent, serves, refused, lentOf, worldOf, runAnswer, windowAfter, outAfter, ledgerAfter, runNumber}
+use Rattle.sgdma.specs.Calls.{createNumber, Created, readCall, valueOver, RegisterRead, writtenIn, writtenOver, RegisterWritten, lineCall, lineOver, LineRead, isSize, runIn, runCall, ranOver, reportOver, windowIn, outIn, ledgerIn, RunMade, DescriptorBuilt, descriptorCall, answerOver, DescriptorRead}
 use Rattle.chain_calls.specs.Refused.{WhereRefused}
 
 -- the number given back is that of the answer, so the answer is a refusal too
@@ -63,18 +63,19 @@ run-stays (ran.Done r) xs report h = absurd (h refl)
 run-stays (ran.Refused why) xs report h = (refl, refl)
 
 -- window and output, by whether what is lent serves
-lent-stays : (l : Lent) (w v : World) (budget : ℕ) (window out : List ℕ) → runNumber (runAnswer l w budget) ≢ 0
-    → (windowAfter l v window ≡ window) × (outAfter l v out ≡ out)
-lent-stays serves w v budget window out h = absurd (h refl)
-lent-stays (refused why) w v budget window out h = (refl, refl)
+lent-stays : (l : Lent) (w v : World) (budget : ℕ) (window out ledger : List ℕ) (used : ℕ) → runNumber (runAnswer used l w budget) ≢ 0
+    → (windowAfter l v window ≡ window) × (outAfter l v out ≡ out) × (ledgerAfter l v ledger used ≡ ledger)
+lent-stays serves w v budget window out ledger used h = absurd (h refl)
+lent-stays (refused why) w v budget window out ledger used h = (refl, refl, refl)
 
 -- and by what was loaded
-module _ (window beats out : List ℕ) (budget : ℕ) where
-  slices-stay : (right : Bool) (l : LoadedMachine) → runNumber (cond right (runIn l window beats out budget) (ran.Refused BadSize)) ≢ 0
-      → (cond right (windowIn l window beats out budget) window ≡ window) × (cond right (outIn l window beats out budget) out ≡ out)
-  slices-stay true (loaded.Good m) h = lent-stays (lentOf m window beats out) (worldOf m window beats out) _ budget window out h
-  slices-stay true (loaded.Refused why) h = (refl, refl)
-  slices-stay false l h = (refl, refl)
+module _ (window beats out ledger : List ℕ) (used budget : ℕ) where
+  slices-stay : (right : Bool) (l : LoadedMachine) → runNumber (cond right (runIn l window beats out ledger used budget) (ran.Refused BadSize)) ≢ 0
+      → (cond right (windowIn l window beats out ledger used budget) window ≡ window) × (cond right (outIn l window beats out ledger used budget) out ≡ out)
+      × (cond right (ledgerIn l window beats out ledger used budget) ledger ≡ ledger)
+  slices-stay true (loaded.Good m) h = lent-stays (lentOf m window beats out ledger used) (worldOf m window beats out ledger used) _ budget window out ledger used h
+  slices-stay true (loaded.Refused why) h = (refl, refl, refl)
+  slices-stay false l h = (refl, refl, refl)
 
 -- ---- the calls
 
@@ -91,14 +92,15 @@ write-unchanged {xs} {offset = offset} {v} c h = c .image-after ∙ write-stays 
 pub line-unchanged : {xs value after : List ℕ} {r : ℕ} → LineRead xs value r after → WhereRefused r (after ≡ value)
 line-unchanged {xs} {value} c h = c .value-after ∙ line-stays (lineCall xs value) value (answer-refused (c .number) h)
 
-pub run-unchanged : {xs window beats out report x w o p : List ℕ} {budget r : ℕ}
-    → RunMade xs window beats out budget report r x w o p → WhereRefused r ((x ≡ xs) × (w ≡ window) × (o ≡ out) × (p ≡ report))
+pub run-unchanged : {xs window beats out ledger report x w o l p : List ℕ} {used budget r : ℕ}
+    → RunMade xs window beats out ledger used budget report r x w o l p
+    → WhereRefused r ((x ≡ xs) × (w ≡ window) × (o ≡ out) × (l ≡ ledger) × (p ≡ report))
 unfolding runCall
-run-unchanged {xs} {window} {beats} {out} {report} {budget = budget} c h =
+run-unchanged {xs} {window} {beats} {out} {ledger} {report} {used = used} {budget = budget} c h =
     let n = answer-refused (c .number) h in
-    let a = run-stays (runCall xs window beats out budget report) xs report n in
-    let s = slices-stay window beats out budget (sized xs && isSize 14 report) (loadOf xs) n in
-    (c .image-after ∙ a .0, c .window-after ∙ s .0, c .out-after ∙ s .1, c .report-after ∙ a .1)
+    let a = run-stays (runCall xs window beats out ledger used budget report) xs report n in
+    let s = slices-stay window beats out ledger used budget (sized xs && isSize 18 report) (loadOf xs) n in
+    (c .image-after ∙ a .0, c .window-after ∙ s .0, c .out-after ∙ s .1, c .ledger-after ∙ s .2, c .report-after ∙ a .1)
 
 pub build-unchanged : {window after : List ℕ} {base a r : ℕ} {j : Job} → DescriptorBuilt window base a j r after → WhereRefused r (after ≡ window)
 build-unchanged {window} {base = base} {a} {j = j} c h = c .window-after ∙ build-stays (slotOf (length window) base a) window j (answer-refused (c .number) h)

@@ -2,21 +2,22 @@
 -- made over it. What the caller lends, the calls, what is found after them. The theorems are `none-refused`, `chain-of-calls` and
 -- `chain-of-calls-at-every-step`.
 -- Assumes nothing.
-use Prim.Native.Nat.{ℕ, _+_, _^_, _<_}
+use Prim.Native.Nat.{ℕ, _+_, _*_, _^_, _<_}
 use mathlib.Core.Path.{_≡_}
 use mathlib.Core.Bool.{true}
 use mathlib.Core.List.{List, [], _∷_}
 use lib.ListN.{length, take}
 use Rattle.words.specs.declared.Order.the-variants.{MostFirst}
 use Rattle.words.specs.Orders.{rowBytes}
-use Rattle.words.specs.Slices.{AllBytes}
+use Rattle.words.specs.Slices.{put, AllBytes}
+use Rattle.ledger.specs.Records.{ledgerBytes, isLedger}
 use Rattle.bus.specs.declared.Window.{Window}
 use Rattle.bus.specs.Window.{keepsLimits}
 use Rattle.machine.specs.declared.Ran.{Ran}
 use Rattle.machine.specs.declared.LoadedMachine.the-variants.{Good}
 use Rattle.machine.specs.Saved.{loadOf}
 use Rattle.machine.specs.Run.{run, even, ranAs}
-use Rattle.chain.specs.Chain.{Given, worldFor, shares, cost, given, FirstFew, Outcome}
+use Rattle.chain.specs.Chain.{Given, worldFor, shares, recordsOf, cost, given, FirstFew, Outcome}
 use Rattle.chain.specs.Calls.{givenBy}
 use Rattle.sgdma.specs.Calls.{imageOf, Created, RegisterWritten, RunMade}
 
@@ -28,6 +29,8 @@ pub record RunLent : Type 0 where
   pub memory : List ℕ
   pub beats : List ℕ
   pub out : List ℕ
+  pub ledger : List ℕ
+  pub used : ℕ
   pub budget : ℕ
   pub report : List ℕ
 
@@ -37,12 +40,13 @@ pub record RunLeft : Type 0 where
   pub image : List ℕ
   pub memory : List ℕ
   pub out : List ℕ
+  pub ledger : List ℕ
   pub report : List ℕ
 
 -- what it promises of them
 abbrev pub Promised : RunLent → RunLeft → Type 0
 Promised x y =
-    RunMade (x .image) (x .memory) (x .beats) (x .out) (x .budget) (x .report) (y .number) (y .image) (y .memory) (y .out) (y .report)
+    RunMade (x .image) (x .memory) (x .beats) (x .out) (x .ledger) (x .used) (x .budget) (x .report) (y .number) (y .image) (y .memory) (y .out) (y .ledger) (y .report)
 
 -- ---- what the caller lends
 
@@ -55,16 +59,19 @@ pub record Lends : Type 0 where
   pub memory : List ℕ
   pub beats : List ℕ
   pub out : List ℕ
+  pub ledger : List ℕ
+  pub used : ℕ
   pub budget : ℕ
   pub report : List ℕ
 
 -- lent as it should be, whatever the bytes for the image hold
 pub record WellLent (l : Lends) : Type 0 where
-  -- the sizes that the header asks for: 44 bytes for the image, 14 for the report, whole beats in and out
+  -- the sizes that the header asks for: 44 bytes for the image, 18 for the report, whole beats in and out, whole records
   pub image-size : length (l .image) ≡ 44
-  pub report-size : length (l .report) ≡ 14
+  pub report-size : length (l .report) ≡ 18
   pub even-beats : even (l .beats) ≡ true
   pub even-out : even (l .out) ≡ true
+  pub is-ledger : isLedger (length (l .ledger)) (l .used) ≡ true
   -- a window within the limits
   pub limits : keepsLimits (l .window .base) (l .window .length) ≡ true
   -- as the types in C have it: beats are bytes, a register is 32 bits
@@ -74,12 +81,12 @@ pub record WellLent (l : Lends) : Type 0 where
 
 -- what the chain theorem is told of it, for a chain of k
 abbrev pub givenIn : Lends → (k : ℕ) → Given
-givenIn l k = givenBy (l .window) (l .pointer) (l .control) k (l .memory) (l .beats) (l .out)
+givenIn l k = givenBy (l .window) (l .pointer) (l .control) k (l .memory) (l .beats) (l .out) (l .ledger) (l .used)
 
 -- what the run is lent of it, with this image
 abbrev pub runLent : Lends → (image : List ℕ) → RunLent
 runLent l image =
-    record { image = image; memory = l .memory; beats = l .beats; out = l .out; budget = l .budget; report = l .report }
+    record { image = image; memory = l .memory; beats = l .beats; out = l .out; ledger = l .ledger; used = l .used; budget = l .budget; report = l .report }
 
 -- ---- the calls
 
@@ -107,16 +114,18 @@ pub record NoneRefused (created pointed started : ℕ) (left : RunLeft) : Type 0
 pub record Found (g : Given) (l : Lends) (left : RunLeft) : Type 0 where
   -- what the run tells, and the outcome of demand 3 in the window's bytes
   pub told : Ran
-  pub is-run : told ≡ ranAs (worldFor g) (run (l .budget) (worldFor g))
+  pub is-run : told ≡ ranAs (l .used) (worldFor g) (run (l .budget) (worldFor g))
   pub outcome : Outcome g told (left .memory)
-  -- the report: reason 1, Ended; 2 steps and for each of the k its bytes and 2 more; the beats given, all taken; none made
+  -- the report: reason 1, Ended; 2 steps and for each of the k its bytes and 2 more; the beats given, all taken; none made; k records more used
   pub report : left .report
-      ≡ rowBytes MostFirst (2 ∷ 4 ∷ 4 ∷ 4 ∷ []) (1 ∷ (2 + cost (shares g)) ∷ given (shares g) ∷ 0 ∷ [])
+      ≡ rowBytes MostFirst (2 ∷ 4 ∷ 4 ∷ 4 ∷ 4 ∷ []) (1 ∷ (2 + cost (shares g)) ∷ given (shares g) ∷ 0 ∷ (g .used + g .k) ∷ [])
   -- the image is that of the machine after the run, and loads back as it
   pub image : left .image ≡ imageOf (told .machine)
   pub loads : loadOf (left .image) ≡ Good (told .machine)
   -- the lent output is as it was
   pub output : left .out ≡ l .out
+  -- the records of the k stand behind those used, and no other byte of the ledger differs
+  pub ledger : left .ledger ≡ put (l .ledger) (12 * l .used) (ledgerBytes (recordsOf (shares g)))
 
 -- with any budget: after every step
 pub record FoundAtEveryStep (g : Given) (l : Lends) (left : RunLeft) : Type 0 where

@@ -1,6 +1,6 @@
 -- What is lent for the chains of crate chain, and what known run 1 leaves of it, byte by byte. That it does is `known-run-1-in-c`.
 -- Assumes nothing.
-use Prim.Native.Nat.{_*_}
+use Prim.Native.Nat.{_+_, _*_}
 use mathlib.Core.List.{[], _∷_, _++_}
 use lib.ListN.{take, replicate}
 use Rattle.flow.specs.Beats.{beatBytes}
@@ -21,8 +21,10 @@ lends g =
       memory = g .memory;
       beats = beatBytes (g .beats);
       out = replicate (2 * g .room) 0;
+      ledger = replicate (12 * (g .used + g .left)) 0;
+      used = g .used;
       budget = 100;
-      report = replicate 14 0;
+      report = replicate 18 0;
     }
 
 -- and to the run, over the image of the machine that was started
@@ -46,10 +48,16 @@ knownLeft =
           replicate 24 0;
       memory = take 28 (known .memory) ++ 0x04 ∷ 0x00 ∷ 0x00 ∷ 0x00 ∷ replicate 96 0 ++ 0x11 ∷ 0x22 ∷ 0x33 ∷ 0x44 ∷ replicate 124 0;
       out = [];
+      ledger =
+          0x00 ∷ 0x00 ∷ 0x00 ∷ 0x00 ∷  -- run
+          0x00 ∷ 0x00 ∷ 0x10 ∷ 0x00 ∷  -- descriptor 4096
+          0x00 ∷ 0x04 ∷ 0x00 ∷ 0x00 ∷  -- actual, status, EOP
+          [];
       report =
           0x00 ∷ 0x01 ∷  -- Ended
           0x00 ∷ 0x00 ∷ 0x00 ∷ 0x08 ∷  -- steps
           0x00 ∷ 0x00 ∷ 0x00 ∷ 0x04 ∷  -- taken
           0x00 ∷ 0x00 ∷ 0x00 ∷ 0x00 ∷  -- made
+          0x00 ∷ 0x00 ∷ 0x00 ∷ 0x01 ∷  -- records used
           [];
     }

@@ -14,6 +14,7 @@ use Rattle.regs.specs.Offsets.{isRegister}
 use Rattle.image.specs.Layout.{fields}
 use Rattle.image.specs.Rules.{keepsRules}
 use Rattle.image.specs.Promise.{sized}
+use Rattle.ledger.specs.Records.{isLedger}
 use Rattle.machine.specs.Run.{even}
 use Rattle.sgdma.specs.Calls.{isSize}
 
@@ -31,9 +32,9 @@ abbrev pub first : List Test → ℕ
 first [] = 0
 first (t ∷ ts) = cond (t .applies) (t .number) (first ts)
 
--- "First that applies: 7, 8, 9, 2, 3, 4, 1, 5, 6."
+-- "First that applies: 7, 8, 9, 19, 2, 3, 4, 1, 5, 6."
 abbrev pub order : List ℕ
-order = 7 ∷ 8 ∷ 9 ∷ 2 ∷ 3 ∷ 4 ∷ 1 ∷ 5 ∷ 6 ∷ []
+order = 7 ∷ 8 ∷ 9 ∷ 19 ∷ 2 ∷ 3 ∷ 4 ∷ 1 ∷ 5 ∷ 6 ∷ []
 
 -- whether tests come in an order
 abbrev pub comeIn : List ℕ → List Test → Bool
@@ -88,6 +89,10 @@ badImage xs = 8 when not (keepsRules (fields xs))
 abbrev pub oddStream : (beats out : List ℕ) → Test
 oddStream beats out = 9 when not (even beats && even out)
 
+-- 19, BadLedger: not whole records, or fewer than are said to be used
+abbrev pub badLedger : (ledger : List ℕ) (used : ℕ) → Test
+badLedger ledger used = 19 when not (isLedger (length ledger) used)
+
 -- ---- what each call can be refused for
 
 abbrev pub createTests : (xs : List ℕ) (mode base length : ℕ) → List Test
@@ -102,9 +107,9 @@ writeTests xs offset = badSize (sized xs) ∷ badImage xs ∷ noRegister offset 
 abbrev pub lineTests : (xs value : List ℕ) → List Test
 lineTests xs value = badSize (sized xs && isSize 4 value) ∷ badImage xs ∷ []
 
-abbrev pub runTests : (xs window beats out report : List ℕ) → List Test
-runTests xs window beats out report =
-    badSize (sized xs && isSize 14 report) ∷ badImage xs ∷ oddStream beats out ∷ otherWindow xs window ∷ []
+abbrev pub runTests : (xs window beats out ledger : List ℕ) (used : ℕ) (report : List ℕ) → List Test
+runTests xs window beats out ledger used report =
+    badSize (sized xs && isSize 18 report) ∷ badImage xs ∷ oddStream beats out ∷ badLedger ledger used ∷ otherWindow xs window ∷ []
 
 abbrev pub buildTests : (window : List ℕ) (base a : ℕ) → List Test
 buildTests window base a = badWindow base (length window) ∷ misaligned a ∷ outside base (length window) a ∷ []

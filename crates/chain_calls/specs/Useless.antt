@@ -16,7 +16,7 @@ use Rattle.machine.specs.declared.LoadedMachine.the-variants.{Good}
 use Rattle.machine.specs.Saved.{loadOf}
 use Rattle.machine.specs.Run.{run, serves, lentOf, worldOf, runNumber}
 use Rattle.chain.specs.Chain.{All, machineFor, links, Share, shares, Sent, sentByAll, Premises}
-use Rattle.sgdma.specs.Calls.{imageOf, isSize, runCall, ranOver, reportOver, windowIn, outIn}
+use Rattle.sgdma.specs.Calls.{imageOf, isSize, runCall, ranOver, reportOver, windowIn, outIn, ledgerIn}
 use Rattle.chain_calls.specs.InC.{RunLent, RunLeft, Promised, Lends, WellLent, givenIn, runLent}
 
 -- a model: what it leaves of whatever it is lent
@@ -29,6 +29,8 @@ pub record InBytes (x : RunLent) : Type 0 where
   pub memory : AllBytes (x .memory)
   pub beats : AllBytes (x .beats)
   pub out : AllBytes (x .out)
+  pub ledger : AllBytes (x .ledger)
+  pub used : x .used < 2 ^ 32
   pub budget : x .budget < 2 ^ 32
   pub report : AllBytes (x .report)
 
@@ -39,13 +41,14 @@ Keeps f = (x : RunLent) → InBytes x → Promised x (f x)
 -- the one that does what the promise says, and so keeps it
 abbrev pub honest : Model
 honest x =
-    let answer = runCall (x .image) (x .memory) (x .beats) (x .out) (x .budget) (x .report) in
-    let sizes = sized (x .image) && isSize 14 (x .report) in
+    let answer = runCall (x .image) (x .memory) (x .beats) (x .out) (x .ledger) (x .used) (x .budget) (x .report) in
+    let sizes = sized (x .image) && isSize 18 (x .report) in
     record {
       number = runNumber answer;
       image = ranOver answer (x .image);
-      memory = cond sizes (windowIn (loadOf (x .image)) (x .memory) (x .beats) (x .out) (x .budget)) (x .memory);
-      out = cond sizes (outIn (loadOf (x .image)) (x .memory) (x .beats) (x .out) (x .budget)) (x .out);
+      memory = cond sizes (windowIn (loadOf (x .image)) (x .memory) (x .beats) (x .out) (x .ledger) (x .used) (x .budget)) (x .memory);
+      out = cond sizes (outIn (loadOf (x .image)) (x .memory) (x .beats) (x .out) (x .ledger) (x .used) (x .budget)) (x .out);
+      ledger = cond sizes (ledgerIn (loadOf (x .image)) (x .memory) (x .beats) (x .out) (x .ledger) (x .used) (x .budget)) (x .ledger);
       report = reportOver answer (x .report);
     }
 
@@ -90,6 +93,6 @@ pub record MakesUpSteps (f : Model) : Type 0 where
   pub bytes : InBytes lent
   pub machine : Machine
   pub loads : loadOf (lent .image) ≡ Good machine
-  pub report-size : length (lent .report) ≡ 14
-  pub not-refused : lentOf machine (lent .memory) (lent .beats) (lent .out) ≡ serves
-  pub made-up : stepsTold (f lent .report) ≢ run (lent .budget) (worldOf machine (lent .memory) (lent .beats) (lent .out)) .steps
+  pub report-size : length (lent .report) ≡ 18
+  pub not-refused : lentOf machine (lent .memory) (lent .beats) (lent .out) (lent .ledger) (lent .used) ≡ serves
+  pub made-up : stepsTold (f lent .report) ≢ run (lent .budget) (worldOf machine (lent .memory) (lent .beats) (lent .out) (lent .ledger) (lent .used)) .steps

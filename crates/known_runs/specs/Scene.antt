@@ -9,6 +9,7 @@ use Rattle.words.specs.Slices.{part, put}
 use Rattle.regs.specs.Status.{statusNumber}
 use Rattle.regs.specs.Control.{ieGlobal}
 use Rattle.regs.specs.Modes.{modeOf}
+use Rattle.ledger.specs.Records.{ledgerBytes}
 use Rattle.machine.specs.declared.Machine.{Machine}
 use Rattle.machine.specs.declared.Fault.{Fault}
 use Rattle.machine.specs.declared.Reason.the-variants.{Rest}
@@ -17,15 +18,16 @@ use Rattle.machine.specs.declared.registers.WroteRegister.the-variants.{Done, R
 use Rattle.machine.specs.State.{fresh, phaseNumber}
 use Rattle.machine.specs.Saved.{keeps, faultIn}
 use Rattle.machine.specs.Registers.{writeOf}
-use Rattle.machine.specs.Step.{became, opened}
+use Rattle.machine.specs.Step.{became, noted, opened}
 use Rattle.machine.specs.Run.{Report, run, reasonNumber}
 
--- what is done: a register is written, or a run is made with a budget
+-- what is done: a register is written, a run is made with a budget, or the ledger gets room for so many records more
 pub data Act : Type 0 where
   write : (offset value : ℕ) → Act
   go : (budget : ℕ) → Act
+  lend : (records : ℕ) → Act
 
--- what is found at the end; steps and reason are those of the last run, taken and out of all
+-- what is found at the end; steps and reason are those of the last run, taken, out and the ledger's bytes of all
 pub data Fact : Type 0 where
   reason : ℕ → Fact
   steps : ℕ → Fact
@@ -40,6 +42,7 @@ pub data Fact : Type 0 where
   count : ℕ → Fact
   fault : (code address : ℕ) → Fact
   bytes : (place : ℕ) → List ℕ → Fact
+  ledger : List ℕ → Fact
 
 pub record Scene : Type 0 where
   pub mode : ℕ
@@ -81,17 +84,22 @@ done r (write offset value) =
       world = became (r .world) (written (r .world .machine) (writeOf (r .world .machine) offset value));
     }
 done r (go budget) = run budget (r .world)
+done r (lend n) = record { reason = r .reason; steps = r .steps; world = noted (r .world) (r .world .records) n }
 
 abbrev pub played : Report → List Act → Report
 played r [] = r
 played r (a ∷ rest) = played (done r a) rest
+
+-- "the known runs are made with room for theirs": no scene writes back more often
+abbrev pub enough : ℕ
+enough = 16
 
 abbrev pub opening : Scene → Report
 opening s =
     record {
       reason = Rest;
       steps = 0;
-      world = opened (fresh (modeOf (s .mode)) (record { base = s .base; length = length (s .window) })) (s .window) (s .beats) (s .room);
+      world = opened (fresh (modeOf (s .mode)) (record { base = s .base; length = length (s .window) })) (s .window) (s .beats) (s .room) enough;
     }
 
 -- ---- looking at the end
@@ -124,6 +132,7 @@ holds s r (line b) = alike (r .world .machine .pending && ieGlobal (r .world .ma
 holds s r (count n) = eqb (r .world .machine .count) n
 holds s r (fault code address) = faultIs (faultIn (r .world .machine .phase)) code address
 holds s r (bytes place xs) = same (part (r .world .memory) place (length xs)) xs
+holds s r (ledger bs) = same (ledgerBytes (r .world .records)) bs
 
 abbrev pub allHold : Scene → Report → List Fact → Bool
 allHold s r [] = true

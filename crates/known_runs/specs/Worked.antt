@@ -5,7 +5,7 @@ use Prim.Native.Nat.{ℕ}
 use mathlib.Core.Bool.{true, false}
 use mathlib.Core.List.{List, [], _∷_, _++_}
 use Rattle.words.specs.Slices.{put}
-use Rattle.known_runs.specs.Scene.{Act, write, go, Fact, reason, steps, taken, out, status, control, pointer, phase, pending, line, count, fault, bytes, Scene, desc, zeros, window}
+use Rattle.known_runs.specs.Scene.{Act, write, go, lend, Fact, reason, steps, taken, out, status, control, pointer, phase, pending, line, count, fault, bytes, ledger, Scene, desc, zeros, window}
 use Rattle.known_runs.specs.Known.{D, four, once, received}
 
 -- modes 0 and 1: a descriptor, the bytes held from 4224 on, and room for so many beats
@@ -27,6 +27,10 @@ three = desc 0 4224 4128 1 0x80 ++ desc 0 4224 4160 1 0x80 ++ desc 0 4224 4192 1
 -- one of one byte
 abbrev pub single : List ℕ
 single = desc 0 4224 4128 1 0x80
+
+-- the record of the descriptor at 4096: run number (0 until the core counts its runs), address, bytes, errors, EOP
+abbrev pub recorded : (n errors last : ℕ) → List ℕ
+recorded n errors last = 0 ∷ 0 ∷ 0 ∷ 0 ∷ 0 ∷ 0 ∷ 0x10 ∷ 0x00 ∷ 0 ∷ n ∷ errors ∷ last ∷ []
 
 -- reset: armed by the first write, whose RUN and STOP_DMA_ER are stored as any other's, and done by the second, which is ignored
 -- but for bit 16
@@ -146,4 +150,23 @@ worked =
     ∷ received D four (once 4096 0x20 0) (reason 6 ∷ steps 0 ∷ phase 0 ∷ [])
     ∷ received D four (once 4096 0x00 0) (reason 0 ∷ steps 0 ∷ [])
     ∷ received D four (once 4098 0x20 1) (reason 6 ∷ steps 1 ∷ phase 1 ∷ [])
+    -- 64 to 70: the record of a write-back: known runs 1, 2 (EOP), 5 (errors) and 6 (parked, twice); EOP and errors in the last
+    -- beat of the length; modes 0 and 1, where GENERATE_EOP is no EOP seen
+    ∷ received D four (once 4096 0x20 100) (ledger (recorded 4 0 0) ∷ [])
+    ∷ received D (0x0011 ∷ 0x0122 ∷ 0x0033 ∷ 0x0044 ∷ []) (once 4096 0x20 100) (ledger (recorded 2 0 1) ∷ [])
+    ∷ received D (0x0011 ∷ 0x0022 ∷ 0x0633 ∷ 0x0044 ∷ []) (once 4096 0x60 100) (ledger (recorded 4 3 0) ∷ [])
+    ∷ received (desc 0 4224 4096 4 0x80) (four ++ four) (once 4096 0x20020 100) (ledger (recorded 4 0 0 ++ recorded 4 0 0) ∷ [])
+    ∷ received single (0x0311 ∷ []) (once 4096 0x20 100) (ledger (recorded 1 1 1) ∷ [])
+    ∷ copied (desc 4224 4232 4128 3 0x81) ABCD (once 4096 0x20 100) (ledger (recorded 3 0 0) ∷ [])
+    ∷ sent (desc 4224 0 4128 2 0x85) ABCD 2 (once 4096 0x20 100) (ledger (recorded 2 0 0) ∷ [])
+    -- 71: three descriptors, one record each, in their order
+    ∷ received three four (once 4096 0x20 100)
+    (ledger (recorded 1 0 0 ++ 0 ∷ 0 ∷ 0 ∷ 0 ∷ 0 ∷ 0 ∷ 0x10 ∷ 0x20 ∷ 0 ∷ 1 ∷ 0 ∷ 0 ∷ 0 ∷ 0 ∷ 0 ∷ 0 ∷ 0 ∷ 0 ∷ 0x10 ∷ 0x40 ∷ 0 ∷ 1 ∷ 0 ∷ 0 ∷ []) ∷ [])
+    -- 72 to 76: no room, no step: nothing is written back; also with RUN 0; before Budget; with room it goes on; run 6 with room for one
+    ∷ received D four (lend 0 ∷ once 4096 0x20 100) (reason 7 ∷ steps 6 ∷ taken 4 ∷ status 0x10 ∷ phase 3 ∷ ledger [] ∷ bytes 28 (0 ∷ 0 ∷ 0 ∷ 0x80 ∷ []) ∷ [])
+    ∷ received D four (lend 0 ∷ once 4096 0x20 100 ++ write 4 0 ∷ go 5 ∷ []) (reason 7 ∷ steps 0 ∷ status 0x10 ∷ phase 3 ∷ ledger [] ∷ [])
+    ∷ received D four (lend 0 ∷ once 4096 0x20 6) (reason 7 ∷ steps 6 ∷ [])
+    ∷ received D four (lend 0 ∷ once 4096 0x20 100 ++ lend 1 ∷ go 100 ∷ [])
+    (reason 1 ∷ steps 2 ∷ status 0x1C ∷ ledger (recorded 4 0 0) ∷ bytes 28 (4 ∷ 0 ∷ 0 ∷ 0 ∷ []) ∷ [])
+    ∷ received (desc 0 4224 4096 4 0x80) (four ++ four) (lend 1 ∷ once 4096 0x20020 100) (reason 7 ∷ steps 12 ∷ taken 8 ∷ ledger (recorded 4 0 0) ∷ [])
     ∷ []

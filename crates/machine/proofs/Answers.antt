@@ -95,10 +95,10 @@ was-line {m} e = record { answer = e; number = ap lineNumber e ∙ number (keeps
 
 -- ---- steps and runs
 
-pub stepped-number : (w : World) (a : Answer) → stepNumber (steppedAs w a) ≡ 0
-stepped-number w (taken v) = refl
-stepped-number w (stopped r) = refl
+pub stepped-number : (used : ℕ) (w : World) (a : Answer) → stepNumber (steppedAs used w a) ≡ 0
+stepped-number used w (taken v) = refl
+stepped-number used w (stopped r) = refl
 
-pub run-number : (lent : Lent) (w : World) (budget : ℕ) → runNumber (runAnswer lent w budget) ≡ lentNumber lent
-run-number serves w budget = refl
-run-number (refused why) w budget = refl
+pub run-number : (used : ℕ) (lent : Lent) (w : World) (budget : ℕ) → runNumber (runAnswer used lent w budget) ≡ lentNumber lent
+run-number used serves w budget = refl
+run-number used (refused why) w budget = refl

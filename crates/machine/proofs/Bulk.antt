@@ -29,15 +29,15 @@ use Rattle.flow.proofs.Longer.{calm-most, calm-before, length-plain}
 use Rattle.machine.specs.declared.Machine.{Machine}
 use Rattle.machine.specs.declared.Work.{Work}
 use Rattle.machine.specs.declared.Phase.the-variants.{Move}
-use Rattle.machine.specs.declared.Progress.{Progress}
+use Rattle.machine.specs.declared.steps.Reached.{Reached}
 use Rattle.machine.specs.declared.bursts.Reach.{Reach}
 use Rattle.machine.specs.declared.runs.Advanced.{Advanced}
-use Rattle.machine.specs.Step.{World, taken, became, sent, received, step, whole, sourceOf, destinationOf, onward, beatFor}
+use Rattle.machine.specs.Step.{World, taken, became, received, step, whole, sourceOf, destinationOf, onward, beatFor}
 use Rattle.machine.specs.Run.{worldOf}
-use Rattle.machine.specs.Turns.{worldAt, midway, progress, Within, steps, Went, Advances, movedBy, Moving, Bursts, Reaches, Unmarked}
+use Rattle.machine.specs.Turns.{worldAt, midway, progress, Within, steps, Went, Turned, Advances, movedBy, Moving, Bursts, Reaches, Unmarked}
 use Rattle.machine.proofs.Places.{inside, place, fits}
 use Rattle.machine.proofs.Streams.{none-made}
-use Rattle.machine.proofs.Turning.{went-none, went-as}
+use Rattle.machine.proofs.Turning.{went-none}
 use Rattle.machine.proofs.InRows.{at-first, copy-steps, send-steps, receive-steps}
 
 -- ---- what is in reach
@@ -262,11 +262,11 @@ taken-same : (w v : World) → taken w ≡ taken v → w ≡ v
 taken-same w v e = cc
 
 -- and leaves window and output as they were
-module _ {m : Machine} {window beats : List ℕ} {took : ℕ} {out : List ℕ} {made n : ℕ} {r : Progress} {window' out' : List ℕ}
+module _ {m : Machine} {window beats : List ℕ} {took : ℕ} {out : List ℕ} {made n : ℕ} {r : Reached} {window' out' : List ℕ}
     (g : Went (λ (w : World). steps n w) m window beats took out made r window' out') (none : n ≡ 0) where
   -- whatever world stands around it
   abbrev around : World
-  around = worldOf m window beats out
+  around = worldOf m window beats out [] 0
 
   same-world : midway around m window beats took out made ≡ worldAt around (r .machine) window' beats (r .taken) (g .new) (length out / 2 - r .made)
   unfolding steps
@@ -280,12 +280,12 @@ module _ {m : Machine} {window beats : List ℕ} {took : ℕ} {out : List ℕ} {
       (none-made out (2 * made) ∙ ap (λ (bs : List ℕ). put out (2 * made) (beatBytes bs)) (ap (λ (w : World). w .output) same-world) ∙ sym (g .wrote)) p)
 
   -- so that one step after it is one step
-  pub then-step : {s : Progress} {window'' out'' : List ℕ} → Within beats out' (s .taken) (s .made)
-      → Went step m window' beats took out' made s window'' out''
-      → Within beats out (s .taken) (s .made) × Went (λ (w : World). steps 1 w) m window beats took out made s window'' out''
+  pub then-step : {s : Reached} {window'' out'' : List ℕ} → Within beats out' (s .taken) (s .made)
+      → Turned step m window' beats took out' made s window'' out''
+      → Within beats out (s .taken) (s .made) × Turned (λ (w : World). steps 1 w) m window beats took out made s window'' out''
   unfolding steps
   then-step {s} {window''} {out''} h w =
       as-before (λ window' out'.
-      Within beats out' (s .taken) (s .made) → Went step m window' beats took out' made s window'' out''
-      → Within beats out (s .taken) (s .made) × Went (λ (w : World). steps 1 w) m window beats took out made s window'' out'')
-      (λ h w. (h, went-as step (λ (w : World). steps 1 w) (λ w. refl) w)) h w
+      Within beats out' (s .taken) (s .made) → Turned step m window' beats took out' made s window'' out''
+      → Within beats out (s .taken) (s .made) × Turned (λ (w : World). steps 1 w) m window beats took out made s window'' out'')
+      (λ h t. (h, record { new = t .new; counted = t .counted; wrote = t .wrote; goes = λ w can. t .goes w can })) h w

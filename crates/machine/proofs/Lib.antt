@@ -3,6 +3,7 @@ pub mod Answers
 pub mod Cases
 pub mod Places
 pub mod Streams
+pub mod Logging
 pub mod Turning
 pub mod Readiness
 pub mod Waiting

@@ -26,7 +26,7 @@ use Rattle.machine.specs.declared.Phase.the-variants.{Rest, Fetch, Move,
 use Rattle.machine.specs.declared.Reason.{Reason}
 use Rattle.machine.specs.State.{phaseNumber, withPhase}
 use Rattle.machine.specs.Saved.{inHand, fieldsOf, keeps}
-use Rattle.machine.specs.Step.{World, Answer, taken, stopped, step, stepIn, restStep, fetchStep, fetched, wantsLength, moveStep, copyStep, sendStep, sendTo, receiveFrom, writeBackStep, completed, afterBack, onward, withByte, whole, sourceOf, destinationOf}
+use Rattle.machine.specs.Step.{World, Answer, taken, stopped, step, stepIn, restStep, fetchStep, fetched, wantsLength, moveStep, copyStep, sendStep, sendTo, receiveFrom, backTo, writeBackStep, completed, afterBack, onward, withByte, whole, sourceOf, destinationOf}
 use Rattle.machine.specs.Run.{readyIn, readyOf}
 use Rattle.machine.specs.Turns.{Left, Placed, Ready, stepsOn, steps}
 
@@ -144,13 +144,17 @@ completed-ready n m k s =
     let halts : Bool = not (eqb (k .errors) 0) && stopDmaEr (m .control) in
     record { size = s; left = after-left _ (run (m .control)) halts; placed = after-placed _ (run (m .control)) halts }
 
+back-stays : (n : ℕ) (w : World) (k : Work) → w .machine .window .length ≡ n → (left : ℕ) → Stays n (backTo w k left)
+back-stays n w k s zero = stops
+back-stays n w k s (suc left) = goes (completed-ready n (w .machine) k s)
+
 phase-stays : (n : ℕ) (phase : Phase) (w : World) → w .machine .window .length ≡ n → Left (w .machine) phase → Placed (w .machine) phase
     → Stays n (stepIn phase w)
 unfolding restStep writeBackStep
 phase-stays n Rest w s l p = either n (run (w .machine .control)) (λ e. goes (record { size = s; left = tt; placed = tt })) (λ e. stops)
 phase-stays n Fetch w s l p = fetch-stays n w s
 phase-stays n (Move k) w s l p = move-stays n w k s (l .0) p (w .machine .mode)
-phase-stays n (WriteBack k) w s l p = goes (completed-ready n (w .machine) k s)
+phase-stays n (WriteBack k) w s l p = back-stays n w k s (w .left)
 phase-stays n Ended w s l p = stops
 phase-stays n Halted w s l p = stops
 phase-stays n (Faulted f) w s l p = stops

@@ -5,6 +5,7 @@ use mathlib.Core.Path.{_≡_, refl, sym, ap, subst, _∙_}
 use mathlib.Core.Logic.{_≢_}
 use mathlib.Core.Bool.{Bool, true, false, cond, _&&_}
 use mathlib.Core.List.{List, [], _∷_, _++_, append-assoc, append-nil}
+use native.Mathlib.Nat.{add-zero}
 use native.Mathlib.Numerals.{add-one}
 use native.Mathlib.Omega.{arith}
 use lib.Dec.{eqb}
@@ -15,13 +16,15 @@ use Rattle.descriptor.specs.Layout.{owned, descriptorAt}
 use Rattle.regs.specs.declared.Mode.{Mode}
 use Rattle.regs.specs.declared.Mode.the-variants.{MemoryToMemory, MemoryToStream, StreamToMemory}
 use Rattle.regs.specs.Control.{run}
+use Rattle.ledger.specs.declared.Entry.{Entry}
 use Rattle.machine.specs.declared.Machine.{Machine}
 use Rattle.machine.specs.declared.Work.{Work}
 use Rattle.machine.specs.declared.Phase.{Phase}
 use Rattle.machine.specs.declared.Phase.the-variants.{Rest, Fetch, Move, WriteBack, Ended, Halted, Faulted}
 use Rattle.machine.specs.declared.Reason.{Reason}
 use Rattle.machine.specs.declared.Reason.the-variants as reason
-use Rattle.machine.specs.Step.{World, Answer, taken, stopped, became, stored, restStep, fetched, fetchStep, wantsLength, sourceOf, destinationOf, beatFor, copyStep, sendTo, sendStep, receiveFrom, moveStep, onward, completed, writtenBack, writeBackStep, stepIn, step}
+use Rattle.machine.specs.Step.{World, Answer, taken, stopped, became, stored, entryFor, backTo, restStep, fetched, fetchStep, wantsLength, sourceOf, destinationOf, beatFor, copyStep, sendTo, sendStep, receiveFrom, moveStep, onward, completed, writtenBack, writeBackStep, stepIn, step}
+use Rattle.machine.specs.Saved.{inHand}
 use Rattle.machine.specs.Run.{reasonNumber, takenSince}
 use Rattle.machine.specs.Laws.{Passed, sparesMove, sparesIn}
 use Rattle.machine.proofs.Puts.{length-put-at, put-off}
@@ -40,6 +43,9 @@ passed-none n w =
       made = [];
       output = sym (append-nil (w .output));
       room = omega arith;
+      logged = [];
+      records = sym (append-nil (w .records));
+      left = add-zero (w .left);
       moved = omega arith;
     }
 
@@ -56,6 +62,9 @@ passed-on {w = w} {v = v} {u = u} p q =
       made = p .made ++ q .made;
       output = q .output ∙ ap (λ (l : List ℕ). l ++ q .made) (p .output) ∙ append-assoc (w .output) (p .made) (q .made);
       room = simp length-append (omega (arith, p .room, q .room));
+      logged = p .logged ++ q .logged;
+      records = q .records ∙ ap (λ (l : List Entry). l ++ q .logged) (p .records) ∙ append-assoc (w .records) (p .logged) (q .logged);
+      left = simp length-append (omega (arith, p .left, q .left));
       moved = simp length-append (omega (arith, p .moved, q .moved));
     }
 
@@ -64,6 +73,28 @@ pub took-since : {n : ℕ} {w v : World} → (p : Passed n w v) → takenSince w
 took-since {w = w} {v = v} p =
     let l : length (v .input) ≡ length (w .input) - p .took = ap length (p .input) ∙ length-drop (p .took) (w .input) in
     omega (arith, p .there)
+
+-- ---- Fetch
+
+-- a Fetch changes the machine alone, and leaves it with no byte moved
+pub fetch-turns : (w : World) (P : Answer → Type 0)
+    → ((m : Machine) → m .mode ≡ w .machine .mode → m .window ≡ w .machine .window → inHand (m .phase) .moved ≡ 0 → P (taken (became w m)))
+    → P (fetchStep w)
+unfolding fetchStep fetched
+fetch-turns w P turns =
+    let m = w .machine in
+    let d = descriptorAt (w .memory) (placeOf (m .window) (m .pointer .0)) in
+    either (run (m .control))
+    (either (eqb (m .pointer .0 % 4) 0)
+    (either (inWindow (m .window) (m .pointer .0) 32)
+    (either (owned (d .control .0))
+    (either (wantsLength (m .mode) && eqb (d .length) 0) (turns _ refl refl refl) (turns _ refl refl refl)) (turns _ refl refl refl)) (turns _ refl refl refl))
+    (turns _ refl refl refl))
+    (turns _ refl refl refl)
+  where
+    either : (b : Bool) {x y : Answer} → P x → P y → P (cond b x y)
+    either true p q = p
+    either false p q = q
 
 -- ---- the bytes that a step names
 
@@ -96,6 +127,9 @@ module _ (w : World) where
         made = [];
         output = sym (append-nil (w .output));
         room = omega arith;
+        logged = [];
+        records = sym (append-nil (w .records));
+        left = add-zero (w .left);
         moved = omega arith;
       } in
       goes p h
@@ -109,17 +143,7 @@ module _ (w : World) where
   sound-rest = choice (run (w .machine .control)) (turned _ refl refl) (stops reason.Rest (omega arith))
 
   sound-fetch : Sound w (λ q. Unit {0}) (fetchStep w)
-  unfolding fetchStep fetched
-  sound-fetch =
-      let m = w .machine in
-      let d = descriptorAt (w .memory) (placeOf (m .window) (m .pointer .0)) in
-      choice (run (m .control))
-      (choice (eqb (m .pointer .0 % 4) 0)
-      (choice (inWindow (m .window) (m .pointer .0) 32)
-      (choice (owned (d .control .0))
-      (choice (wantsLength (m .mode) && eqb (d .length) 0) (turned _ refl refl) (turned _ refl refl)) (turned _ refl refl)) (turned _ refl refl))
-      (turned _ refl refl))
-      (turned _ refl refl)
+  sound-fetch = fetch-turns w (Sound w (λ q. Unit {0})) (λ m e f h. turned m e f)
 
   module _ (k : Work) where
     abbrev at : ℕ
@@ -149,6 +173,9 @@ module _ (w : World) where
           made = beatFor k (getD (w .memory) (placeOf (w .machine .window) (sourceOf k)) 0) ∷ [];
           output = refl;
           room = add-one left ∙ sym r;
+          logged = [];
+          records = sym (append-nil (w .records));
+          left = add-zero (w .left);
           moved = omega arith;
         })
         (λ q h. refl)
@@ -169,18 +196,40 @@ module _ (w : World) where
           made = [];
           output = sym (append-nil (w .output));
           room = omega arith;
+          logged = [];
+          records = sym (append-nil (w .records));
+          left = add-zero (w .left);
           moved = omega arith;
         })
         (λ q h. getD-set-other (w .memory) at q _ 0 h))
         (turned _ refl refl)
 
-    sound-back : Sound w (λ q. (j : ℕ) → j < 4 → q ≢ placeOf (w .machine .window) (k .at) + 28 + j) (writeBackStep w k)
-    unfolding writeBackStep writtenBack completed
-    sound-back = still _ _ refl refl (length-put-at (w .memory) _ _) (λ q h. put-off (w .memory) _ _ q h)
+    sound-back : (left : ℕ) → w .left ≡ left
+        → Sound w (λ q. (j : ℕ) → j < 4 → q ≢ placeOf (w .machine .window) (k .at) + 28 + j) (backTo w k left)
+    unfolding writtenBack completed
+    sound-back zero e = stops reason.LedgerFull (omega arith)
+    sound-back (suc left) e =
+        goes
+        (record {
+          mode = refl;
+          window = refl;
+          memory = length-put-at (w .memory) _ _;
+          took = 0;
+          there = omega arith;
+          input = refl;
+          made = [];
+          output = sym (append-nil (w .output));
+          room = add-zero (w .room);
+          logged = entryFor (w .machine) k ∷ [];
+          records = refl;
+          left = add-one left ∙ sym e;
+          moved = omega arith;
+        })
+        (λ q h. put-off (w .memory) _ _ q h)
 
   -- a step spares every byte of memory but those that it names
   pub step-sound : Sound w (sparesIn (w .machine .phase) w) (step w)
-  unfolding step sendStep
+  unfolding step sendStep writeBackStep
   step-sound = by (w .machine .phase)
     where
       by-mode : (k : Work) (m : Mode) → Sound w (sparesMove m w k) (moveStep m w k)
@@ -192,7 +241,7 @@ module _ (w : World) where
       by Rest = sound-rest
       by Fetch = sound-fetch
       by (Move k) = by-mode k (w .machine .mode)
-      by (WriteBack k) = sound-back k
+      by (WriteBack k) = sound-back k (w .left) refl
       by Ended = stops reason.Ended (omega arith)
       by Halted = stops reason.Halted (omega arith)
       by (Faulted f) = stops reason.Faulted (omega arith)

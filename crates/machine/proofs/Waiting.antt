@@ -22,8 +22,7 @@ use Rattle.machine.specs.declared.Phase.{Phase}
 use Rattle.machine.specs.declared.Work.{Work}
 use Rattle.machine.specs.declared.steps.Wait.{Wait}
 use Rattle.machine.specs.declared.steps.Wait.the-variants.{Go, Stop}
-use Rattle.machine.specs.Step.{World, Answer, taken, stopped, step, stepIn, restStep, fetchStep, fetched, wantsLength, copyStep, sendStep, sendTo, receiveFrom, moveStep, sourceOf, destinationOf}
-use Rattle.machine.specs.Run.{worldOf}
+use Rattle.machine.specs.Step.{World, Answer, taken, stopped, step, stepIn, restStep, fetchStep, fetched, wantsLength, copyStep, sendStep, sendTo, receiveFrom, moveStep, backTo, writeBackStep, sourceOf, destinationOf}
 use Rattle.machine.specs.Turns.{midway, waitOf, some, Waits, Goes}
 use Rattle.machine.proofs.Streams.{some-beat, some-room}
 
@@ -79,6 +78,15 @@ module _ (w : World) (k : Work) where
   receive-waits [] = refl
   receive-waits (b ∷ bs) = step-goes (both (inWindow (w .machine .window) (destinationOf k) 1) goes goes)
 
+-- WriteBack
+back-to-waits : (w : World) (k : Work) (left : ℕ) → waitOf (backTo w k left) ≡ cond (ltb 0 left) Go (Stop reason.LedgerFull)
+back-to-waits w k zero = refl
+back-to-waits w k (suc left) = rw (lt-ltb 0 (suc left) (omega arith))
+
+pub back-waits : (w : World) (k : Work) → waitOf (writeBackStep w k) ≡ cond (ltb 0 (w .left)) Go (Stop reason.LedgerFull)
+unfolding writeBackStep
+back-waits w k = back-to-waits w k (w .left)
+
 -- Move, by what the code looks at
 abbrev moveWait : Mode → (inside more room : Bool) → Wait
 moveWait MemoryToMemory inside more room = Go
@@ -92,7 +100,7 @@ move-waits MemoryToStream w k = send-waits w k
 move-waits StreamToMemory w k = receive-waits w k (w .input)
 
 -- and what it says where a step can be taken
-go-true : (b : Bool) (r : Reason) → cond b Go (Stop r) ≡ Go → b ≡ true
+pub go-true : (b : Bool) (r : Reason) → cond b Go (Stop r) ≡ Go → b ≡ true
 go-true true r e = refl
 go-true false r e = absurd (let z : _≡_ {A = ℕ} 0 1 = cc in omega arith)
 
@@ -106,7 +114,7 @@ module _ (m : Machine) (k : Work) (window beats : List ℕ) (took : ℕ) (out : 
       → moveWait o (inWindow (m .window) (sourceOf k) 1) (some (drop took (beatsIn beats))) (ltb 0 (length out / 2 - made)) ≡ Go
   by-mode o e =
       ap (λ (x : Mode). moveWait x (inWindow (m .window) (sourceOf k) 1) (some (drop took (beatsIn beats))) (ltb 0 (length out / 2 - made))) (sym e)
-      ∙ sym (move-waits (m .mode) (midway (worldOf m window beats out) m window beats took out made) k) ∙ g (worldOf m window beats out)
+      ∙ sym (move-waits (m .mode) (midway (g .around) m window beats took out made) k) ∙ g .can
 
   pub goes-room : m .mode ≡ MemoryToStream → inWindow (m .window) (sourceOf k) 1 ≡ true → made < length out / 2
   goes-room e i =
@@ -130,7 +138,8 @@ at-phase w e = ap (λ (x : Phase). stepIn x w) e
 -- where a step can be taken, so can that of the phase
 pub goes-in : (m : Machine) (window beats : List ℕ) (took : ℕ) (out : List ℕ) (made : ℕ) {p : Phase} → m .phase ≡ p
     → Goes step m window beats took out made → Goes (stepIn p) m window beats took out made
-goes-in m window beats took out made e g w = sym (ap waitOf (at-phase (midway w m window beats took out made) e)) ∙ g w
+goes-in m window beats took out made e g =
+    record { around = g .around; can = sym (ap waitOf (at-phase (midway (g .around) m window beats took out made) e)) ∙ g .can }
 
 pub rest-runs : (w : World) → waitOf (restStep w) ≡ Go → run (w .machine .control) ≡ true
 unfolding restStep
@@ -140,8 +149,8 @@ pub never-goes : {r : Reason} → Stop r ≡ Go → ⊥
 never-goes e = let z : _≡_ {A = ℕ} 0 1 = cc in omega arith
 
 -- in the middle of lent slices, whatever was made before
-pub waits-at : (m : Machine) (window beats : List ℕ) (took : ℕ) (out : List ℕ) (made : ℕ) {r : Wait}
-    → Waits step m (ltb took (length beats / 2)) (ltb made (length out / 2)) r → (w : World)
+pub waits-at : (m : Machine) (window beats : List ℕ) (took : ℕ) (out : List ℕ) (made : ℕ) {keeps : Bool} {r : Wait}
+    → Waits step m (ltb took (length beats / 2)) (ltb made (length out / 2)) keeps r → (w : World) → keeps ≡ ltb 0 (w .left)
     → waitOf (step (midway w m window beats took out made)) ≡ r
-waits-at m window beats took out made f w =
-    sym (f (midway w m window beats took out made) (some-beat beats took) (some-room (length out / 2) made))
+waits-at m window beats took out made f w e =
+    sym (f (midway w m window beats took out made) (some-beat beats took) (some-room (length out / 2) made) e)

@@ -9,6 +9,7 @@ use lib.ListN.{length, drop}
 use Rattle.bus.specs.Window.{placeOf}
 use Rattle.regs.specs.declared.Mode.{Mode}
 use Rattle.regs.specs.declared.Mode.the-variants.{MemoryToMemory, MemoryToStream, StreamToMemory}
+use Rattle.ledger.specs.declared.Entry.{Entry}
 use Rattle.machine.specs.declared.Work.{Work}
 use Rattle.machine.specs.declared.Phase.{Phase}
 use Rattle.machine.specs.declared.Phase.the-variants.{Rest, Fetch, Move, WriteBack, Ended, Halted, Faulted}
@@ -32,6 +33,10 @@ pub record Passed (n : ℕ) (w v : World) : Type 0 where
   pub made : List ℕ
   pub output : v .output ≡ w .output ++ made
   pub room : v .room + length made ≡ w .room
+  -- records are made at the end, into the ledger's room
+  pub logged : List Entry
+  pub records : v .records ≡ w .records ++ logged
+  pub left : v .left + length logged ≡ w .left
   -- a step takes one or makes one or neither
   pub moved : took + length made ≤ n
 

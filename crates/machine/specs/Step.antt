@@ -17,6 +17,7 @@ use Rattle.regs.specs.Modes.{modeNumber}
 use Rattle.regs.specs.Status.{chainEnded, statusBack}
 use Rattle.regs.specs.Control.{ieChain, run, stopDmaEr, maxDescProcessed, park, counted, pends}
 use Rattle.image.specs.Rules.{asked}
+use Rattle.ledger.specs.declared.Entry.{Entry}
 use Rattle.flow.specs.Beats.{beatError, beatEop, beatData, outputBeat}
 use Rattle.machine.specs.declared.Machine.{Machine}
 use Rattle.machine.specs.declared.Work.{Work}
@@ -26,13 +27,16 @@ use Rattle.machine.specs.declared.Reason.{Reason}
 use Rattle.machine.specs.declared.Reason.the-variants as reason
 use Rattle.machine.specs.State.{remade, withStatus, withPointer, withPhase, withBusy, pend, rested}
 
--- the world of a step: the machine; the window's bytes; the beats not yet taken; the beats made, and the room for more
+-- the world of a step: the machine; the window's bytes; the beats not yet taken; the beats made, and the room for more;
+-- the records made, and the room for more
 pub record World : Type 0 where
   pub machine : Machine
   pub memory : List ℕ
   pub input : List ℕ
   pub output : List ℕ
   pub room : ℕ
+  pub records : List Entry
+  pub left : ℕ
 
 -- a step is taken, or it cannot be, and why
 pub data Answer : Type 0 where
@@ -43,7 +47,8 @@ pub data Answer : Type 0 where
 
 -- these parts. No other update of a world names its parts
 abbrev pub laid : World → Machine → (memory input output : List ℕ) (room : ℕ) → World
-laid w m memory input output room = record { machine = m; memory = memory; input = input; output = output; room = room }
+laid w m memory input output room =
+    record { machine = m; memory = memory; input = input; output = output; room = room; records = w .records; left = w .left }
 
 -- the machine alone changes
 abbrev pub became : World → Machine → World
@@ -61,9 +66,23 @@ received w m memory input = laid w m memory input (w .output) (w .room)
 abbrev pub sent : World → Machine → (output : List ℕ) (room : ℕ) → World
 sent w m output room = laid w m (w .memory) (w .input) output room
 
+-- the ledger alone
+abbrev pub noted : World → (records : List Entry) (left : ℕ) → World
+noted w records left =
+    record {
+      machine = w .machine;
+      memory = w .memory;
+      input = w .input;
+      output = w .output;
+      room = w .room;
+      records = records;
+      left = left;
+    }
+
 -- the world before the first step: nothing is made yet
-abbrev pub opened : Machine → (memory input : List ℕ) (room : ℕ) → World
-opened m memory input room = record { machine = m; memory = memory; input = input; output = []; room = room }
+abbrev pub opened : Machine → (memory input : List ℕ) (room left : ℕ) → World
+opened m memory input room left =
+    record { machine = m; memory = memory; input = input; output = []; room = room; records = []; left = left }
 
 -- a fault counts as a step: it sets BUSY 0, keeps code and address, drops the descriptor in hand, and writes nothing
 abbrev pub faulted : World → (code address : ℕ) → Answer
@@ -228,9 +247,18 @@ completed m k =
     remade (statusBack (m .status) (k .eop) failed (run c && not halts)) c (m .pointer) (afterBack (run c) halts)
     (m .pending || pends c (k .eop) failed (n .full)) (n .count) m
 
+-- what the ledger keeps of it. (The run number is order 4's; 0 until then)
+abbrev pub entryFor : Machine → Work → Entry
+entryFor m k = record { run = 0; at = k .at; actual = k .moved; status = k .errors; eop = k .eop }
+
+-- no room for the record, no step
+abbrev pub backTo : World → Work → (left : ℕ) → Answer
+backTo w k zero = stopped reason.LedgerFull
+backTo w k (suc left) =
+    taken (noted (stored w (completed (w .machine) k) (writtenBack w k)) (w .records ++ entryFor (w .machine) k ∷ []) left)
+
 unfoldable pub writeBackStep : World → Work → Answer
-writeBackStep w k =
-    taken (stored w (completed (w .machine) k) (writtenBack w k))
+writeBackStep w k = backTo w k (w .left)
 
 -- ---- the step
 

@@ -13,9 +13,11 @@ use Rattle.bus.specs.Window.{inWindow, placeOf}
 use Rattle.regs.specs.declared.Mode.{Mode}
 use Rattle.flow.specs.Beats.{beatsIn, beatBytes}
 use Rattle.flow.specs.Rows.{extent}
+use Rattle.ledger.specs.declared.Entry.{Entry}
+use Rattle.ledger.specs.Records.{ledgerBytes, capacity}
 use Rattle.machine.specs.declared.Machine.{Machine}
 use Rattle.machine.specs.declared.Work.{Work}
-use Rattle.machine.specs.declared.Progress.{Progress}
+use Rattle.machine.specs.declared.steps.Reached.{Reached}
 use Rattle.machine.specs.declared.Phase.{Phase}
 use Rattle.machine.specs.declared.Phase.the-variants.{Rest, Fetch, Move, WriteBack, Ended, Halted, Faulted}
 use Rattle.machine.specs.declared.bursts.Reach.{Reach}
@@ -25,7 +27,7 @@ use Rattle.machine.specs.declared.steps.Wait.the-variants.{Go, Stop}
 use Rattle.machine.specs.declared.steps.Lent as code
 use Rattle.machine.specs.declared.steps.Lent.the-variants as lent
 use Rattle.machine.specs.State.{withPhase, withBusy}
-use Rattle.machine.specs.Step.{World, Answer, taken, stopped, laid, became, stored, step, whole, onward, beatFor}
+use Rattle.machine.specs.Step.{World, Answer, taken, stopped, laid, became, stored, noted, entryFor, backTo, step, whole, onward, beatFor}
 use Rattle.machine.specs.Run.{Lent, serves, refused}
 
 -- ---- worlds
@@ -38,7 +40,7 @@ worldAt w m window beats took output room = laid w m window (drop took (beatsIn 
 abbrev pub midway : World → Machine → (window beats : List ℕ) (took : ℕ) (out : List ℕ) (made : ℕ) → World
 midway w m window beats took out made = worldAt w m window beats took (w .output) (length out / 2 - made)
 
-abbrev pub progress : Machine → (took made : ℕ) → Progress
+abbrev pub progress : Machine → (took made : ℕ) → Reached
 progress m took made = record { machine = m; taken = took; made = made }
 
 -- ---- the phases that stand until RUN is written 0
@@ -67,14 +69,15 @@ abbrev pub some : List ℕ → Bool
 some [] = false
 some (b ∷ bs) = true
 
--- what a rule's waiting depends on: whether there is a beat, and whether there is room
-abbrev pub Waits : (World → Answer) → Machine → (more room : Bool) → Wait → Type 0
-Waits rule m more room r =
-    (w : World) → more ≡ some (w .input) → room ≡ ltb 0 (w .room) → r ≡ waitOf (rule (became w m))
+-- what a rule's waiting depends on: whether there is a beat, whether there is room for one, and whether there is for a record
+abbrev pub Waits : (World → Answer) → Machine → (more room keeps : Bool) → Wait → Type 0
+Waits rule m more room keeps r =
+    (w : World) → more ≡ some (w .input) → room ≡ ltb 0 (w .room) → keeps ≡ ltb 0 (w .left) → r ≡ waitOf (rule (became w m))
 
--- a rule can be applied, in the middle of lent slices
-abbrev pub Goes : (World → Answer) → Machine → (window beats : List ℕ) (took : ℕ) (out : List ℕ) (made : ℕ) → Type 0
-Goes rule m window beats took out made = (w : World) → waitOf (rule (midway w m window beats took out made)) ≡ Go
+-- a rule can be applied, in the middle of lent slices, in some world
+pub record Goes (rule : World → Answer) (m : Machine) (window beats : List ℕ) (took : ℕ) (out : List ℕ) (made : ℕ) : Type 0 where
+  pub around : World
+  pub can : waitOf (rule (midway around m window beats took out made)) ≡ Go
 
 -- ---- what is lent
 
@@ -105,7 +108,7 @@ Still rule m window m' window' =
     (w : World) → rule (stored w m window) ≡ taken (stored w m' window')
 
 -- a rule that can be applied, in the middle of lent slices: `new` are the beats that it made
-pub record Went (rule : World → Answer) (m : Machine) (window beats : List ℕ) (took : ℕ) (out : List ℕ) (made : ℕ) (r : Progress)
+pub record Went (rule : World → Answer) (m : Machine) (window beats : List ℕ) (took : ℕ) (out : List ℕ) (made : ℕ) (r : Reached)
     (window' out' : List ℕ) : Type 0 where
   pub new : List ℕ
   pub counted : r .made ≡ made + length new
@@ -114,11 +117,56 @@ pub record Went (rule : World → Answer) (m : Machine) (window beats : List ℕ
       → rule (midway w m window beats took out made)
       ≡ taken (worldAt w (r .machine) window' beats (r .taken) (w .output ++ new) (length out / 2 - r .made))
 
--- some steps at once, in the middle of lent slices: where they led, and how many they were
+-- several at once: where they led, and how many they were
 abbrev pub Advances : Machine → (window beats : List ℕ) (took : ℕ) (out : List ℕ) (made : ℕ) → Advanced → (window' out' : List ℕ) → Type 0
 Advances m window beats took out made r window' out' =
     Within beats out (r .taken) (r .made)
     × Went (λ (w : World). steps (r .steps) w) m window beats took out made (progress (r .machine) (r .taken) (r .made)) window' out'
+
+-- ---- the ledger
+
+-- the world with the record that a step from this machine makes
+abbrev pub loggedIn : Phase → Machine → World → World
+loggedIn Rest m w = w
+loggedIn Fetch m w = w
+loggedIn (Move k) m w = w
+loggedIn (WriteBack k) m w = noted w (w .records ++ entryFor m k ∷ []) (w .left - 1)
+loggedIn Ended m w = w
+loggedIn Halted m w = w
+loggedIn (Faulted f) m w = w
+
+unfoldable pub logged : Machine → World → World
+logged m w = loggedIn (m .phase) m w
+
+-- the record is put behind those used
+pub record Logs (m : Machine) (ledger : List ℕ) (used used' : ℕ) (ledger' : List ℕ) : Type 0 where
+  pub new : List Entry
+  pub counted : used' ≡ used + length new
+  pub wrote : ledger' ≡ put ledger (12 * used) (ledgerBytes new)
+  pub inside : used ≤ length ledger / 12 → used' ≤ length ledger / 12
+  pub logs : (w : World) → w .left ≡ capacity (length ledger) - used → waitOf (step (became w m)) ≡ Go
+      → logged m w ≡ noted w (w .records ++ new) (capacity (length ledger) - used')
+
+-- the record of a write-back apart, what a step does to the rest
+abbrev pub Backs : Machine → Work → (window : List ℕ) → Machine → (window' : List ℕ) → Type 0
+Backs m k window m' window' =
+    (w : World) (left : ℕ)
+    → backTo (stored w m window) k (suc left) ≡ taken (noted (stored w m' window') (w .records ++ entryFor m k ∷ []) left)
+
+-- steps that can be taken, in the middle of lent slices; the first of them may make a record
+pub record Turned (rule : World → Answer) (m : Machine) (window beats : List ℕ) (took : ℕ) (out : List ℕ) (made : ℕ) (r : Reached)
+    (window' out' : List ℕ) : Type 0 where
+  pub new : List ℕ
+  pub counted : r .made ≡ made + length new
+  pub wrote : out' ≡ put out (2 * made) (beatBytes new)
+  pub goes : (w : World) → waitOf (step (midway w m window beats took out made)) ≡ Go
+      → rule (midway w m window beats took out made)
+      ≡ taken (worldAt (logged m w) (r .machine) window' beats (r .taken) (w .output ++ new) (length out / 2 - r .made))
+
+abbrev pub Turns : Machine → (window beats : List ℕ) (took : ℕ) (out : List ℕ) (made : ℕ) → Advanced → (window' out' : List ℕ) → Type 0
+Turns m window beats took out made r window' out' =
+    Within beats out (r .taken) (r .made)
+    × Turned (λ (w : World). steps (r .steps) w) m window beats took out made (progress (r .machine) (r .taken) (r .made)) window' out'
 
 -- ---- what a step needs of a machine
 

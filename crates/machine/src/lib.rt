@@ -54,7 +54,7 @@ pub struct Machine {
     pub count: u8,
 }
 
-// Why a run ends; numbered 0 to 6.
+// Why a run ends; numbered 0 to 7.
 pub enum Reason {
     Rest,
     Ended,
@@ -63,13 +63,15 @@ pub enum Reason {
     NeedsInput,
     OutputFull,
     Budget,
+    LedgerFull,
 }
 
-// The machine after a step, with the beats that the step took and made.
+// The machine after a step, with the beats that the step took and made, and the records used then.
 pub struct Progress {
     pub machine: Machine,
     pub taken: usize,
     pub made: usize,
+    pub used: u32,
 }
 
 // What one step answers.
@@ -79,13 +81,14 @@ pub enum StepAnswer {
     Refused(Refusal),
 }
 
-// The machine after a run, the reason found there, and the steps, beats taken and beats made.
+// The machine after a run, the reason found there, the steps, beats taken and beats made, and the records used then.
 pub struct Ran {
     pub machine: Machine,
     pub reason: Reason,
     pub steps: u32,
     pub taken: usize,
     pub made: usize,
+    pub used: u32,
 }
 
 // What a run answers.

@@ -4,9 +4,9 @@ ghost use mathlib.Core.Bool.{true, false};
 ghost use Prim.Native.Nat.{_+_, _≤_, _<_};
 ghost use lib.ListN.{length};
 ghost use Rattle.machine.specs.declared.Phase.the-variants.{Move};
-ghost use Rattle.machine.specs.Step.{whole as wholeOf, onward as onwardOf, step as stepOf};
+ghost use Rattle.machine.specs.Step.{World, whole as wholeOf, onward as onwardOf, step as stepOf};
 ghost use Rattle.machine.specs.Run.{lentIf, Runs, HasRun, Resumed};
-ghost use Rattle.machine.specs.Turns.{Goes, Within, Ready, Advances, movedBy};
+ghost use Rattle.machine.specs.Turns.{Goes, Within, Ready, Advances, Turns, logged, movedBy};
 use crate::Machine;
 use crate::Phase;
 use crate::Ran;
@@ -17,6 +17,7 @@ use crate::bursts::least;
 use crate::steps::Lent;
 use crate::steps::Wait;
 use crate::steps::asked;
+use ledger::has_room;
 use regs::Mode;
 
 // Where some steps led, and how many they were.
@@ -100,6 +101,7 @@ impl Machine {
         requires { ⌜ 1 ≤ left ⌝ }
         ensures { λ r. ⌜ r .steps ≤ left ⌝ }
         ensures { λ r. ⌜ Advances self (now (window .entry)) (now (beats .entry)) taken (now (out .entry)) made r (now (window .exit)) (now (out .exit)) ⌝ }
+        ensures { λ r. ⌜ (1 ≤ r .steps → (w : World) → logged self w ≡ w) ⌝ }
     {
         let phase = self.phase;
         let Phase::Move(k) = phase else {
@@ -130,7 +132,7 @@ impl Machine {
         requires { ⌜ Goes stepOf self (now window) (now beats) taken (now out) made ⌝ }
         requires { ⌜ 1 ≤ left ⌝ }
         ensures { λ r. ⌜ (1 ≤ r .steps) × (r .steps ≤ left) ⌝ }
-        ensures { λ r. ⌜ Advances self (now (window .entry)) (now (beats .entry)) taken (now (out .entry)) made r (now (window .exit)) (now (out .exit)) ⌝ }
+        ensures { λ r. ⌜ Turns self (now (window .entry)) (now (beats .entry)) taken (now (out .entry)) made r (now (window .exit)) (now (out .exit)) ⌝ }
     {
         let b = self.burst(window, beats, taken, out, made, left);
         if b.steps != 0 {
@@ -153,27 +155,35 @@ impl Machine {
         window: &mut [u8],
         beats: &[u8],
         out: &mut [u8],
+        ledger: &mut [u8],
+        used: u32,
         budget: u32,
     ) -> RunAnswer
         requires { ⌜ (good ≡ true → Ready self (self .window .length)) ⌝ }
-        ensures { λ r. ⌜ Runs (lentIf good self (now (window .entry)) (now (beats .entry)) (now (out .entry))) self (now (window .entry)) (now (beats .entry)) (now (out .entry)) budget r (now (window .exit)) (now (out .exit)) ⌝ }
+        ensures { λ r. ⌜ Runs (lentIf good self (now (window .entry)) (now (beats .entry)) (now (out .entry)) (now (ledger .entry)) used) self (now (window .entry)) (now (beats .entry)) (now (out .entry)) (now (ledger .entry)) used budget r (now (window .exit)) (now (out .exit)) (now (ledger .exit)) ⌝ }
     {
-        let lent = self.served(good, window, beats, out);
+        let lent = self.served(good, window, beats, out, ledger, used);
         if let Lent::Refused(why) = lent {
             return RunAnswer::Refused(why);
         }
         let mut machine = self;
         let mut taken: usize = 0;
         let mut made: usize = 0;
+        let mut filled: u32 = used;
         let mut steps: u32 = 0;
         let reason = loop {
-            let wait = machine.wait(taken < beats.len() / 2, made < out.len() / 2);
+            let wait = machine.wait(
+                taken < beats.len() / 2,
+                made < out.len() / 2,
+                has_room(ledger, filled),
+            );
             if let Wait::Stop(why) = wait {
                 break why;
             }
             if steps == budget {
                 break Reason::Budget;
             }
+            filled = machine.log(ledger, filled);
             let a = machine.advance(window, beats, taken, out, made, budget - steps);
             machine = a.machine;
             taken = a.taken;
@@ -186,19 +196,36 @@ impl Machine {
             steps,
             taken,
             made,
+            used: filled,
         })
     }
 
-    pub fn run(self, window: &mut [u8], beats: &[u8], out: &mut [u8], budget: u32) -> RunAnswer
-        ensures { λ r. ⌜ HasRun self (now (window .entry)) (now (beats .entry)) (now (out .entry)) budget r (now (window .exit)) (now (out .exit)) ⌝ }
+    pub fn run(
+        self,
+        window: &mut [u8],
+        beats: &[u8],
+        out: &mut [u8],
+        ledger: &mut [u8],
+        used: u32,
+        budget: u32,
+    ) -> RunAnswer
+        ensures { λ r. ⌜ HasRun self (now (window .entry)) (now (beats .entry)) (now (out .entry)) (now (ledger .entry)) used budget r (now (window .exit)) (now (out .exit)) (now (ledger .exit)) ⌝ }
     {
-        self.run_if(self.keeps(), window, beats, out, budget)
+        self.run_if(self.keeps(), window, beats, out, ledger, used, budget)
     }
 
     // The same of a machine that is known to keep the rules, as one that was loaded is: it looks only at what a step needs.
-    pub fn resume(self, window: &mut [u8], beats: &[u8], out: &mut [u8], budget: u32) -> RunAnswer
-        ensures { λ r. ⌜ Resumed self (now (window .entry)) (now (beats .entry)) (now (out .entry)) budget r (now (window .exit)) (now (out .exit)) ⌝ }
+    pub fn resume(
+        self,
+        window: &mut [u8],
+        beats: &[u8],
+        out: &mut [u8],
+        ledger: &mut [u8],
+        used: u32,
+        budget: u32,
+    ) -> RunAnswer
+        ensures { λ r. ⌜ Resumed self (now (window .entry)) (now (beats .entry)) (now (out .entry)) (now (ledger .entry)) used budget r (now (window .exit)) (now (out .exit)) (now (ledger .exit)) ⌝ }
     {
-        self.run_if(self.ready(), window, beats, out, budget)
+        self.run_if(self.ready(), window, beats, out, ledger, used, budget)
     }
 }

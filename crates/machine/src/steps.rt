@@ -15,7 +15,7 @@ ghost use Rattle.machine.specs.Step.{World, stored, wantsLength, begun a
 ghost use Rattle.machine.specs.Step.{fetched as fetchedOf, fetchStep, copyStep, sendStep, receiveFrom, moveStep, writeBackStep, step as stepOf};
 ghost use Rattle.machine.specs.Run.{lentIf, lentOf, readyOf, Stepped};
 ghost use Rattle.machine.specs.declared.Phase.the-variants.{Move, WriteBack};
-ghost use Rattle.machine.specs.Turns.{progress, inFault, Waits, Goes, lentAs, Within, Still, Went, Ready};
+ghost use Rattle.machine.specs.Turns.{progress, inFault, Waits, Goes, lentAs, Within, Still, Went, Turned, Logs, Backs, Ready};
 use crate::Fault;
 use crate::Machine;
 use crate::Phase;
@@ -30,6 +30,9 @@ use descriptor::DescControl;
 use descriptor::Descriptor;
 use flow::Beat;
 use flow::output_beat;
+use ledger::Entry;
+use ledger::append;
+use ledger::has_room;
 use regs::Control;
 use regs::Count;
 use regs::Mode;
@@ -43,6 +46,13 @@ use words::put_u16;
 pub(crate) enum Wait {
     Go,
     Stop(Reason),
+}
+
+// The machine after a step, with the beats taken and made then.
+pub(crate) struct Reached {
+    pub machine: Machine,
+    pub taken: usize,
+    pub made: usize,
 }
 
 // Whether what is lent serves the machine, or the first refusal that applies.
@@ -174,10 +184,10 @@ impl Machine {
     }
 
     // The machine, where so many beats are taken and made.
-    fn at(self, taken: usize, made: usize) -> Progress
+    fn at(self, taken: usize, made: usize) -> Reached
         ensures { λ r. ⌜ r ≡ progress self taken made ⌝ }
     {
-        Progress {
+        Reached {
             machine: self,
             taken,
             made,
@@ -340,14 +350,7 @@ impl Machine {
     }
 
     // Mode 1: 13; then the beat is made, for which there is room.
-    fn send_step(
-        self,
-        k: Work,
-        window: &[u8],
-        taken: usize,
-        out: &mut [u8],
-        made: usize,
-    ) -> Progress
+    fn send_step(self, k: Work, window: &[u8], taken: usize, out: &mut [u8], made: usize) -> Reached
         requires { ⌜ self .window .length ≡ length (now window) ⌝ }
         requires { ⌜ k .moved < 65535 ⌝ }
         requires { ⌜ made ≤ length (now out) / 2 ⌝ }
@@ -375,7 +378,7 @@ impl Machine {
         beats: &[u8],
         next: usize,
         made: usize,
-    ) -> Progress
+    ) -> Reached
         requires { ⌜ self .window .length ≡ length (now window) ⌝ }
         requires { ⌜ k .moved < 65535 ⌝ }
         requires { ⌜ next < length (now beats) / 2 ⌝ }
@@ -409,12 +412,42 @@ impl Machine {
         descriptor::write_back(window, place, k.moved, k.errors, control);
     }
 
+    // All but its record.
     fn write_back_step(self, k: Work, window: &mut [u8]) -> Machine
         requires { ⌜ inWindow (self .window) (k .at) 32 ≡ true ⌝ }
-        ensures { λ r. ⌜ Still (λ (w : World). writeBackStep w k) self (now (window .entry)) r (now (window .exit)) ⌝ }
+        ensures { λ r. ⌜ Backs self k (now (window .entry)) r (now (window .exit)) ⌝ }
     {
         self.put_back(k, window);
         self.completed(k)
+    }
+}
+
+// The ledger.
+impl Machine {
+    // In WriteBack the record of the descriptor is put behind those used; how many are used then.
+    pub(crate) fn log(self, ledger: &mut [u8], used: u32) -> u32
+        ensures { λ r. ⌜ Logs self (now (ledger .entry)) used r (now (ledger .exit)) ⌝ }
+    {
+        let phase = self.phase;
+        match phase {
+            Phase::Rest => used,
+            Phase::Fetch => used,
+            Phase::Move(_) => used,
+            Phase::WriteBack(k) => append(
+                ledger,
+                used,
+                Entry {
+                    run: 0,
+                    at: k.at,
+                    actual: k.moved,
+                    status: k.errors,
+                    eop: k.eop,
+                },
+            ),
+            Phase::Ended => used,
+            Phase::Halted => used,
+            Phase::Faulted(_) => used,
+        }
     }
 }
 
@@ -453,8 +486,8 @@ impl Machine {
 // Whether a step can be taken.
 impl Machine {
     // Move: no room, no step, but 13 comes before that; no beat, no step.
-    fn move_wait(self, k: Work, more: bool, room: bool) -> Wait
-        ensures { λ r. ⌜ Waits (λ (w : World). moveStep (self .mode) w k) self more room r ⌝ }
+    fn move_wait(self, k: Work, more: bool, room: bool, keeps: bool) -> Wait
+        ensures { λ r. ⌜ Waits (λ (w : World). moveStep (self .mode) w k) self more room keeps r ⌝ }
     {
         let mode = self.mode;
         match mode {
@@ -477,9 +510,9 @@ impl Machine {
         }
     }
 
-    // Where there is a beat to take, or not, and room for one, or not.
-    pub(crate) fn wait(self, more: bool, room: bool) -> Wait
-        ensures { λ r. ⌜ Waits stepOf self more room r ⌝ }
+    // Where there is a beat to take, or not, and room for one, or not, and for a record, or not.
+    pub(crate) fn wait(self, more: bool, room: bool, keeps: bool) -> Wait
+        ensures { λ r. ⌜ Waits stepOf self more room keeps r ⌝ }
     {
         let phase = self.phase;
         match phase {
@@ -489,8 +522,12 @@ impl Machine {
                 Wait::Stop(Reason::Rest)
             },
             Phase::Fetch => Wait::Go,
-            Phase::Move(k) => self.move_wait(k, more, room),
-            Phase::WriteBack(_) => Wait::Go,
+            Phase::Move(k) => self.move_wait(k, more, room, keeps),
+            Phase::WriteBack(_) => if keeps {
+                Wait::Go
+            } else {
+                Wait::Stop(Reason::LedgerFull)
+            },
             Phase::Ended => Wait::Stop(Reason::Ended),
             Phase::Halted => Wait::Stop(Reason::Halted),
             Phase::Faulted(_) => Wait::Stop(Reason::Faulted),
@@ -509,7 +546,7 @@ impl Machine {
         taken: usize,
         out: &mut [u8],
         made: usize,
-    ) -> Progress
+    ) -> Reached
         requires { ⌜ self .window .length ≡ length (now window) ⌝ }
         requires { ⌜ k .moved < 65535 ⌝ }
         requires { ⌜ Within (now beats) (now out) taken made ⌝ }
@@ -533,12 +570,12 @@ impl Machine {
         taken: usize,
         out: &mut [u8],
         made: usize,
-    ) -> Progress
+    ) -> Reached
         requires { ⌜ Ready self (length (now window)) ⌝ }
         requires { ⌜ Within (now beats) (now out) taken made ⌝ }
         requires { ⌜ Goes stepOf self (now window) (now beats) taken (now out) made ⌝ }
         ensures { λ r. ⌜ Within (now (beats .entry)) (now (out .entry)) (r .taken) (r .made) ⌝ }
-        ensures { λ r. ⌜ Went stepOf self (now (window .entry)) (now (beats .entry)) taken (now (out .entry)) made r (now (window .exit)) (now (out .exit)) ⌝ }
+        ensures { λ r. ⌜ Turned stepOf self (now (window .entry)) (now (beats .entry)) taken (now (out .entry)) made r (now (window .exit)) (now (out .exit)) ⌝ }
     {
         let phase = self.phase;
         match phase {
@@ -552,10 +589,18 @@ impl Machine {
         }
     }
 
-    // 8 where the machine is not good; 9 where beats, in or out, have an odd number of bytes; 4 where the window's length is not
-    // the machine's.
-    pub(crate) fn served(self, good: bool, window: &[u8], beats: &[u8], out: &[u8]) -> Lent
-        ensures { λ r. ⌜ lentAs r ≡ lentIf good self (now (window .entry)) (now (beats .entry)) (now (out .entry)) ⌝ }
+    // 8 where the machine is not good; 9 where beats, in or out, have an odd number of bytes; 19 where the ledger is not whole
+    // records, or fewer than are said to be used; 4 where the window's length is not the machine's.
+    pub(crate) fn served(
+        self,
+        good: bool,
+        window: &[u8],
+        beats: &[u8],
+        out: &[u8],
+        ledger: &[u8],
+        used: u32,
+    ) -> Lent
+        ensures { λ r. ⌜ lentAs r ≡ lentIf good self (now (window .entry)) (now (beats .entry)) (now (out .entry)) (now (ledger .entry)) used ⌝ }
     {
         if !good {
             return Lent::Refused(Refusal::BadImage);
@@ -564,6 +609,9 @@ impl Machine {
         if !even {
             return Lent::Refused(Refusal::OddStream);
         }
+        if !ledger::serves(ledger, used) {
+            return Lent::Refused(Refusal::BadLedger);
+        }
         if window.len() != self.window.length as usize {
             return Lent::Refused(Refusal::OtherWindow);
         }
@@ -571,24 +619,43 @@ impl Machine {
     }
 
     // Good is one that keeps the rules.
-    fn checked(self, window: &[u8], beats: &[u8], out: &[u8]) -> Lent
-        ensures { λ r. ⌜ lentAs r ≡ lentOf self (now (window .entry)) (now (beats .entry)) (now (out .entry)) ⌝ }
+    fn checked(self, window: &[u8], beats: &[u8], out: &[u8], ledger: &[u8], used: u32) -> Lent
+        ensures { λ r. ⌜ lentAs r ≡ lentOf self (now (window .entry)) (now (beats .entry)) (now (out .entry)) (now (ledger .entry)) used ⌝ }
     {
-        self.served(self.keeps(), window, beats, out)
+        self.served(self.keeps(), window, beats, out, ledger, used)
     }
 
     // One step, or why it cannot be taken.
-    pub fn step(self, window: &mut [u8], beats: &[u8], out: &mut [u8]) -> StepAnswer
-        ensures { λ r. ⌜ Stepped self (now (window .entry)) (now (beats .entry)) (now (out .entry)) r (now (window .exit)) (now (out .exit)) ⌝ }
+    pub fn step(
+        self,
+        window: &mut [u8],
+        beats: &[u8],
+        out: &mut [u8],
+        ledger: &mut [u8],
+        used: u32,
+    ) -> StepAnswer
+        ensures { λ r. ⌜ Stepped self (now (window .entry)) (now (beats .entry)) (now (out .entry)) (now (ledger .entry)) used r (now (window .exit)) (now (out .exit)) (now (ledger .exit)) ⌝ }
     {
-        let lent = self.checked(window, beats, out);
+        let lent = self.checked(window, beats, out, ledger, used);
         if let Lent::Refused(why) = lent {
             return StepAnswer::Refused(why);
         }
-        let wait = self.wait(0 < beats.len() / 2, 0 < out.len() / 2);
+        let wait = self.wait(
+            0 < beats.len() / 2,
+            0 < out.len() / 2,
+            has_room(ledger, used),
+        );
         if let Wait::Stop(why) = wait {
             return StepAnswer::Stopped(why);
         }
-        StepAnswer::Taken(self.step_at(window, beats, 0, out, 0))
+        let filled = self.log(ledger, used);
+        let s = self.step_at(window, beats, 0, out, 0);
+        let machine = s.machine;
+        StepAnswer::Taken(Progress {
+            machine,
+            taken: s.taken,
+            made: s.made,
+            used: filled,
+        })
     }
 }

@@ -1,6 +1,6 @@
 -- A step in WriteBack.
 -- Assumes nothing.
-use Prim.Native.Nat.{ℕ, _+_, _≤_}
+use Prim.Native.Nat.{ℕ, zero, suc, _+_, _≤_}
 use mathlib.Core.Path.{_≡_, refl, sym, ap, _∙_}
 use mathlib.Core.Bool.{Bool, true, false, not, _&&_, _||_}
 use mathlib.Core.List.{[], _∷_}
@@ -16,7 +16,7 @@ use Rattle.regs.specs.Control.{run, stopDmaEr, maxDescProcessed, counted}
 use Rattle.image.proofs.Tests.{and-left}
 use Rattle.machine.specs.declared.Machine.{Machine}
 use Rattle.machine.specs.declared.Work.{Work}
-use Rattle.machine.specs.Step.{World, wantsLength, writtenControl, writtenBack, afterBack, completed, writeBackStep}
+use Rattle.machine.specs.Step.{World, wantsLength, writtenControl, writtenBack, afterBack, completed, backTo, writeBackStep}
 use Rattle.met.proofs.Kept.{Hand, InPhase, Kept, on, neither}
 use Rattle.met.proofs.Memory.{row-bytes, put-bytes, length-put-at}
 use Rattle.met.proofs.Worlds.{KeptWorld, After}
@@ -58,9 +58,10 @@ module _ {m : Machine} (k : Kept m) (d : Work) (h : Hand (m .mode) (m .window) d
             (λ t. failed-streams _ refl (and-left _ (stopDmaEr (m .control)) t));
       }
 
-pub write-back-after : {w : World} → KeptWorld w → (d : Work) → Hand (w .machine .mode) (w .machine .window) d → After (writeBackStep w d)
-unfolding writeBackStep writtenBack completed
-write-back-after {w} h d g =
+back-after : {w : World} → KeptWorld w → (d : Work) → Hand (w .machine .mode) (w .machine .window) d → (left : ℕ) → After (backTo w d left)
+unfolding writtenBack completed
+back-after h d g zero = tt
+back-after {w} h d g (suc left) =
     let at = placeOf (w .machine .window) (d .at) + 28 in
     let ys = row-bytes LeastFirst (2 ∷ 1 ∷ 1 ∷ []) (d .moved ∷ d .errors ∷ writtenControl (w .machine) d ∷ []) in
     record {
@@ -69,3 +70,7 @@ write-back-after {w} h d g =
       memory = put-bytes (w .memory) at _ (h .memory) ys;
       input = h .input;
     }
+
+pub write-back-after : {w : World} → KeptWorld w → (d : Work) → Hand (w .machine .mode) (w .machine .window) d → After (writeBackStep w d)
+unfolding writeBackStep
+write-back-after {w} h d g = back-after h d g (w .left)

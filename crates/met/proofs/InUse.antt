@@ -9,6 +9,7 @@ use lib.ListN.{length}
 use lib.Dec.{eqb}
 use borrow.Author.Tests.{eqb-true}
 use Rattle.words.specs.Slices.{AllBytes}
+use Rattle.ledger.specs.Records.{isLedger}
 use Rattle.flow.specs.Beats.{beatsIn}
 use Rattle.machine.specs.declared.Machine.{Machine}
 use Rattle.machine.specs.declared.Progress.{Progress}
@@ -44,15 +45,17 @@ abbrev IfServes : Type 0 → Lent → Type 0
 IfServes A serves = A
 IfServes A (refused why) = Unit {0}
 
-lent-sound : (m : Machine) (window beats out : List ℕ) → Sound m → AllBytes window → AllBytes beats
-    → IfServes (SoundWorld (worldOf m window beats out)) (lentOf m window beats out)
+lent-sound : (m : Machine) (window beats out ledger : List ℕ) (used : ℕ) → Sound m → AllBytes window → AllBytes beats
+    → IfServes (SoundWorld (worldOf m window beats out ledger used)) (lentOf m window beats out ledger used)
 unfolding lentOf
-lent-sound m window beats out s g b =
-    let P = IfServes (SoundWorld (worldOf m window beats out)) in
+lent-sound m window beats out ledger used s g b =
+    let P = IfServes (SoundWorld (worldOf m window beats out ledger used)) in
     on P (keeps m)
     (λ k. on P (even beats && even out)
-    (λ e. on P (eqb (length window) (m .window .length))
+    (λ e. on P (isLedger (length ledger) used)
+    (λ d. on P (eqb (length window) (m .window .length))
     (λ l. record { machine = s; size = eqb-true _ _ l; memory = g; input = beats-of beats b }) (λ l. tt))
+    (λ d. tt))
     (λ e. tt))
     (λ k. tt)
 
@@ -67,27 +70,27 @@ abbrev SoundRun : RunAnswer → Type 0
 SoundRun (many.Done r) = Sound (r .machine)
 SoundRun (many.Refused why) = Unit {0}
 
-module _ (w : World) where
-  answer-sound : SoundWorld w → (a : Answer) → step w ≡ a → SoundStep (steppedAs w a)
+module _ (used : ℕ) (w : World) where
+  answer-sound : SoundWorld w → (a : Answer) → step w ≡ a → SoundStep (steppedAs used w a)
   answer-sound s (taken v) e = step-keeps s e .machine
   answer-sound s (stopped r) e = tt
 
-  step-sound : (l : Lent) → IfServes (SoundWorld w) l → SoundStep (stepAnswer l w)
+  step-sound : (l : Lent) → IfServes (SoundWorld w) l → SoundStep (stepAnswer used l w)
   step-sound serves s = answer-sound s (step w) refl
   step-sound (refused why) s = tt
 
-  run-sound : (l : Lent) → IfServes (SoundWorld w) l → (budget : ℕ) → SoundRun (runAnswer l w budget)
+  run-sound : (l : Lent) → IfServes (SoundWorld w) l → (budget : ℕ) → SoundRun (runAnswer used l w budget)
   run-sound serves s budget = run-keeps budget s .machine
   run-sound (refused why) s budget = tt
 
-module _ {m : Machine} {window beats out window' out' : List ℕ} (s : Sound m) (g : AllBytes window) (b : AllBytes beats) where
-  stepped-keeps : {p : Progress} → Stepped m window beats out (one.Taken p) window' out' → Sound (p .machine)
+module _ {m : Machine} {window beats out ledger window' out' ledger' : List ℕ} {used : ℕ} (s : Sound m) (g : AllBytes window) (b : AllBytes beats) where
+  stepped-keeps : {p : Progress} → Stepped m window beats out ledger used (one.Taken p) window' out' ledger' → Sound (p .machine)
   stepped-keeps h =
-      subst SoundStep (sym (h .answer)) (step-sound (worldOf m window beats out) (lentOf m window beats out) (lent-sound m window beats out s g b))
+      subst SoundStep (sym (h .answer)) (step-sound used (worldOf m window beats out ledger used) (lentOf m window beats out ledger used) (lent-sound m window beats out ledger used s g b))
 
-  ran-keeps : {budget : ℕ} {r : Ran} → HasRun m window beats out budget (many.Done r) window' out' → Sound (r .machine)
+  ran-keeps : {budget : ℕ} {r : Ran} → HasRun m window beats out ledger used budget (many.Done r) window' out' ledger' → Sound (r .machine)
   ran-keeps {budget} h =
-      subst SoundRun (sym (h .answer)) (run-sound (worldOf m window beats out) (lentOf m window beats out) (lent-sound m window beats out s g b) budget)
+      subst SoundRun (sym (h .answer)) (run-sound used (worldOf m window beats out ledger used) (lentOf m window beats out ledger used) (lent-sound m window beats out ledger used s g b) budget)
 
 -- ---- every machine met
 

@@ -15,7 +15,7 @@ use Rattle.regs.specs.Control.{run}
 use Rattle.machine.specs.declared.Work.{Work}
 use Rattle.machine.specs.declared.Phase.{Phase}
 use Rattle.machine.specs.declared.Phase.the-variants.{Rest, Fetch, Move, WriteBack, Ended, Halted, Faulted}
-use Rattle.machine.specs.Step.{World, Answer, wantsLength, restStep, fetched, fetchStep, sourceOf, destinationOf, copyStep, sendTo, sendStep, receiveFrom, moveStep, writeBackStep, stepIn, step}
+use Rattle.machine.specs.Step.{World, Answer, wantsLength, restStep, fetched, fetchStep, sourceOf, destinationOf, copyStep, sendTo, sendStep, receiveFrom, moveStep, backTo, writeBackStep, stepIn, step}
 use Rattle.met.specs.Reading.{over, atPointer, Alike, both, neither}
 
 choice : (b : Bool) {x y u v : Answer} → Alike x u → Alike y v → Alike (cond b x y) (cond b u v)
@@ -72,15 +72,16 @@ module _ (w : World) (memory : List ℕ) where
     move-alike MemoryToStream = send-alike
     move-alike StreamToMemory = receive-alike (w .input)
 
-    back-alike : Alike (writeBackStep w k) (writeBackStep (over memory w) k)
-    unfolding writeBackStep
-    back-alike = both refl refl refl
+    back-alike : (left : ℕ) → Alike (backTo w k left) (backTo (over memory w) k left)
+    back-alike zero = neither
+    back-alike (suc left) = both refl refl refl
 
   step-alike : (p : Phase) → (p ≡ Fetch → atPointer w ≡ atPointer (over memory w)) → Alike (stepIn p w) (stepIn p (over memory w))
+  unfolding writeBackStep
   step-alike Rest h = rest-alike
   step-alike Fetch h = fetch-alike (h refl)
   step-alike (Move k) h = move-alike k (w .machine .mode)
-  step-alike (WriteBack k) h = back-alike k
+  step-alike (WriteBack k) h = back-alike k (w .left)
   step-alike Ended h = neither
   step-alike Halted h = neither
   step-alike (Faulted f) h = neither

@@ -19,7 +19,7 @@ use Rattle.machine.specs.declared.Work.{Work}
 use Rattle.machine.specs.declared.Phase.{Phase}
 use Rattle.machine.specs.declared.Phase.the-variants.{Fetch, Move, WriteBack}
 use Rattle.machine.specs.State.{withPhase}
-use Rattle.machine.specs.Step.{World, Answer, wantsLength, fetched, sourceOf, destinationOf, whole, withByte, onward, copyStep, beatFor, sendTo, sendStep, receiveFrom, moveStep, writtenControl, writtenBack, completed, writeBackStep, stepIn, step}
+use Rattle.machine.specs.Step.{World, Answer, wantsLength, fetched, sourceOf, destinationOf, whole, withByte, onward, copyStep, beatFor, sendTo, sendStep, receiveFrom, moveStep, writtenControl, writtenBack, completed, backTo, writeBackStep, stepIn, step}
 use Rattle.met.specs.Unused.{SameUse, descriptorUnder, workUnder, phaseUnder, worldUnder, answerUnder, answerOver}
 
 -- ---- they have no effect
@@ -108,8 +108,12 @@ module _ (c : ℕ) where
   no-effect-in-write-back k w e =
       subst (λ (p : Phase). stepIn (phaseUnder c p) (worldUnder c w) ≡ answerOver (writtenBack w (workUnder c k)) (stepIn p w)) (sym e) back
     where
+      back-to : (left : ℕ) → backTo (worldUnder c w) (workUnder c k) left ≡ answerOver (writtenBack w (workUnder c k)) (backTo w k left)
+      back-to zero = refl
+      back-to (suc left) = refl
+
       back : writeBackStep (worldUnder c w) (workUnder c k) ≡ answerOver (writtenBack w (workUnder c k)) (writeBackStep w k)
-      back = refl
+      back = back-to (w .left)
 
 -- ---- they are kept as given
 

@@ -26,7 +26,7 @@ pub data Met : Machine → Type 0 where
   fresh : (mode : Mode) (w : Window) → keepsLimits (w .base) (w .length) ≡ true → Met (state.fresh mode w)
   loaded : {xs : List ℕ} {m : Machine} → WasLoaded xs (Good m) → Met m
   written : {m n : Machine} {offset v : ℕ} → Met m → v < 2 ^ 32 → WasWritten m offset v (wrote.Done n) → Met n
-  stepped : {m : Machine} {window beats out window' out' : List ℕ} {p : Progress}
-      → Met m → AllBytes window → AllBytes beats → Stepped m window beats out (one.Taken p) window' out' → Met (p .machine)
-  ran : {m : Machine} {window beats out window' out' : List ℕ} {budget : ℕ} {r : Ran}
-      → Met m → AllBytes window → AllBytes beats → HasRun m window beats out budget (many.Done r) window' out' → Met (r .machine)
+  stepped : {m : Machine} {window beats out ledger window' out' ledger' : List ℕ} {used : ℕ} {p : Progress}
+      → Met m → AllBytes window → AllBytes beats → Stepped m window beats out ledger used (one.Taken p) window' out' ledger' → Met (p .machine)
+  ran : {m : Machine} {window beats out ledger window' out' ledger' : List ℕ} {used : ℕ} {budget : ℕ} {r : Ran}
+      → Met m → AllBytes window → AllBytes beats → HasRun m window beats out ledger used budget (many.Done r) window' out' ledger' → Met (r .machine)

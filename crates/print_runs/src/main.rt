@@ -108,7 +108,8 @@ fn made(name: &[u8], row: Row, beats: &[u8]) {
     let mut image = [0u8; 44];
     let mut window = [0u8; 256];
     let mut out = [0u8; 4];
-    let mut report = [0u8; 14];
+    let mut ledger = [0u8; 48];
+    let mut report = [0u8; 18];
     window[128] = row.held;
     window[129] = row.also;
     sgdma::sgdma_create(&mut image, row.mode, BASE, 256);
@@ -129,6 +130,8 @@ fn made(name: &[u8], row: Row, beats: &[u8]) {
         &mut window,
         beats,
         &mut out,
+        &mut ledger,
+        0,
         row.budget,
         &mut report,
     );

@@ -42,8 +42,8 @@ answer-filled xs d l h i =
     (ap (λ (ys : List ℕ). ys ++ bytesOf MostFirst 2 (d .status * 256 + d .control .0)) counts
     ∙ ap (λ (ys : List ℕ). bytesOf MostFirst 2 (d .length) ++ bytesOf MostFirst 2 (d .actual) ++ ys) last)
 
--- a run's report, from its reason and its three counts
-pub report-filled : (xs : List ℕ) (reason steps took made : ℕ) → length xs ≡ 14
-    → putAt (putAt xs 0 (bytesOf MostFirst 2 reason)) 2 (wordBytes MostFirst (steps ∷ took ∷ made ∷ []))
-    ≡ rowBytes MostFirst (2 ∷ 4 ∷ 4 ∷ 4 ∷ []) (reason ∷ steps ∷ took ∷ made ∷ [])
-report-filled xs reason steps took made l = filled xs _ _ 2 refl l
+-- a run's report, from its reason and its four counts
+pub report-filled : (xs : List ℕ) (reason steps took made used : ℕ) → length xs ≡ 18
+    → putAt (putAt xs 0 (bytesOf MostFirst 2 reason)) 2 (wordBytes MostFirst (steps ∷ took ∷ made ∷ used ∷ []))
+    ≡ rowBytes MostFirst (2 ∷ 4 ∷ 4 ∷ 4 ∷ 4 ∷ []) (reason ∷ steps ∷ took ∷ made ∷ used ∷ [])
+report-filled xs reason steps took made used l = filled xs _ _ 2 refl l

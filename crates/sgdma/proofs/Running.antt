@@ -25,89 +25,93 @@ use Rattle.machine.proofs.RunLaws.{run-tells}
 use Rattle.machine.proofs.Outcomes.{resumed-runs}
 use Rattle.met.specs.Met as met
 use Rattle.met.proofs.InUse.{met-keeps}
-use Rattle.sgdma.specs.Calls.{isSize, runIn, runCall, ranOver, reportOver, windowIn, outIn, RunMade}
+use Rattle.sgdma.specs.Calls.{isSize, runIn, runCall, ranOver, reportOver, windowIn, outIn, ledgerIn, RunMade}
 use Rattle.sgdma.proofs.Opened.{first-wrong, second-wrong, sizes-right, not-loaded, keeps-loaded}
 
 -- ---- what a run's answer is known to be
 
 -- no more beats are taken or made than steps, and no more steps than the budget
-counts : (budget : ℕ) (w : World) → w .output ≡ [] → (ranAs w (run budget w) .taken ≤ budget) × (ranAs w (run budget w) .made ≤ budget)
-counts budget w e =
+counts : (used budget : ℕ) (w : World) → w .output ≡ [] → (ranAs used w (run budget w) .taken ≤ budget) × (ranAs used w (run budget w) .made ≤ budget)
+counts used budget w e =
     let t = run-tells budget w in
     let p = t .passed in
     let made : length (run budget w .world .output) ≡ length (p .made) = ap length (p .output) ∙ ap (λ (o : List ℕ). length (o ++ p .made)) e in
     (omega (arith, took-since p, t .within, p .moved), omega (arith, t .within, p .moved))
 
-done-is : (l : Lent) (w : World) (budget : ℕ) (r : Ran) → ran.Done r ≡ runAnswer l w budget → r ≡ ranAs w (run budget w)
-done-is serves w budget r e = cc
-done-is (refused why) w budget r e = absurd (let z : _≡_ {A = ℕ} 0 1 = cc in omega arith)
+done-is : (used : ℕ) (l : Lent) (w : World) (budget : ℕ) (r : Ran) → ran.Done r ≡ runAnswer used l w budget → r ≡ ranAs used w (run budget w)
+done-is used serves w budget r e = cc
+done-is used (refused why) w budget r e = absurd (let z : _≡_ {A = ℕ} 0 1 = cc in omega arith)
 
-module _ {m : Machine} {window beats out window' out' : List ℕ} {budget : ℕ} {a : RunAnswer} {r : Ran}
-    (h : Resumed m window beats out budget a window' out') (e : a ≡ ran.Done r) where
+module _ {m : Machine} {window beats out ledger window' out' ledger' : List ℕ} {used budget : ℕ} {a : RunAnswer} {r : Ran}
+    (h : Resumed m window beats out ledger used budget a window' out' ledger') (e : a ≡ ran.Done r) where
   pub ran-fits : budget < 4294967296 → (r .taken < 4294967296) × (r .made < 4294967296)
   ran-fits b =
-      let w = worldOf m window beats out in
-      let is : r ≡ ranAs w (run budget w) = done-is (lentIf (readyOf m) m window beats out) w budget r (sym e ∙ h .answer) in
-      let c = counts budget w refl in
-      let taken : r .taken ≡ ranAs w (run budget w) .taken = ap (λ (x : Ran). x .taken) is in
-      let made : r .made ≡ ranAs w (run budget w) .made = ap (λ (x : Ran). x .made) is in
+      let w = worldOf m window beats out ledger used in
+      let is : r ≡ ranAs used w (run budget w) = done-is used (lentIf (readyOf m) m window beats out ledger used) w budget r (sym e ∙ h .answer) in
+      let c = counts used budget w refl in
+      let taken : r .taken ≡ ranAs used w (run budget w) .taken = ap (λ (x : Ran). x .taken) is in
+      let made : r .made ≡ ranAs used w (run budget w) .made = ap (λ (x : Ran). x .made) is in
       (omega (arith, c .0), omega (arith, c .1))
 
   pub ran-keeps : (xs : List ℕ) → loadOf xs ≡ Good m → AllBytes window → AllBytes beats → keeps (r .machine) ≡ true
   ran-keeps xs l g i =
-      let done : HasRun m window beats out budget (ran.Done r) window' out' =
-      subst (λ (x : RunAnswer). HasRun m window beats out budget x window' out') e (resumed-runs (keeps-loaded xs l) h) in
+      let done : HasRun m window beats out ledger used budget (ran.Done r) window' out' ledger' =
+      subst (λ (x : RunAnswer). HasRun m window beats out ledger used budget x window' out' ledger') e (resumed-runs (keeps-loaded xs l) h) in
       met-keeps (met.ran (met.loaded (was-loaded (sym l))) g i done)
 
 -- ---- sgdma_run
 
-module _ {xs window beats out report xs' window' out' report' : List ℕ} {budget r : ℕ} where
+module _ {xs window beats out ledger report xs' window' out' ledger' report' : List ℕ} {used budget r : ℕ} where
   -- the record, from the call's answer and what was left in the window and the output
-  made : {v o : List ℕ} (a : RunAnswer) → runCall xs window beats out budget report ≡ a
-      → cond (sized xs && isSize 14 report) (windowIn (loadOf xs) window beats out budget) window ≡ v
-      → cond (sized xs && isSize 14 report) (outIn (loadOf xs) window beats out budget) out ≡ o
-      → r ≡ runNumber a → xs' ≡ ranOver a xs → window' ≡ v → out' ≡ o → report' ≡ reportOver a report
-      → RunMade xs window beats out budget report r xs' window' out' report'
-  made a e f g p x w o q =
+  made : {v o l : List ℕ} (a : RunAnswer) → runCall xs window beats out ledger used budget report ≡ a
+      → cond (sized xs && isSize 18 report) (windowIn (loadOf xs) window beats out ledger used budget) window ≡ v
+      → cond (sized xs && isSize 18 report) (outIn (loadOf xs) window beats out ledger used budget) out ≡ o
+      → cond (sized xs && isSize 18 report) (ledgerIn (loadOf xs) window beats out ledger used budget) ledger ≡ l
+      → r ≡ runNumber a → xs' ≡ ranOver a xs → window' ≡ v → out' ≡ o → ledger' ≡ l → report' ≡ reportOver a report
+      → RunMade xs window beats out ledger used budget report r xs' window' out' ledger' report'
+  made a e f g d p x w o m q =
       record {
         number = p ∙ sym (ap runNumber e);
         image-after = x ∙ sym (ap (λ (b : RunAnswer). ranOver b xs) e);
         window-after = w ∙ sym f;
         out-after = o ∙ sym g;
+        ledger-after = m ∙ sym d;
         report-after = q ∙ sym (ap (λ (b : RunAnswer). reportOver b report) e);
       }
 
-  pub run-short : (length xs ≡ 44 → ⊥) → r ≡ 7 → xs' ≡ xs → window' ≡ window → out' ≡ out → report' ≡ report
-      → RunMade xs window beats out budget report r xs' window' out' report'
+  pub run-short : (length xs ≡ 44 → ⊥) → r ≡ 7 → xs' ≡ xs → window' ≡ window → out' ≡ out → ledger' ≡ ledger → report' ≡ report
+      → RunMade xs window beats out ledger used budget report r xs' window' out' ledger' report'
   unfolding runCall
-  run-short h p x w o q =
-      made (ran.Refused BadSize) (first-wrong _ _ 14 xs report h) (first-wrong _ _ 14 xs report h) (first-wrong _ _ 14 xs report h) p x w o q
+  run-short h p x w o m q =
+      made (ran.Refused BadSize) (first-wrong _ _ 18 xs report h) (first-wrong _ _ 18 xs report h) (first-wrong _ _ 18 xs report h) (first-wrong _ _ 18 xs report h) p x w o m q
 
   module _ (l : length xs ≡ 44) where
-    pub report-short : (length report ≡ 14 → ⊥) → r ≡ 7 → xs' ≡ xs → window' ≡ window → out' ≡ out → report' ≡ report
-        → RunMade xs window beats out budget report r xs' window' out' report'
+    pub report-short : (length report ≡ 18 → ⊥) → r ≡ 7 → xs' ≡ xs → window' ≡ window → out' ≡ out → ledger' ≡ ledger → report' ≡ report
+        → RunMade xs window beats out ledger used budget report r xs' window' out' ledger' report'
     unfolding runCall
-    report-short h p x w o q =
-        made (ran.Refused BadSize) (second-wrong _ _ 14 xs report l h) (second-wrong _ _ 14 xs report l h) (second-wrong _ _ 14 xs report l h) p x w o q
+    report-short h p x w o m q =
+        made (ran.Refused BadSize) (second-wrong _ _ 18 xs report l h) (second-wrong _ _ 18 xs report l h) (second-wrong _ _ 18 xs report l h) (second-wrong _ _ 18 xs report l h) p x w o m q
 
-    module _ (k : length report ≡ 14) where
-      pub run-spoiled : {why : Refusal} → loadOf xs ≡ Refused why → r ≡ 8 → xs' ≡ xs → window' ≡ window → out' ≡ out → report' ≡ report
-          → RunMade xs window beats out budget report r xs' window' out' report'
+    module _ (k : length report ≡ 18) where
+      pub run-spoiled : {why : Refusal} → loadOf xs ≡ Refused why → r ≡ 8 → xs' ≡ xs → window' ≡ window → out' ≡ out → ledger' ≡ ledger → report' ≡ report
+          → RunMade xs window beats out ledger used budget report r xs' window' out' ledger' report'
       unfolding runCall
-      run-spoiled {why} e p x w o q =
+      run-spoiled {why} e p x w o d q =
           let bad = not-loaded xs why l e in
           made (ran.Refused BadImage)
-          (sizes-right _ _ 14 xs report l k ∙ ap (λ (m : LoadedMachine). runIn m window beats out budget) bad)
-          (sizes-right _ _ 14 xs report l k ∙ ap (λ (m : LoadedMachine). windowIn m window beats out budget) bad)
-          (sizes-right _ _ 14 xs report l k ∙ ap (λ (m : LoadedMachine). outIn m window beats out budget) bad) p x w o q
+          (sizes-right _ _ 18 xs report l k ∙ ap (λ (m : LoadedMachine). runIn m window beats out ledger used budget) bad)
+          (sizes-right _ _ 18 xs report l k ∙ ap (λ (m : LoadedMachine). windowIn m window beats out ledger used budget) bad)
+          (sizes-right _ _ 18 xs report l k ∙ ap (λ (m : LoadedMachine). outIn m window beats out ledger used budget) bad)
+          (sizes-right _ _ 18 xs report l k ∙ ap (λ (m : LoadedMachine). ledgerIn m window beats out ledger used budget) bad) p x w o d q
 
-      pub run-answers : {m : Machine} {a b : RunAnswer} {v u : List ℕ} → loadOf xs ≡ Good m → Resumed m window beats out budget a v u → a ≡ b
-          → r ≡ runNumber b → xs' ≡ ranOver b xs → window' ≡ v → out' ≡ u → report' ≡ reportOver b report
-          → RunMade xs window beats out budget report r xs' window' out' report'
+      pub run-answers : {m : Machine} {a b : RunAnswer} {v u t : List ℕ} → loadOf xs ≡ Good m → Resumed m window beats out ledger used budget a v u t → a ≡ b
+          → r ≡ runNumber b → xs' ≡ ranOver b xs → window' ≡ v → out' ≡ u → ledger' ≡ t → report' ≡ reportOver b report
+          → RunMade xs window beats out ledger used budget report r xs' window' out' ledger' report'
       unfolding runCall
-      run-answers {m} {a} {b} {v} {u} e resumed f p x w o q =
-          let h : HasRun m window beats out budget a v u = resumed-runs (keeps-loaded xs e) resumed in
+      run-answers {m} {a} {b} {v} {u} {t} e resumed f p x w o d q =
+          let h : HasRun m window beats out ledger used budget a v u t = resumed-runs (keeps-loaded xs e) resumed in
           made b
-          (sizes-right _ _ 14 xs report l k ∙ ap (λ (n : LoadedMachine). runIn n window beats out budget) e ∙ sym (h .answer) ∙ f)
-          (sizes-right _ _ 14 xs report l k ∙ ap (λ (n : LoadedMachine). windowIn n window beats out budget) e ∙ sym (h .window-after))
-          (sizes-right _ _ 14 xs report l k ∙ ap (λ (n : LoadedMachine). outIn n window beats out budget) e ∙ sym (h .out-after)) p x w o q
+          (sizes-right _ _ 18 xs report l k ∙ ap (λ (n : LoadedMachine). runIn n window beats out ledger used budget) e ∙ sym (h .answer) ∙ f)
+          (sizes-right _ _ 18 xs report l k ∙ ap (λ (n : LoadedMachine). windowIn n window beats out ledger used budget) e ∙ sym (h .window-after))
+          (sizes-right _ _ 18 xs report l k ∙ ap (λ (n : LoadedMachine). outIn n window beats out ledger used budget) e ∙ sym (h .out-after))
+          (sizes-right _ _ 18 xs report l k ∙ ap (λ (n : LoadedMachine). ledgerIn n window beats out ledger used budget) e ∙ sym (h .ledger-after)) p x w o d q

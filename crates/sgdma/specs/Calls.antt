@@ -31,7 +31,7 @@ use Rattle.machine.specs.declared.registers.Line.the-variants as line
 use Rattle.machine.specs.declared.RunAnswer.{RunAnswer}
 use Rattle.machine.specs.declared.RunAnswer.the-variants as ran
 use Rattle.machine.specs.State.{fresh}
-use Rattle.machine.specs.Run.{run, reasonNumber, lentOf, worldOf, runAnswer, windowAfter, outAfter, runNumber}
+use Rattle.machine.specs.Run.{run, reasonNumber, lentOf, worldOf, runAnswer, windowAfter, outAfter, ledgerAfter, runNumber}
 use Rattle.machine.specs.Saved.{fieldsOf, loadOf}
 use Rattle.machine.specs.Registers.{readOf, writeOf, lineOf, readNumber, wroteNumber, lineNumber}
 
@@ -123,51 +123,58 @@ pub record LineRead (xs value : List ℕ) (r : ℕ) (value' : List ℕ) : Type 0
 pub line-read-unique : {xs value ys zs : List ℕ} {r s : ℕ} → LineRead xs value r ys → LineRead xs value s zs → (r ≡ s) × (ys ≡ zs)
 line-read-unique p q = (p .number ∙ sym (q .number), p .value-after ∙ sym (q .value-after))
 
--- ---- sgdma_run: 7, 8, 9, 4
+-- ---- sgdma_run: 7, 8, 9, 19, 4
 
-abbrev pub runIn : LoadedMachine → (window beats out : List ℕ) (budget : ℕ) → RunAnswer
-runIn (loaded.Good m) window beats out budget = runAnswer (lentOf m window beats out) (worldOf m window beats out) budget
-runIn (loaded.Refused why) window beats out budget = ran.Refused why
+abbrev pub runIn : LoadedMachine → (window beats out ledger : List ℕ) (used budget : ℕ) → RunAnswer
+runIn (loaded.Good m) window beats out ledger used budget = runAnswer used (lentOf m window beats out ledger used) (worldOf m window beats out ledger used) budget
+runIn (loaded.Refused why) window beats out ledger used budget = ran.Refused why
 
 -- both sizes are looked at before the image
-unfoldable pub runCall : (xs window beats out : List ℕ) (budget : ℕ) (report : List ℕ) → RunAnswer
-runCall xs window beats out budget report =
-    cond (sized xs && isSize 14 report) (runIn (loadOf xs) window beats out budget) (ran.Refused BadSize)
+unfoldable pub runCall : (xs window beats out ledger : List ℕ) (used budget : ℕ) (report : List ℕ) → RunAnswer
+runCall xs window beats out ledger used budget report =
+    cond (sized xs && isSize 18 report) (runIn (loadOf xs) window beats out ledger used budget) (ran.Refused BadSize)
 
 abbrev pub ranOver : RunAnswer → List ℕ → List ℕ
 ranOver (ran.Done r) xs = imageOf (r .machine)
 ranOver (ran.Refused why) xs = xs
 
--- reason 16, steps 32, taken 32, made 32
+-- reason 16, steps 32, taken 32, made 32, records used 32
 abbrev pub reportOver : RunAnswer → List ℕ → List ℕ
 reportOver (ran.Done r) report =
-    rowBytes MostFirst (2 ∷ 4 ∷ 4 ∷ 4 ∷ []) (reasonNumber (r .reason) ∷ r .steps ∷ r .taken ∷ r .made ∷ [])
+    rowBytes MostFirst (2 ∷ 4 ∷ 4 ∷ 4 ∷ 4 ∷ []) (reasonNumber (r .reason) ∷ r .steps ∷ r .taken ∷ r .made ∷ r .used ∷ [])
 reportOver (ran.Refused why) report = report
 
 -- the window and the output after a run of what was loaded
-abbrev pub windowIn : LoadedMachine → (window beats out : List ℕ) (budget : ℕ) → List ℕ
-windowIn (loaded.Good m) window beats out budget = windowAfter (lentOf m window beats out) (run budget (worldOf m window beats out) .world) window
-windowIn (loaded.Refused why) window beats out budget = window
+abbrev pub windowIn : LoadedMachine → (window beats out ledger : List ℕ) (used budget : ℕ) → List ℕ
+windowIn (loaded.Good m) window beats out ledger used budget = windowAfter (lentOf m window beats out ledger used) (run budget (worldOf m window beats out ledger used) .world) window
+windowIn (loaded.Refused why) window beats out ledger used budget = window
 
-abbrev pub outIn : LoadedMachine → (window beats out : List ℕ) (budget : ℕ) → List ℕ
-outIn (loaded.Good m) window beats out budget = outAfter (lentOf m window beats out) (run budget (worldOf m window beats out) .world) out
-outIn (loaded.Refused why) window beats out budget = out
+abbrev pub outIn : LoadedMachine → (window beats out ledger : List ℕ) (used budget : ℕ) → List ℕ
+outIn (loaded.Good m) window beats out ledger used budget = outAfter (lentOf m window beats out ledger used) (run budget (worldOf m window beats out ledger used) .world) out
+outIn (loaded.Refused why) window beats out ledger used budget = out
 
-pub record RunMade (xs window beats out : List ℕ) (budget : ℕ) (report : List ℕ) (r : ℕ) (xs' window' out' report' : List ℕ) : Type 0 where
-  pub number : r ≡ runNumber (runCall xs window beats out budget report)
-  pub image-after : xs' ≡ ranOver (runCall xs window beats out budget report) xs
-  pub window-after : window' ≡ cond (sized xs && isSize 14 report) (windowIn (loadOf xs) window beats out budget) window
-  pub out-after : out' ≡ cond (sized xs && isSize 14 report) (outIn (loadOf xs) window beats out budget) out
-  pub report-after : report' ≡ reportOver (runCall xs window beats out budget report) report
+abbrev pub ledgerIn : LoadedMachine → (window beats out ledger : List ℕ) (used budget : ℕ) → List ℕ
+ledgerIn (loaded.Good m) window beats out ledger used budget =
+    ledgerAfter (lentOf m window beats out ledger used) (run budget (worldOf m window beats out ledger used) .world) ledger used
+ledgerIn (loaded.Refused why) window beats out ledger used budget = ledger
 
-pub run-made-unique : {xs window beats out report x1 w1 o1 p1 x2 w2 o2 p2 : List ℕ} {budget r s : ℕ}
-    → RunMade xs window beats out budget report r x1 w1 o1 p1 → RunMade xs window beats out budget report s x2 w2 o2 p2
-    → (r ≡ s) × (x1 ≡ x2) × (w1 ≡ w2) × (o1 ≡ o2) × (p1 ≡ p2)
+pub record RunMade (xs window beats out ledger : List ℕ) (used budget : ℕ) (report : List ℕ) (r : ℕ) (xs' window' out' ledger' report' : List ℕ) : Type 0 where
+  pub number : r ≡ runNumber (runCall xs window beats out ledger used budget report)
+  pub image-after : xs' ≡ ranOver (runCall xs window beats out ledger used budget report) xs
+  pub window-after : window' ≡ cond (sized xs && isSize 18 report) (windowIn (loadOf xs) window beats out ledger used budget) window
+  pub out-after : out' ≡ cond (sized xs && isSize 18 report) (outIn (loadOf xs) window beats out ledger used budget) out
+  pub ledger-after : ledger' ≡ cond (sized xs && isSize 18 report) (ledgerIn (loadOf xs) window beats out ledger used budget) ledger
+  pub report-after : report' ≡ reportOver (runCall xs window beats out ledger used budget report) report
+
+pub run-made-unique : {xs window beats out ledger report x1 w1 o1 l1 p1 x2 w2 o2 l2 p2 : List ℕ} {used budget r s : ℕ}
+    → RunMade xs window beats out ledger used budget report r x1 w1 o1 l1 p1 → RunMade xs window beats out ledger used budget report s x2 w2 o2 l2 p2
+    → (r ≡ s) × (x1 ≡ x2) × (w1 ≡ w2) × (o1 ≡ o2) × (l1 ≡ l2) × (p1 ≡ p2)
 run-made-unique p q = (
   p .number ∙ sym (q .number),
   p .image-after ∙ sym (q .image-after),
   p .window-after ∙ sym (q .window-after),
   p .out-after ∙ sym (q .out-after),
+  p .ledger-after ∙ sym (q .ledger-after),
   p .report-after ∙ sym (q .report-after),
 )
 

@@ -44,7 +44,7 @@ const VALUE: usize = 4;
 
 const DESCRIPTOR: usize = 18;
 
-const REPORT: usize = 14;
+const REPORT: usize = 18;
 
 // Writes the image of a machine that keeps the rules.
 fn put_image(m: Machine, image: &mut [u8])
@@ -153,15 +153,16 @@ fn reason_number(reason: Reason) -> u16
         Reason::NeedsInput => 4,
         Reason::OutputFull => 5,
         Reason::Budget => 6,
+        Reason::LedgerFull => 7,
     }
 }
 
-// The 14 bytes of a run's report.
-fn put_report(report: &mut [u8], reason: u16, steps: u32, taken: u32, made: u32)
-    requires { ⌜ length (now report) ≡ 14 ⌝ }
-    ensures { λ _. ⌜ Leaves (rowBytes MostFirst (2 ∷ 4 ∷ 4 ∷ 4 ∷ []) (reason ∷ steps ∷ taken ∷ made ∷ [])) (now (report .exit)) ⌝ }
+// The 18 bytes of a run's report.
+fn put_report(report: &mut [u8], reason: u16, steps: u32, taken: u32, made: u32, used: u32)
+    requires { ⌜ length (now report) ≡ 18 ⌝ }
+    ensures { λ _. ⌜ Leaves (rowBytes MostFirst (2 ∷ 4 ∷ 4 ∷ 4 ∷ 4 ∷ []) (reason ∷ steps ∷ taken ∷ made ∷ used ∷ [])) (now (report .exit)) ⌝ }
 {
-    let counts = [steps, taken, made];
+    let counts = [steps, taken, made, used];
     put_u16(Order::MostFirst, report, 0, reason);
     put_words(Order::MostFirst, report, 2, &counts);
 }
@@ -170,7 +171,7 @@ fn put_report(report: &mut [u8], reason: u16, steps: u32, taken: u32, made: u32)
 fn put_run(r: Ran, image: &mut [u8], report: &mut [u8])
     requires { ⌜ keeps (r .machine) ≡ true ⌝ }
     requires { ⌜ (r .taken < 4294967296) × (r .made < 4294967296) ⌝ }
-    requires { ⌜ (length (now image) ≡ 44) × (length (now report) ≡ 14) ⌝ }
+    requires { ⌜ (length (now image) ≡ 44) × (length (now report) ≡ 18) ⌝ }
     ensures { λ _. ⌜ Leaves (ranOver (Done r) []) (now (image .exit)) ⌝ }
     ensures { λ _. ⌜ Leaves (reportOver (Done r) []) (now (report .exit)) ⌝ }
 {
@@ -179,21 +180,24 @@ fn put_run(r: Ran, image: &mut [u8], report: &mut [u8])
     let taken = r.taken as u32;
     let made = r.made as u32;
     let number = reason_number(reason);
-    put_report(report, number, r.steps, taken, made);
+    put_report(report, number, r.steps, taken, made, r.used);
     put_image(machine, image);
 }
 
-// Runs the core over the lent window, beats and output, and writes its image and the 14 bytes of `report`.
+// Runs the core over the lent window, beats, output and ledger, of which `used` records are used, and writes its image and the 18
+// bytes of `report`.
 #[no_mangle]
 pub extern "C" fn sgdma_run(
     image: &mut [u8],
     window: &mut [u8],
     beats: &[u8],
     out: &mut [u8],
+    ledger: &mut [u8],
+    used: u32,
     budget: u32,
     report: &mut [u8],
 ) -> u32
-    ensures { λ r. ⌜ RunMade (now (image .entry)) (now (window .entry)) (now (beats .entry)) (now (out .entry)) budget (now (report .entry)) r (now (image .exit)) (now (window .exit)) (now (out .exit)) (now (report .exit)) ⌝ }
+    ensures { λ r. ⌜ RunMade (now (image .entry)) (now (window .entry)) (now (beats .entry)) (now (out .entry)) (now (ledger .entry)) used budget (now (report .entry)) r (now (image .exit)) (now (window .exit)) (now (out .exit)) (now (ledger .exit)) (now (report .exit)) ⌝ }
 {
     if image.len() != IMAGE {
         return Refusal::BadSize.number();
@@ -204,7 +208,7 @@ pub extern "C" fn sgdma_run(
     let LoadedMachine::Good(m) = Machine::load(image) else {
         return Refusal::BadImage.number();
     };
-    let answer = m.resume(window, beats, out, budget);
+    let answer = m.resume(window, beats, out, ledger, used, budget);
     match answer {
         RunAnswer::Refused(why) => why.number(),
         RunAnswer::Done(r) => {

@@ -2,12 +2,12 @@
 //! model, so that what happens inside it is seen as well.
 
 use super::refusals::{applying, image_read};
-use super::{AtMax, EdgeWindow, Event, LastByte, Point};
-use crate::call::{Call, Lent};
+use super::{ledgers, AtMax, EdgeWindow, Event, LastByte, Point};
+use crate::call::{Call, Lent, Told};
 use crate::compare::Answer;
 use crate::model::{
-    control, descriptor_control, offset, Descriptors, Images, Kept, Machine, Mode, Paper, Phase,
-    Ports, Reason, Steps, IMAGE_SIZE,
+    control, descriptor_control, offset, Descriptors, Images, Kept, Ledger, Machine, Mode, Paper,
+    Phase, Ports, Reason, Refusal, Steps, IMAGE_SIZE,
 };
 
 /// How much of one long run is looked at.
@@ -50,6 +50,9 @@ fn refused(call: &Call, reach: &mut dyn FnMut(Point)) {
         for &other in others {
             reach(Point::Outranked(call.function(), first, other));
         }
+    }
+    if let ([Refusal::BadLedger, ..], Some(machine)) = (&*applying, loaded(call.image())) {
+        ledgers::refused(call, &machine, reach);
     }
     let broken = image_read(call).map(|image| Paper.broken_rules(&image));
     if let Some([rule]) = broken.as_deref() {
@@ -103,6 +106,8 @@ fn run(call: &Call, after: &Call, mut machine: Machine, reach: &mut dyn FnMut(Po
             window,
             beats,
             out,
+            ledger,
+            used,
             budget,
             ..
         },
@@ -111,10 +116,13 @@ fn run(call: &Call, after: &Call, mut machine: Machine, reach: &mut dyn FnMut(Po
     else {
         return;
     };
-    reported(machine.mode, report, *budget, reach);
+    let told = Told::of(report);
+    reported(machine.mode, &told, *budget, reach);
+    ledgers::run(call, &machine, &told, reach);
     windows(&machine, reach);
-    let (mut memory, mut out) = (window.to_vec(), out.to_vec());
-    let mut ports = Ports::new(&mut memory, beats, &mut out);
+    let (mut memory, mut out, mut ledger) = (window.to_vec(), out.to_vec(), ledger.to_vec());
+    let ledger = Ledger::new(&mut ledger, *used);
+    let mut ports = Ports::new(&mut memory, beats, &mut out, ledger);
     for _ in 0..STEPS_WATCHED.min(*budget as usize) {
         let before = machine;
         let control_in_memory = control_byte(&before, &ports);
@@ -131,13 +139,12 @@ fn run(call: &Call, after: &Call, mut machine: Machine, reach: &mut dyn FnMut(Po
     }
 }
 
-fn reported(mode: Mode, report: &Lent, budget: u32, reach: &mut dyn FnMut(Point)) {
-    let steps = u32::from_be_bytes([report[2], report[3], report[4], report[5]]);
-    let reason = Reason::ALL[usize::from(report[1])];
+fn reported(mode: Mode, told: &Told, budget: u32, reach: &mut dyn FnMut(Point)) {
+    let reason = Reason::ALL[usize::from(told.reason)];
     reach(Point::Stopped(mode, reason));
     if budget == 0 {
         reach(Point::BudgetZero);
-    } else if steps == budget && reason != Reason::Budget {
+    } else if told.steps == budget && reason != Reason::Budget {
         reach(Point::BudgetJustEnough);
     }
 }
@@ -256,6 +263,7 @@ impl Step<'_, '_> {
 
     fn wrote_back(&self, reach: &mut dyn FnMut(Point)) {
         let before = self.before;
+        ledgers::recorded(before, reach);
         reach(Point::WroteBack {
             park: before.controls(control::PARK),
             run: before.runs(),

@@ -1,7 +1,7 @@
 //! Which refusals apply to a call, found without the model's calls: each by the
 //! words of the table of refusals.
 
-use super::Point;
+use super::{LedgerFlaw, Point};
 use crate::call::{Call, Function, Lent};
 use crate::model::{
     Image, Images, Paper, Refusal, Window, Windows, DESCRIPTOR_ANSWER_SIZE, DESCRIPTOR_SIZE,
@@ -22,9 +22,10 @@ const REFUSALS: [CallRefusals; 7] = [
      &[(BadSize, NoRegister), (BadImage, NoRegister)]),
     (Function::Line, &[BadSize, BadImage],
      &[(BadSize, BadImage)]),
-    (Function::Run, &[BadSize, BadImage, OddStream, OtherWindow],
-     &[(BadSize, BadImage), (BadSize, OddStream), (BadSize, OtherWindow), (BadImage, OddStream),
-       (OddStream, OtherWindow)]),
+    (Function::Run, &[BadSize, BadImage, OddStream, BadLedger, OtherWindow],
+     &[(BadSize, BadImage), (BadSize, OddStream), (BadSize, BadLedger), (BadSize, OtherWindow),
+       (BadImage, OddStream), (BadImage, BadLedger), (OddStream, BadLedger),
+       (OddStream, OtherWindow), (BadLedger, OtherWindow)]),
     (Function::BuildDescriptor, &[BadWindow, Misaligned, Outside],
      &[(BadWindow, Misaligned), (BadWindow, Outside), (Misaligned, Outside)]),
     (Function::ReadDescriptor, &[BadSize, BadWindow, Misaligned, Outside],
@@ -51,6 +52,7 @@ pub fn applying(call: &Call) -> Vec<Refusal> {
         BadSize => has_bad_size(call),
         BadImage => has_bad_image(call),
         OddStream => has_odd_stream(call),
+        BadLedger => LedgerFlaw::of(call).is_some(),
         BadMode => matches!(call, Call::Create { mode, .. } if *mode > 2),
         BadWindow => given_window(call).is_some_and(|window| !Paper.is_window(window)),
         OtherWindow => has_other_window(call),

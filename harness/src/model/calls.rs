@@ -5,10 +5,12 @@
 //! lent bytes keep their values." So each call first makes all its checks, in the
 //! paper's order, and only then writes.
 
-use super::{Descriptor, Images, Machine, Mode, Ports, Report, Steps, Window, DESCRIPTOR_SIZE};
+use super::{
+    Descriptor, Images, Ledger, Machine, Mode, Ports, Report, Steps, Window, DESCRIPTOR_SIZE,
+};
 
-/// "A run's report is 14 bytes"
-pub const REPORT_SIZE: usize = 14;
+/// With the ledger "32 bits more in the report, now 18 bytes"
+pub const REPORT_SIZE: usize = 18;
 /// "A register value is 4 bytes."
 pub const VALUE_SIZE: usize = 4;
 /// "A descriptor read is 18"
@@ -26,14 +28,16 @@ pub enum Refusal {
     BadSize = 7,
     BadImage = 8,
     OddStream = 9,
+    BadLedger = 19,
 }
 
 impl Refusal {
-    /// "First that applies: 7, 8, 9, 2, 3, 4, 1, 5, 6."
-    pub const ORDER: [Refusal; 9] = [
+    /// "First that applies: 7, 8, 9, 2, 3, 4, 1, 5, 6", and 19 "after 9".
+    pub const ORDER: [Refusal; 10] = [
         Refusal::BadSize,
         Refusal::BadImage,
         Refusal::OddStream,
+        Refusal::BadLedger,
         Refusal::BadMode,
         Refusal::BadWindow,
         Refusal::OtherWindow,
@@ -109,12 +113,15 @@ pub trait Calls: Steps + Images {
         })())
     }
 
+    #[allow(clippy::too_many_arguments)]
     fn sgdma_run(
         self,
         image: &mut [u8],
         window: &mut [u8],
         beats: &[u8],
         out: &mut [u8],
+        ledger: &mut [u8],
+        used: u32,
         budget: u32,
         report: &mut [u8],
     ) -> u32 {
@@ -122,8 +129,9 @@ pub trait Calls: Steps + Images {
             let (image, report) = (sized_mut(image)?, sized_mut(report)?);
             let mut machine = self.load(image)?;
             self.check_streams(&machine, beats, out)?;
+            self.check_ledger(&machine, ledger, used)?;
             self.check_same_window(&machine, window)?;
-            let mut ports = Ports::new(window, beats, out);
+            let mut ports = Ports::new(window, beats, out, Ledger::new(ledger, used));
             let told = self.run(&mut machine, &mut ports, budget);
             *report = self.report_bytes(&told);
             *image = self.save(&machine);
@@ -198,6 +206,15 @@ pub trait Calls: Steps + Images {
         Ok(())
     }
 
+    /// "19 BadLedger for a length not a multiple of 12 or fewer records than are
+    /// said to be used", in every mode and phase.
+    fn check_ledger(self, _machine: &Machine, ledger: &[u8], used: u32) -> Result<(), Refusal> {
+        if !self.is_ledger(ledger.len() as u64, used) {
+            return Err(Refusal::BadLedger);
+        }
+        Ok(())
+    }
+
     /// "lent window's length is not the machine's"
     fn check_same_window(self, machine: &Machine, memory: &[u8]) -> Result<(), Refusal> {
         if memory.len() as u64 != machine.window.length {
@@ -211,13 +228,15 @@ pub trait Calls: Steps + Images {
         value.to_be_bytes()
     }
 
-    /// "reason 16, steps 32, taken 32, made 32"
+    /// "reason 16, steps 32, taken 32, made 32", and "32 bits more" for the new
+    /// number of records.
     fn report_bytes(self, report: &Report) -> [u8; REPORT_SIZE] {
         let mut bytes = [0; REPORT_SIZE];
         bytes[0..2].copy_from_slice(&(report.reason as u16).to_be_bytes());
         bytes[2..6].copy_from_slice(&report.steps.to_be_bytes());
         bytes[6..10].copy_from_slice(&report.taken.to_be_bytes());
         bytes[10..14].copy_from_slice(&report.made.to_be_bytes());
+        bytes[14..18].copy_from_slice(&report.used.to_be_bytes());
         bytes
     }
 

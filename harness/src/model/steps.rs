@@ -1,11 +1,12 @@
 //! Steps and runs.
 
 use super::{
-    control, descriptor_control, status, Descriptor, Descriptors, Fault, Kept, Machine, Mode,
-    Phase, Registers, DESCRIPTOR_SIZE,
+    control, descriptor_control, status, Descriptor, Descriptors, Fault, Kept, Ledger, Ledgers,
+    Machine, Mode, Phase, Registers, DESCRIPTOR_SIZE,
 };
 
-/// What is lent to a run, and how far it has come in the two streams.
+/// What is lent to a run, and how far it has come in the two streams and in the
+/// ledger.
 ///
 /// A beat is two bytes, the most significant first. Only whole beats are lent,
 /// and `memory` has the length of the machine's window.
@@ -13,16 +14,23 @@ pub struct Ports<'lent> {
     pub memory: &'lent mut [u8],
     pub beats: &'lent [u8],
     pub out: &'lent mut [u8],
+    pub ledger: Ledger<'lent>,
     pub taken: usize,
     pub made: usize,
 }
 
 impl<'lent> Ports<'lent> {
-    pub fn new(memory: &'lent mut [u8], beats: &'lent [u8], out: &'lent mut [u8]) -> Self {
+    pub fn new(
+        memory: &'lent mut [u8],
+        beats: &'lent [u8],
+        out: &'lent mut [u8],
+        ledger: Ledger<'lent>,
+    ) -> Self {
         Ports {
             memory,
             beats,
             out,
+            ledger,
             taken: 0,
             made: 0,
         }
@@ -64,7 +72,7 @@ pub struct InputBeat {
 }
 
 /// Why a run stopped: "0 Rest, 1 Ended, 2 Halted, 3 Faulted, 4 NeedsInput,
-/// 5 OutputFull, 6 Budget."
+/// 5 OutputFull, 6 Budget", and with the ledger "7 LedgerFull".
 #[derive(Clone, Copy, Debug, PartialEq, Eq, PartialOrd, Ord)]
 pub enum Reason {
     Rest,
@@ -74,10 +82,11 @@ pub enum Reason {
     NeedsInput,
     OutputFull,
     Budget,
+    LedgerFull,
 }
 
 impl Reason {
-    pub const ALL: [Reason; 7] = [
+    pub const ALL: [Reason; 8] = [
         Reason::Rest,
         Reason::Ended,
         Reason::Halted,
@@ -85,19 +94,22 @@ impl Reason {
         Reason::NeedsInput,
         Reason::OutputFull,
         Reason::Budget,
+        Reason::LedgerFull,
     ];
 }
 
-/// "It also tells steps, beats taken and beats made"
+/// "It also tells steps, beats taken and beats made", and how many records are
+/// used now.
 #[derive(Clone, Copy, Debug, PartialEq, Eq)]
 pub struct Report {
     pub reason: Reason,
     pub steps: u32,
     pub taken: u32,
     pub made: u32,
+    pub used: u32,
 }
 
-pub trait Steps: Registers + Descriptors {
+pub trait Steps: Registers + Descriptors + Ledgers {
     /// "A run takes steps until one cannot be taken or the budget (32 bits) is
     /// spent, and its answer is the reason found there: .. Budget is given only if
     /// another step was possible."
@@ -117,6 +129,7 @@ pub trait Steps: Registers + Descriptors {
             steps,
             taken: ports.taken as u32,
             made: ports.made as u32,
+            used: ports.ledger.used,
         }
     }
 
@@ -131,7 +144,7 @@ pub trait Steps: Registers + Descriptors {
             Phase::Rest => self.leave_rest(machine),
             Phase::Fetch => outcome = self.fetch(machine, ports.memory),
             Phase::Move => outcome = self.move_byte(machine, ports),
-            Phase::WriteBack => self.write_back(machine, ports.memory),
+            Phase::WriteBack => self.write_back(machine, ports),
             Phase::Ended | Phase::Halted | Phase::Faulted => unreachable!("each is an obstacle"),
         }
         if let Err(fault) = outcome {
@@ -145,8 +158,9 @@ pub trait Steps: Registers + Descriptors {
     fn obstacle(self, machine: &Machine, ports: &Ports) -> Option<Reason> {
         match machine.phase {
             Phase::Rest => (!machine.runs()).then_some(Reason::Rest),
-            Phase::Fetch | Phase::WriteBack => None,
+            Phase::Fetch => None,
             Phase::Move => self.stream_obstacle(machine, ports),
+            Phase::WriteBack => self.ledger_obstacle(machine, &ports.ledger),
             Phase::Ended => Some(Reason::Ended),
             Phase::Halted => Some(Reason::Halted),
             Phase::Faulted => Some(Reason::Faulted),
@@ -163,6 +177,13 @@ pub trait Steps: Registers + Descriptors {
                 .then_some(Reason::OutputFull),
             Mode::StreamToMemory => (!ports.has_beat()).then_some(Reason::NeedsInput),
         }
+    }
+
+    /// "run reason 7 LedgerFull when WriteBack finds no room, no step taken": it is
+    /// looked for before anything else in WriteBack, so with RUN 0 too.
+    fn ledger_obstacle(self, _machine: &Machine, ledger: &Ledger) -> Option<Reason> {
+        let room = self.has_room_for_record(ledger.length(), ledger.used);
+        (!room).then_some(Reason::LedgerFull)
     }
 
     /// "Rest. RUN 0: no step. RUN 1: BUSY 1, go to Fetch."
@@ -355,9 +376,10 @@ pub trait Steps: Registers + Descriptors {
     }
 
     /// "Set DESCRIPTOR_COMPLETED; EOP_ENCOUNTERED if the last beat had EOP; ERROR
-    /// if errors are not 0."
-    fn write_back(self, machine: &mut Machine, memory: &mut [u8]) {
-        self.write_done_mark(machine, memory);
+    /// if errors are not 0." "Records are appended on the WriteBack step".
+    fn write_back(self, machine: &mut Machine, ports: &mut Ports) {
+        self.write_done_mark(machine, ports.memory);
+        self.append(&mut ports.ledger, &self.record(machine));
         let kept = machine.kept;
         self.signal(
             machine,

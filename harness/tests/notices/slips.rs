@@ -7,22 +7,25 @@ use harness::model::{ImageRule, Images};
 /// Takes the rules of every other trait as they stand in the paper.
 macro_rules! paper_otherwise {
     (Windows for $model:ident) => {
-        paper_otherwise!(Registers, Descriptors, Steps, Images, Calls: $model);
+        paper_otherwise!(Registers, Descriptors, Ledgers, Steps, Images, Calls: $model);
     };
     (Registers for $model:ident) => {
-        paper_otherwise!(Windows, Descriptors, Steps, Images, Calls: $model);
+        paper_otherwise!(Windows, Descriptors, Ledgers, Steps, Images, Calls: $model);
     };
     (Descriptors for $model:ident) => {
-        paper_otherwise!(Windows, Registers, Steps, Images, Calls: $model);
+        paper_otherwise!(Windows, Registers, Ledgers, Steps, Images, Calls: $model);
+    };
+    (Ledgers for $model:ident) => {
+        paper_otherwise!(Windows, Registers, Descriptors, Steps, Images, Calls: $model);
     };
     (Steps for $model:ident) => {
-        paper_otherwise!(Windows, Registers, Descriptors, Images, Calls: $model);
+        paper_otherwise!(Windows, Registers, Descriptors, Ledgers, Images, Calls: $model);
     };
     (Images for $model:ident) => {
-        paper_otherwise!(Windows, Registers, Descriptors, Steps, Calls: $model);
+        paper_otherwise!(Windows, Registers, Descriptors, Ledgers, Steps, Calls: $model);
     };
     (Calls for $model:ident) => {
-        paper_otherwise!(Windows, Registers, Descriptors, Steps, Images: $model);
+        paper_otherwise!(Windows, Registers, Descriptors, Ledgers, Steps, Images: $model);
     };
     ($($rules:ident),*: $model:ident) => {
         $(impl harness::model::$rules for $model {})*
@@ -81,6 +84,7 @@ macro_rules! slips {
 mod calls;
 mod descriptors;
 mod images;
+mod ledgers;
 mod registers;
 mod steps;
 mod windows;
@@ -94,6 +98,7 @@ pub fn all() -> Vec<Slip> {
         windows::slips(),
         registers::slips(),
         descriptors::slips(),
+        ledgers::slips(),
         steps::slips(),
         images::slips(),
         calls::slips(),

@@ -22,7 +22,7 @@ same-length : tie.Need-same-length
 same-length c = search needs
 
 returns : tie.Need-returns
-returns c = let s = c .before .before .before .before .before .before .before .before .before .before in let a = s .args in record { lent = c .before .before .put-words .ensures .lent ∙ ap (λ (l : List ℕ). putAt l 2 (wordBytes MostFirst (a .steps ∷ a .taken ∷ a .made ∷ []))) (c .before .before .before .before .before .before .before .put-u16 .ensures .lent) ∙ report-filled (a .report .now) (a .reason) (a .steps) (a .taken) (a .made) (s .pre) }
+returns c = let s = c .before .before .before .before .before .before .before .before .before .before in let a = s .args in record { lent = c .before .before .put-words .ensures .lent ∙ ap (λ (l : List ℕ). putAt l 2 (wordBytes MostFirst (a .steps ∷ a .taken ∷ a .made ∷ a .used ∷ []))) (c .before .before .before .before .before .before .before .put-u16 .ensures .lent) ∙ report-filled (a .report .now) (a .reason) (a .steps) (a .taken) (a .made) (a .used) (s .pre) }
 
 pub put-report-spec : {M : Type 1} → statement M
 put-report-spec =

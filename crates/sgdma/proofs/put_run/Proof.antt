@@ -29,7 +29,7 @@ same-length-2 : tie.Need-same-length-2
 same-length-2 c = search needs
 
 returns : tie.Need-returns
-returns c = let r = c .before .before .before .before .before .before .before .before .before .before .before .before .before .before .args .r in (record { lent = c .before .before .put-image .ensures .lent }, record { lent = c .before .before .before .before .before .before .put-report .ensures .lent ∙ ap (λ (n : ℕ). rowBytes MostFirst (2 ∷ 4 ∷ 4 ∷ 4 ∷ []) (n ∷ r .steps ∷ r .taken ∷ r .made ∷ [])) (c .before .before .before .before .before .before .before .before .reason-number .ensures) })
+returns c = let r = c .before .before .before .before .before .before .before .before .before .before .before .before .before .before .args .r in (record { lent = c .before .before .put-image .ensures .lent }, record { lent = c .before .before .before .before .before .before .put-report .ensures .lent ∙ ap (λ (n : ℕ). rowBytes MostFirst (2 ∷ 4 ∷ 4 ∷ 4 ∷ 4 ∷ []) (n ∷ r .steps ∷ r .taken ∷ r .made ∷ r .used ∷ [])) (c .before .before .before .before .before .before .before .before .reason-number .ensures) })
 
 pub put-run-spec : {M : Type 1} → statement M
 put-run-spec =

@@ -2,9 +2,25 @@
 
 use super::Slip;
 use harness::model::{
-    Calls, Descriptor, Machine, Mode, Paper, Refusal, Report, DESCRIPTOR_ANSWER_SIZE, IMAGE_SIZE,
-    REPORT_SIZE, VALUE_SIZE,
+    Calls, Descriptor, Ledgers, Machine, Mode, Paper, Phase, Refusal, Report,
+    DESCRIPTOR_ANSWER_SIZE, IMAGE_SIZE, REPORT_SIZE, VALUE_SIZE,
 };
+
+/// Whether a run on this image with good streams and a good ledger is refused for
+/// its window.
+fn refused_for_window(image: &[u8], window: &[u8], report: &[u8]) -> bool {
+    let [mut image, mut window, mut report] = [image, window, report].map(<[u8]>::to_vec);
+    Paper.sgdma_run(
+        &mut image,
+        &mut window,
+        &[],
+        &mut [],
+        &mut [],
+        0,
+        0,
+        &mut report,
+    ) == 4
+}
 
 slips! { Calls;
 
@@ -77,38 +93,65 @@ sgdma_run(
     window: &mut [u8],
     beats: &[u8],
     out: &mut [u8],
+    ledger: &mut [u8],
+    used: u32,
     budget: u32,
     report: &mut [u8]
 ) -> u32 {
     "a run refuses OddStream before BadImage" => {
         let odd = beats.len() % 2 + out.len() % 2 != 0;
-        let number = Paper.sgdma_run(image, window, beats, out, budget, report);
+        let number = Paper.sgdma_run(image, window, beats, out, ledger, used, budget, report);
         if number == 8 && odd { 9 } else { number }
     }
     "a run refuses OtherWindow before OddStream" => {
-        let number = Paper.sgdma_run(
-            &mut image.to_vec(), &mut window.to_vec(), &[], &mut [], 0, &mut report.to_vec(),
-        );
-        if number == 4 { 4 } else { Paper.sgdma_run(image, window, beats, out, budget, report) }
+        match refused_for_window(image, window, report) {
+            true => 4,
+            false => Paper.sgdma_run(image, window, beats, out, ledger, used, budget, report),
+        }
+    }
+    "a run refuses OtherWindow before BadLedger" => {
+        let number = Paper.sgdma_run(image, window, beats, out, ledger, used, budget, report);
+        if number == 19 && refused_for_window(image, window, report) { 4 } else { number }
+    }
+    "a run refuses BadLedger before OddStream" => {
+        let number = Paper.sgdma_run(image, window, beats, out, ledger, used, budget, report);
+        if number == 9 && !Paper.is_ledger(ledger.len() as u64, used) { 19 } else { number }
+    }
+    "a run refuses BadLedger before BadImage" => {
+        let number = Paper.sgdma_run(image, window, beats, out, ledger, used, budget, report);
+        if number == 8 && !Paper.is_ledger(ledger.len() as u64, used) { 19 } else { number }
+    }
+    "a run refuses BadLedger before BadSize" => {
+        let number = Paper.sgdma_run(image, window, beats, out, ledger, used, budget, report);
+        if number == 7 && !Paper.is_ledger(ledger.len() as u64, used) { 19 } else { number }
     }
     "a run takes a longer report" => {
         let size = report.len().min(REPORT_SIZE);
-        Paper.sgdma_run(image, window, beats, out, budget, &mut report[..size])
+        let report = &mut report[..size];
+        Paper.sgdma_run(image, window, beats, out, ledger, used, budget, report)
     }
     "a refused run clears the report" => {
-        let number = Paper.sgdma_run(image, window, beats, out, budget, report);
+        let number = Paper.sgdma_run(image, window, beats, out, ledger, used, budget, report);
         if number != 0 {
             report.fill(0);
         }
         number
     }
+    "a refused run clears the ledger" => {
+        let number = Paper.sgdma_run(image, window, beats, out, ledger, used, budget, report);
+        if number != 0 {
+            ledger.fill(0);
+        }
+        number
+    }
     "an odd number of input bytes is taken" => {
-        let whole = beats.len() / 2 * 2;
-        Paper.sgdma_run(image, window, &beats[..whole], out, budget, report)
+        let beats = &beats[..beats.len() / 2 * 2];
+        Paper.sgdma_run(image, window, beats, out, ledger, used, budget, report)
     }
     "an odd number of output bytes is taken" => {
         let whole = out.len() / 2 * 2;
-        Paper.sgdma_run(image, window, beats, &mut out[..whole], budget, report)
+        let out = &mut out[..whole];
+        Paper.sgdma_run(image, window, beats, out, ledger, used, budget, report)
     }
 }
 
@@ -118,6 +161,30 @@ check_streams(machine: &Machine, beats: &[u8], out: &[u8]) -> Result<(), Refusal
             Mode::MemoryToMemory => Ok(()),
             Mode::MemoryToStream => Paper.check_streams(machine, &[], out),
             Mode::StreamToMemory => Paper.check_streams(machine, beats, &[]),
+        }
+    }
+}
+
+check_ledger(machine: &Machine, ledger: &[u8], used: u32) -> Result<(), Refusal> {
+    "a ledger is looked at only in WriteBack" => {
+        match machine.phase {
+            Phase::WriteBack => Paper.check_ledger(machine, ledger, used),
+            _ => Ok(()),
+        }
+    }
+    "a ledger is looked at only with RUN 1" => {
+        if machine.runs() { Paper.check_ledger(machine, ledger, used) } else { Ok(()) }
+    }
+    "a ledger is looked at only in mode 2" => {
+        match machine.mode {
+            Mode::StreamToMemory => Paper.check_ledger(machine, ledger, used),
+            _ => Ok(()),
+        }
+    }
+    "a ledger is not looked at in Faulted" => {
+        match machine.phase {
+            Phase::Faulted => Ok(()),
+            _ => Paper.check_ledger(machine, ledger, used),
         }
     }
 }
@@ -133,6 +200,10 @@ report_bytes(report: &Report) -> [u8; REPORT_SIZE] {
     "taken and made change places in the report" => {
         let (taken, made) = (report.made, report.taken);
         Paper.report_bytes(&Report { taken, made, ..*report })
+    }
+    "made and used change places in the report" => {
+        let (made, used) = (report.used, report.made);
+        Paper.report_bytes(&Report { made, used, ..*report })
     }
     "the report begins with the reason in its first byte" => {
         let mut bytes = Paper.report_bytes(report);

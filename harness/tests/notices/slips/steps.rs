@@ -2,9 +2,17 @@
 
 use super::Slip;
 use harness::model::{
-    control, descriptor_control, status, Descriptor, Descriptors, Fault, InputBeat, Kept, Machine,
-    Mode, Paper, Phase, Ports, Reason, Registers, Report, Steps, Windows, DESCRIPTOR_SIZE,
+    control, descriptor_control, status, Descriptor, Descriptors, Fault, InputBeat, Kept, Ledger,
+    Ledgers, Machine, Mode, Paper, Phase, Ports, Reason, Registers, Report, Steps, Windows,
+    DESCRIPTOR_SIZE, RECORD_SIZE,
 };
+
+/// WriteBack as it is but for the ledger, which stays as it is.
+fn write_back_unrecorded(machine: &mut Machine, ports: &mut Ports) {
+    let mut aside = [0; RECORD_SIZE];
+    let ledger = Ledger::new(&mut aside, 0);
+    Paper.write_back(machine, &mut Ports::new(ports.memory, &[], &mut [], ledger));
+}
 
 slips! { Steps;
 
@@ -56,7 +64,27 @@ run(machine: &mut Machine, ports: &mut Ports, budget: u32) -> Report {
             }
             steps += 1;
         };
-        Report { reason, steps, taken: ports.taken as u32, made: ports.made as u32 }
+        let (taken, made) = (ports.taken as u32, ports.made as u32);
+        Report { reason, steps, taken, made, used: ports.ledger.used }
+    }
+    "Budget comes before LedgerFull" => {
+        let report = Paper.run(machine, ports, budget);
+        let spent = report.steps == budget && report.reason == Reason::LedgerFull;
+        Report { reason: if spent { Reason::Budget } else { report.reason }, ..report }
+    }
+    "LedgerFull is counted as a step" => {
+        let report = Paper.run(machine, ports, budget);
+        let full = report.reason == Reason::LedgerFull;
+        Report { steps: report.steps.saturating_add(u32::from(full)), ..report }
+    }
+    "only the records of this run are told" => {
+        let used = ports.ledger.used;
+        let report = Paper.run(machine, ports, budget);
+        Report { used: report.used - used, ..report }
+    }
+    "a run begins its ledger anew" => {
+        ports.ledger.used = 0;
+        Paper.run(machine, ports, budget)
     }
 }
 
@@ -65,6 +93,35 @@ step(machine: &mut Machine, ports: &mut Ports) -> Result<(), Reason> {
         let resting = machine.phase == Phase::Rest;
         Paper.step(machine, ports)?;
         if resting { Paper.step(machine, ports) } else { Ok(()) }
+    }
+    "with RUN 0 WriteBack needs no room for a record" => {
+        let full = Paper.obstacle(machine, ports) == Some(Reason::LedgerFull);
+        if machine.runs() || !full {
+            return Paper.step(machine, ports);
+        }
+        write_back_unrecorded(machine, ports);
+        Ok(())
+    }
+    "where there is no room the record is lost" => {
+        if Paper.obstacle(machine, ports) != Some(Reason::LedgerFull) {
+            return Paper.step(machine, ports);
+        }
+        write_back_unrecorded(machine, ports);
+        Ok(())
+    }
+    "under PARK nothing is recorded" => {
+        if machine.phase != Phase::WriteBack || !machine.controls(control::PARK) {
+            return Paper.step(machine, ports);
+        }
+        write_back_unrecorded(machine, ports);
+        Ok(())
+    }
+    "only mode 2 is recorded" => {
+        if machine.phase != Phase::WriteBack || machine.mode == Mode::StreamToMemory {
+            return Paper.step(machine, ports);
+        }
+        write_back_unrecorded(machine, ports);
+        Ok(())
     }
 }
 
@@ -84,6 +141,24 @@ obstacle(machine: &Machine, ports: &Ports) -> Option<Reason> {
     "Ended tells Rest" => {
         let reason = Paper.obstacle(machine, ports);
         if reason == Some(Reason::Ended) { Some(Reason::Rest) } else { reason }
+    }
+    "a descriptor is fetched only where its record has room" => {
+        let asks = machine.phase == Phase::Fetch && machine.runs();
+        let full = asks.then(|| Paper.ledger_obstacle(machine, &ports.ledger)).flatten();
+        full.or(Paper.obstacle(machine, ports))
+    }
+    "the last byte is moved only where the record has room" => {
+        let Kept { length, moved, .. } = machine.kept;
+        let last = Paper.bytes_wanted(machine.mode, length).wrapping_sub(1);
+        let asks = machine.phase == Phase::Move && moved == last;
+        let full = asks.then(|| Paper.ledger_obstacle(machine, &ports.ledger)).flatten();
+        full.or(Paper.obstacle(machine, ports))
+    }
+}
+
+ledger_obstacle(machine: &Machine, ledger: &Ledger) -> Option<Reason> {
+    "LedgerFull is told as OutputFull" => {
+        Paper.ledger_obstacle(machine, ledger).map(|_| Reason::OutputFull)
     }
 }
 
@@ -241,6 +316,15 @@ move_byte(machine: &mut Machine, ports: &mut Ports) -> Result<(), Fault> {
         Paper.go_to_rest(machine);
         Ok(())
     }
+    "a record is written with the last byte, before its step" => {
+        Paper.move_byte(machine, ports)?;
+        if Paper.obstacle(machine, ports).is_none() && machine.phase == Phase::WriteBack {
+            let used = ports.ledger.used;
+            Paper.append(&mut ports.ledger, &Paper.record(machine));
+            ports.ledger.used = used;
+        }
+        Ok(())
+    }
     "fault 14 takes the beat" => {
         let takes = machine.mode == Mode::StreamToMemory;
         Paper.move_byte(machine, ports).inspect_err(|_| ports.taken += usize::from(takes))
@@ -366,30 +450,36 @@ count_byte(machine: &mut Machine) -> () {
     }
 }
 
-write_back(machine: &mut Machine, memory: &mut [u8]) -> () {
+write_back(machine: &mut Machine, ports: &mut Ports) -> () {
     "where RUN is 0 the rest of the chain loses OWNED" => {
-        Paper.write_back(machine, memory);
+        Paper.write_back(machine, ports);
         if let (Phase::Rest, Ok(place)) = (machine.phase, Paper.fetch_place(machine)) {
-            memory[place + 31] &= !descriptor_control::OWNED_BY_HW;
+            ports.memory[place + 31] &= !descriptor_control::OWNED_BY_HW;
         }
     }
     "the length is told as actual" => {
         machine.kept.moved = machine.kept.length;
-        Paper.write_back(machine, memory);
+        Paper.write_back(machine, ports);
+    }
+    "what is recorded has been dropped already" => {
+        let before = *machine;
+        write_back_unrecorded(machine, ports);
+        let dropped = Machine { kept: Kept::default(), ..before };
+        Paper.append(&mut ports.ledger, &Paper.record(&dropped));
     }
     "EOP_ENCOUNTERED is set for a generated EOP" => {
         let generate = machine.kept.control & descriptor_control::GENERATE_EOP != 0;
         machine.kept.eop_seen |= generate && machine.mode == Mode::MemoryToStream;
-        Paper.write_back(machine, memory);
+        Paper.write_back(machine, ports);
     }
     "EOP_ENCOUNTERED only where EOP came early" => {
         let wanted = Paper.bytes_wanted(machine.mode, machine.kept.length);
         machine.kept.eop_seen &= machine.kept.moved < wanted;
-        Paper.write_back(machine, memory);
+        Paper.write_back(machine, ports);
     }
     "ERROR is set only under STOP_DMA_ER" => {
         let had = machine.status & status::ERROR;
-        Paper.write_back(machine, memory);
+        Paper.write_back(machine, ports);
         if !machine.controls(control::STOP_DMA_ER) {
             machine.status = machine.status & !status::ERROR | had;
         }

@@ -14,8 +14,13 @@ served-requires c κs = search needs
 returns : tie.Need-returns
 unfolding lentOf
 returns c =
-    let a = c .before .before .before .before .before .args in
-    c .served .ensures ∙ ap (λ (t : Bool). lentIf t (a .self) (a .window .now) (a .beats .now) (a .out .now)) (c .before .keeps .ensures)
+    let a = c .before .before .before .before .before .before .args in
+    c .served .ensures ∙ ap (λ (t : Bool). lentIf t (a .self) (a .window .now) (a .beats .now) (a .out .now) (a .ledger .now) (a .used)) (c .before .keeps .ensures)
 
 pub checked-spec : {M : Type 1} → statement M
-checked-spec = tie.close (tie.spec keeps-requires served-requires returns)
+checked-spec =
+    tie.close
+    (tie.spec
+    keeps-requires
+    served-requires
+    returns)

@@ -6,7 +6,7 @@ use Rattle.machine.specs.Step.{World, became, moveStep}
 use mathlib.Core.Path.{_≡_, ap}
 use mathlib.Core.List.{List}
 use Prim.Native.Nat.{ℕ}
-use Rattle.machine.specs.declared.Progress.{Progress}
+use Rattle.machine.specs.declared.steps.Reached.{Reached}
 use native.Mathlib.Omega.{arith}
 use borrow.Author.Needs.{needs}
 use Rattle.machine.proofs.Machine.move_step.Statement.{statement}
@@ -14,7 +14,7 @@ use Rattle.machine.proofs.Machine.move_step.Tie as tie
 
 -- the rule of the mode that was found is Move's
 module _ (s : tie.Start) {o : Mode} (e : s .args .self .mode ≡ o) where
-  is-move : {r : Progress} {window' out' : List ℕ}
+  is-move : {r : Reached} {window' out' : List ℕ}
       → Went (λ (w : World). moveStep o w (s .args .k)) (s .args .self) (s .args .window .now) (s .args .beats .now) (s .args .taken) (s .args .out .now) (s .args .made) r window' out'
       → Went (λ (w : World). moveStep (s .args .self .mode) w (s .args .k)) (s .args .self) (s .args .window .now) (s .args .beats .now) (s .args .taken) (s .args .out .now) (s .args .made) r window' out'
   is-move g =

@@ -5,7 +5,7 @@ use native.Mathlib.Omega.{arith}
 use Rattle.machine.proofs.Places.{inside, outside, place, fits}
 use Rattle.machine.proofs.Cases.{fault-at}
 use Rattle.machine.proofs.Turning.{past, within, receive-in, receive-out}
-use Rattle.machine.specs.declared.Progress.{Progress}
+use Rattle.machine.specs.declared.steps.Reached.{Reached}
 use borrow.Author.Needs.{needs}
 use Rattle.machine.proofs.Machine.receive_step.Statement.{statement}
 use Rattle.machine.proofs.Machine.receive_step.Tie as tie
@@ -60,7 +60,7 @@ returns c =
     let some : a .next < length (a .beats .now) / 2 = s .pre .1 .1 in
     let to = l .before .write-address .ensures in
     let missed = outside (l .locate .ensures) to (c .before .before .enum-told .given .1) in (
-      (rw (c .at .ensures) (within some), ap (λ (r : Progress). r .made) (c .at .ensures)),
+      (rw (c .at .ensures) (within some), ap (λ (r : Reached). r .made) (c .at .ensures)),
       λ out. receive-out (a .self) (a .k) (a .window .now) (a .beats .now) (a .next) out (a .made) some missed (fault-at (a .self) 14 (c .before .missed .ensures) to) (c .at .ensures),
     )
 
@@ -78,7 +78,7 @@ returns-2 c =
     let to = l .before .write-address .ensures in
     let inside-it = inside (l .locate .ensures) to e in
     let at = i .index .ensures .value ∙ place (l .locate .ensures) to e in (
-      (rw (c .at2 .ensures) (past some), ap (λ (r : Progress). r .made) (c .at2 .ensures)),
+      (rw (c .at2 .ensures) (past some), ap (λ (r : Reached). r .made) (c .at2 .ensures)),
       λ out.
           receive-in (a .self) (a .k) (a .window .now) (a .beats .now) (a .next) out (a .made) some inside-it (c .before .before .before .get-u16 .ensures .value) (c .before .before .of .ensures .value) at (c .before .onward .ensures) (c .at2 .ensures),
     )

@@ -9,7 +9,7 @@ ready-requires : tie.Need-ready-requires
 ready-requires c κs = search needs
 
 run-if-requires : tie.Need-run-if-requires
-run-if-requires c κs = λ e. tested-ready (c .before .before .before .before .before .before .args .self) (sym (c .before .before .ready .ensures) ∙ e)
+run-if-requires c κs = λ e. tested-ready (c .before .before .before .before .before .before .before .before .args .self) (sym (c .before .before .before .ready .ensures) ∙ e)
 
 same-length : tie.Need-same-length
 same-length c = search needs
@@ -17,8 +17,19 @@ same-length c = search needs
 same-length-2 : tie.Need-same-length-2
 same-length-2 c = search needs
 
+same-length-3 : tie.Need-same-length-3
+same-length-3 c = search needs
+
 returns : tie.Need-returns
-returns c = runs-as _ _ (c .before .before .before .before .before .before .before .ready .ensures) (c .before .before .before .before .run-if .ensures)
+returns c = runs-as _ _ (c .before .before .before .before .before .before .before .before .before .before .ready .ensures) (c .before .before .before .before .before .before .run-if .ensures)
 
 pub resume-spec : {M : Type 1} → statement M
-resume-spec = tie.close (tie.spec ready-requires run-if-requires same-length same-length-2 returns)
+resume-spec =
+    tie.close
+    (tie.spec
+    ready-requires
+    run-if-requires
+    same-length
+    same-length-2
+    same-length-3
+    returns)

@@ -10,7 +10,7 @@ keeps-requires : tie.Need-keeps-requires
 keeps-requires c κs = search needs
 
 run-if-requires : tie.Need-run-if-requires
-run-if-requires c κs = λ e. keeps-ready (c .before .before .before .before .before .before .args .self) _ (sym (c .before .before .keeps .ensures) ∙ e) refl
+run-if-requires c κs = λ e. keeps-ready (c .before .before .before .before .before .before .before .before .args .self) _ (sym (c .before .before .before .keeps .ensures) ∙ e) refl
 
 same-length : tie.Need-same-length
 same-length c = search needs
@@ -18,9 +18,20 @@ same-length c = search needs
 same-length-2 : tie.Need-same-length-2
 same-length-2 c = search needs
 
+same-length-3 : tie.Need-same-length-3
+same-length-3 c = search needs
+
 returns : tie.Need-returns
 unfolding lentOf
-returns c = runs-as _ _ (c .before .before .before .before .before .before .before .keeps .ensures) (c .before .before .before .before .run-if .ensures)
+returns c = runs-as _ _ (c .before .before .before .before .before .before .before .before .before .before .keeps .ensures) (c .before .before .before .before .before .before .run-if .ensures)
 
 pub run-spec : {M : Type 1} → statement M
-run-spec = tie.close (tie.spec keeps-requires run-if-requires same-length same-length-2 returns)
+run-spec =
+    tie.close
+    (tie.spec
+    keeps-requires
+    run-if-requires
+    same-length
+    same-length-2
+    same-length-3
+    returns)

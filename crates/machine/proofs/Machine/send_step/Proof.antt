@@ -5,7 +5,7 @@ use lib.ListN.{length, getD}
 use Rattle.machine.proofs.Places.{inside, outside, place, fits}
 use Rattle.machine.proofs.Cases.{fault-at}
 use Rattle.machine.proofs.Turning.{past, send-in, send-out}
-use Rattle.machine.specs.declared.Progress.{Progress}
+use Rattle.machine.specs.declared.steps.Reached.{Reached}
 use Rattle.machine.specs.Step.{beatFor}
 use borrow.Author.Needs.{needs}
 use Rattle.machine.proofs.Machine.send_step.Statement.{statement}
@@ -56,7 +56,7 @@ returns c =
     let a = s .args in
     let from = l .before .read-address .ensures in
     let missed = outside (l .locate .ensures) from (c .before .before .enum-told .given .1) in (
-      (ap (λ (r : Progress). r .taken) (c .at .ensures), rw (c .at .ensures) (s .pre .1 .1 .0)),
+      (ap (λ (r : Reached). r .taken) (c .at .ensures), rw (c .at .ensures) (s .pre .1 .1 .0)),
       λ beats. send-out (a .self) (a .k) (a .window .now) beats (a .taken) (a .out .now) (a .made) missed (fault-at (a .self) 13 (c .before .missed .ensures) from) (c .at .ensures),
     )
 
@@ -74,7 +74,7 @@ returns-2 c =
     let inside-it = inside (l .locate .ensures) (l .before .read-address .ensures) e in
     let room : a .made < length (a .out .now) / 2 = s .pre .1 .1 .1 inside-it in
     let from = i .index .ensures .value ∙ place (l .locate .ensures) (l .before .read-address .ensures) e in (
-      (ap (λ (r : Progress). r .taken) (c .at2 .ensures), rw (c .at2 .ensures) (past room)),
+      (ap (λ (r : Reached). r .taken) (c .at2 .ensures), rw (c .at2 .ensures) (past room)),
       λ beats.
           send-in (a .self) (a .k) (a .window .now) beats (a .taken) (a .out .now) (a .made) inside-it room (ap (λ (x : ℕ). beatFor (a .k) (getD (a .window .now) x 0)) from) (p .put-beat .ensures) (c .before .onward .ensures) (c .at2 .ensures),
     )

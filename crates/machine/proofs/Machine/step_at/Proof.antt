@@ -1,22 +1,18 @@
 use native.Mathlib.Omega.{arith}
 use Rattle.machine.proofs.Readiness.{left-lt}
 use Rattle.machine.proofs.Waiting.{at-phase, goes-in, rest-runs, never-goes}
-use Rattle.machine.proofs.Turning.{went-still, went-as, rest-starts}
-use Rattle.machine.specs.Run.{worldOf}
-use Rattle.machine.specs.Turns.{Left, Placed, Goes, Went}
-use Rattle.machine.specs.Step.{World, Answer, became, step, stepIn, restStep, fetchStep, moveStep, writeBackStep}
+use Rattle.machine.proofs.Turning.{went-still, went-as, turned-quietly, turned-back, rest-starts}
+use Rattle.machine.proofs.Logging.{quiet-in}
+use Rattle.machine.specs.Turns.{Left, Placed, Goes, Went, loggedIn, Turned}
+use Rattle.machine.specs.Step.{World, Answer, became, step, stepIn, restStep, fetchStep, moveStep}
 use Rattle.machine.specs.declared.Phase.{Phase}
 use mathlib.Core.Path.{_≡_, refl, subst, _∙_}
 use mathlib.Core.List.{List}
 use Prim.Native.Nat.{ℕ}
-use Rattle.machine.specs.declared.Progress.{Progress}
+use Rattle.machine.specs.declared.steps.Reached.{Reached}
 use borrow.Author.Needs.{needs}
 use Rattle.machine.proofs.Machine.step_at.Statement.{statement}
 use Rattle.machine.proofs.Machine.step_at.Tie as tie
-
--- a world around it
-abbrev lent-world : tie.Start → World
-lent-world s = worldOf (s .args .self) (s .args .window .now) (s .args .beats .now) (s .args .out .now)
 
 -- the step of the phase that was found: it can be taken, and is the step
 module _ (s : tie.Start) {p : Phase} (e : s .args .self .phase ≡ p) where
@@ -27,12 +23,12 @@ module _ (s : tie.Start) {p : Phase} (e : s .args .self .phase ≡ p) where
 
   is-step : (rule : World → Answer)
       → ((w : World) → stepIn p (became w (s .args .self)) ≡ rule (became w (s .args .self)))
-      → {r : Progress} {window' out' : List ℕ}
+      → {r : Reached} {window' out' : List ℕ}
       → Went rule (s .args .self) (s .args .window .now) (s .args .beats .now) (s .args .taken) (s .args .out .now) (s .args .made) r window' out'
-      → Went step (s .args .self) (s .args .window .now) (s .args .beats .now) (s .args .taken) (s .args .out .now) (s .args .made) r window' out'
-  is-step rule same g =
-      went-as rule step
-      (λ w. at-phase (became w (s .args .self)) e ∙ same w) g
+      → ((w : World) → loggedIn p (s .args .self) w ≡ w)
+      → Turned step (s .args .self) (s .args .window .now) (s .args .beats .now) (s .args .taken) (s .args .out .now) (s .args .made) r window' out'
+  is-step rule same g quiet =
+      turned-quietly (went-as rule step (λ w. at-phase (became w (s .args .self)) e ∙ same w) g) (quiet-in (s .args .self) e quiet)
 
 enum-told : tie.Need-enum-told
 enum-told c = search needs
@@ -61,7 +57,7 @@ move-step-requires c κs =
     let e = c .before .before .before .phase .given .1 in
     let left = subst (λ (x : Phase). Left (s .args .self) x) e (s .pre .0 .left) in
     let k = c .before .before .before .phase .given .0 .0 in
-    (s .pre .0 .size, (left-lt (s .args .self) k (omega (arith, c .before .before .known-told .given)) (left .0), (s .pre .1 .0, can s e)))
+    (s .pre .0 .size, (left-lt (s .args .self) k (omega (arith, c .before .before .known-told .given)) (left .0), (s .pre .1 .0, record { around = can s e .around; can = can s e .can })))
 
 enum-known-phase-2 : tie.Need-enum-known-phase-2
 enum-known-phase-2 c = search needs
@@ -96,8 +92,8 @@ returns : tie.Need-returns
 returns c =
     let s = c .before .before .before .before .before .before .before in
     let e = c .before .before .enum-told .given .1 in
-    let starts = went-still restStep _ _ _ _ _ _ _ _ (rest-starts _ _ _ (rest-runs _ (can s e (lent-world s))) (c .before .enters .ensures)) in
-    simp (c .at .ensures) (s .pre .1 .0, is-step s e restStep (λ w. refl) starts)
+    let starts = went-still restStep _ _ _ _ _ _ _ _ (rest-starts _ _ _ (rest-runs _ (can s e .can)) (c .before .enters .ensures)) in
+    simp (c .at .ensures) (s .pre .1 .0, is-step s e restStep (λ w. refl) starts (λ w. refl))
 
 same-length : tie.Need-same-length
 same-length c = search needs
@@ -106,7 +102,7 @@ returns-2 : tie.Need-returns-2
 returns-2 c =
     let s = c .before .before .before .before .before .before .before .before in
     let still = went-still fetchStep _ _ _ _ _ _ _ _ (c .before .fetch-step .ensures) in
-    simp (c .at2 .ensures) (s .pre .1 .0, is-step s (c .before .before .before .enum-told2 .given .1) fetchStep (λ w. refl) still)
+    simp (c .at2 .ensures) (s .pre .1 .0, is-step s (c .before .before .before .enum-told2 .given .1) fetchStep (λ w. refl) still (λ w. refl))
 
 same-length-2 : tie.Need-same-length-2
 same-length-2 c = search needs
@@ -119,7 +115,7 @@ returns-3 c =
     let s = c .before .before .before .before .before .before .before .before .before .before .before .before .before in
     let k = c .before .before .before .before .before .before .before .before .phase .given .0 .0 in
     let move = c .before .before .before .before .move-step .ensures in
-    (move .0, is-step s (c .before .before .before .before .before .before .before .before .phase .given .1) (λ (w : World). moveStep (s .args .self .mode) w k) (λ w. refl) (move .1))
+    (move .0, is-step s (c .before .before .before .before .before .before .before .before .phase .given .1) (λ (w : World). moveStep (s .args .self .mode) w k) (λ w. refl) (move .1) (λ w. refl))
 
 same-length-4 : tie.Need-same-length-4
 same-length-4 c = search needs
@@ -127,19 +123,17 @@ same-length-4 c = search needs
 returns-4 : tie.Need-returns-4
 returns-4 c =
     let s = c .before .before .before .before .before .before .before .before .before .before .before in
-    let k = c .before .before .before .before .before .before .phase2 .given .0 .0 in
-    let still = went-still (λ (w : World). writeBackStep w k) _ _ _ _ _ _ _ _ (c .before .before .before .write-back-step .ensures) in
     simp (c .at3 .ensures)
-    (s .pre .1 .0, is-step s (c .before .before .before .before .before .before .phase2 .given .1) (λ (w : World). writeBackStep w k) (λ w. refl) still)
+    (s .pre .1 .0, turned-back (s .args .self) _ (c .before .before .before .before .before .before .phase2 .given .0 .0) _ _ _ _ _ _ (c .before .before .before .before .before .before .phase2 .given .1) (c .before .before .before .write-back-step .ensures))
 
 returns-5 : tie.Need-returns-5
-returns-5 c = absurd (never-goes (can (c .before .before .before .before .before .before) (c .before .enum-told3 .given .1) (lent-world (c .before .before .before .before .before .before))))
+returns-5 c = absurd (never-goes (can (c .before .before .before .before .before .before) (c .before .enum-told3 .given .1) .can))
 
 returns-6 : tie.Need-returns-6
-returns-6 c = absurd (never-goes (can (c .before .before .before .before .before .before) (c .before .enum-told4 .given .1) (lent-world (c .before .before .before .before .before .before))))
+returns-6 c = absurd (never-goes (can (c .before .before .before .before .before .before) (c .before .enum-told4 .given .1) .can))
 
 returns-7 : tie.Need-returns-7
-returns-7 c = absurd (never-goes (can (c .before .before .before .before .before .before) (c .before .enum-told5 .given .1) (lent-world (c .before .before .before .before .before .before))))
+returns-7 c = absurd (never-goes (can (c .before .before .before .before .before .before) (c .before .enum-told5 .given .1) .can))
 
 pub step-at-spec : {M : Type 1} → statement M
 step-at-spec =

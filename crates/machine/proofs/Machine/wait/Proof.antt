@@ -1,6 +1,9 @@
-use Rattle.machine.proofs.Waiting.{fetch-goes, at-phase}
-use Rattle.machine.specs.Step.{became, restStep, writeBackStep}
+use Rattle.machine.proofs.Waiting.{fetch-goes, back-waits, at-phase}
+use Rattle.machine.specs.Step.{became, restStep}
 use Rattle.machine.specs.Turns.{waitOf}
+use Rattle.machine.specs.declared.Reason.the-variants as reason
+use Rattle.machine.specs.declared.steps.Wait.the-variants.{Go, Stop}
+use mathlib.Core.Bool.{Bool, cond}
 use mathlib.Core.Path.{_∙_, sym, ap}
 use borrow.Author.Needs.{needs}
 use Rattle.machine.proofs.Machine.wait.Statement.{statement}
@@ -36,38 +39,49 @@ enum-told-6 c = search needs
 returns : tie.Need-returns
 unfolding restStep
 returns c =
-    λ w p q. sym (ap waitOf (at-phase (became w ((c .before .before .before .before .args .self))) (c .before .before .enum-told .given .1)) ∙ simp (sym (c .before .has .ensures .value) ∙ c .if1 .taken))
+    let m = c .before .before .before .before .args .self in
+    λ w p q h. sym (ap waitOf (at-phase (became w m) (c .before .before .enum-told .given .1)) ∙ simp (sym (c .before .has .ensures .value) ∙ c .if1 .taken))
 
 returns-2 : tie.Need-returns-2
 unfolding restStep
 returns-2 c =
-    λ w p q. sym (ap waitOf (at-phase (became w ((c .before .before .before .before .args .self))) (c .before .before .enum-told .given .1)) ∙ simp (sym (c .before .has .ensures .value) ∙ c .if1 .left))
+    let m = c .before .before .before .before .args .self in
+    λ w p q h. sym (ap waitOf (at-phase (became w m) (c .before .before .enum-told .given .1)) ∙ simp (sym (c .before .has .ensures .value) ∙ c .if1 .left))
 
 returns-3 : tie.Need-returns-3
 returns-3 c =
-    λ w p q. sym (ap waitOf (at-phase (became w ((c .before .before .args .self))) (c .enum-told2 .given .1)) ∙ fetch-goes _)
+    let m = c .before .before .args .self in
+    λ w p q h. sym (ap waitOf (at-phase (became w m) (c .enum-told2 .given .1)) ∙ fetch-goes _)
 
 returns-4 : tie.Need-returns-4
 returns-4 c =
-    λ w p q. c .move-wait .ensures w p q
-    ∙ sym (ap waitOf (at-phase (became w ((c .before .before .before .before .args .self))) (c .before .before .phase .given .1)))
+    let m = c .before .before .before .before .args .self in
+    λ w p q h. c .move-wait .ensures w p q h ∙ sym (ap waitOf (at-phase (became w m) (c .before .before .phase .given .1)))
 
 returns-5 : tie.Need-returns-5
-unfolding writeBackStep
 returns-5 c =
-    λ w p q. sym (ap waitOf (at-phase (became w ((c .before .before .args .self))) (c .enum-told3 .given .1)))
+    let m = c .before .before .before .args .self in
+    λ w p q h. sym (ap waitOf (at-phase (became w m) (c .before .enum-told3 .given .1)) ∙ back-waits _ _ ∙ ap (λ (b : Bool). cond b Go (Stop reason.LedgerFull)) (sym h ∙ c .if2 .taken))
 
 returns-6 : tie.Need-returns-6
 returns-6 c =
-    λ w p q. sym (ap waitOf (at-phase (became w ((c .before .before .args .self))) (c .enum-told4 .given .1)))
+    let m = c .before .before .before .args .self in
+    λ w p q h. sym (ap waitOf (at-phase (became w m) (c .before .enum-told3 .given .1)) ∙ back-waits _ _ ∙ ap (λ (b : Bool). cond b Go (Stop reason.LedgerFull)) (sym h ∙ c .if2 .left))
 
 returns-7 : tie.Need-returns-7
 returns-7 c =
-    λ w p q. sym (ap waitOf (at-phase (became w ((c .before .before .args .self))) (c .enum-told5 .given .1)))
+    let m = c .before .before .args .self in
+    λ w p q h. sym (ap waitOf (at-phase (became w m) (c .enum-told4 .given .1)))
 
 returns-8 : tie.Need-returns-8
 returns-8 c =
-    λ w p q. sym (ap waitOf (at-phase (became w ((c .before .before .args .self))) (c .enum-told6 .given .1)))
+    let m = c .before .before .args .self in
+    λ w p q h. sym (ap waitOf (at-phase (became w m) (c .enum-told5 .given .1)))
+
+returns-9 : tie.Need-returns-9
+returns-9 c =
+    let m = c .before .before .args .self in
+    λ w p q h. sym (ap waitOf (at-phase (became w m) (c .enum-told6 .given .1)))
 
 pub wait-spec : {M : Type 1} → statement M
 wait-spec =
@@ -89,4 +103,5 @@ wait-spec =
     returns-5
     returns-6
     returns-7
-    returns-8)
+    returns-8
+    returns-9)

@@ -1,4 +1,3 @@
-use Rattle.machine.specs.Step.{writeBackStep}
 use borrow.Author.Needs.{needs}
 use Rattle.machine.proofs.Machine.write_back_step.Statement.{statement}
 use Rattle.machine.proofs.Machine.write_back_step.Tie as tie
@@ -13,8 +12,7 @@ same-length : tie.Need-same-length
 same-length c = search needs
 
 returns : tie.Need-returns
-unfolding writeBackStep
-returns c = λ w. simp (c .completed .ensures, c .before .before .before .put-back .ensures w)
+returns c = λ w left. simp (c .completed .ensures, c .before .before .before .put-back .ensures w)
 
 pub write-back-step-spec : {M : Type 1} → statement M
 write-back-step-spec =

@@ -1,0 +1,164 @@
+-- The sum law of the ledger.
+-- Assumes nothing.
+use Prim.Native.Nat.{ℕ, _+_, _-_, _*_, _/_, _≤_}
+use mathlib.Core.Path.{_≡_, refl, sym, ap, subst, _∙_}
+use mathlib.Core.Bool.{Bool, true, false, cond}
+use mathlib.Core.List.{List, [], _++_}
+use native.Mathlib.Omega.{arith}
+use lib.Dec.{eqb}
+use lib.ListN.{length, length-drop}
+use Rattle.words.specs.Slices.{put}
+use Rattle.words.proofs.Slices.{put-put, length-put}
+use Rattle.regs.specs.declared.Mode.the-variants.{StreamToMemory}
+use Rattle.regs.specs.Control as register
+use Rattle.regs.specs.Offsets.{isRegister}
+use Rattle.ledger.specs.declared.Entry.{Entry}
+use Rattle.ledger.specs.Records.{ledgerBytes}
+use Rattle.ledger.proofs.Rows.{length-ledger, ledger-append, capacity-le}
+use Rattle.machine.specs.declared.Machine.{Machine}
+use Rattle.machine.specs.declared.Ran.{Ran}
+use Rattle.machine.specs.declared.Phase.{Phase}
+use Rattle.machine.specs.declared.Phase.the-variants.{Rest, Fetch, Move, WriteBack, Ended, Halted, Faulted}
+use Rattle.machine.specs.declared.RunAnswer.the-variants as many
+use Rattle.machine.specs.declared.registers.WroteRegister.{WroteRegister}
+use Rattle.machine.specs.declared.registers.WroteRegister.the-variants as wrote
+use Rattle.machine.specs.Saved.{keeps}
+use Rattle.machine.specs.Registers.{stored, released, controlWritten, writeOf}
+use Rattle.machine.specs.Step.{World}
+use Rattle.machine.specs.Run.{Lent, serves, refused, lentOf, worldOf, takenSince, run, ranAs, runAnswer, ledgerAfter, HasRun}
+use Rattle.machine.proofs.Outcomes.{serves-good}
+use Rattle.machine.proofs.RunLaws.{run-tells}
+use Rattle.sums.specs.Sum.{held, lostIn, Session, begins, written, ran, Adds}
+use Rattle.sums.proofs.Balance.{sum-append, run-balanced}
+
+-- ---- a register write leaves what is in hand, or drops it
+
+record Drops (m n : Machine) : Type 0 where
+  mode : n .mode ≡ m .mode
+  less : held n ≤ held m
+
+on : (P : Machine → Type 0) (b : Bool) {x y : Machine} → P x → P y → P (cond b x y)
+on P true p q = p
+on P false p q = q
+
+released-drops : (p : Phase) (m : Machine) → m .phase ≡ p → Drops m (released p m)
+released-drops Rest m e = record { mode = refl; less = omega arith }
+released-drops Fetch m e = record { mode = refl; less = omega arith }
+released-drops (Move k) m e = record { mode = refl; less = omega arith }
+released-drops (WriteBack k) m e = record { mode = refl; less = omega arith }
+released-drops Ended m e = record { mode = refl; less = omega arith }
+released-drops Halted m e = record { mode = refl; less = omega arith }
+released-drops (Faulted f) m e = record { mode = refl; less = omega arith }
+
+control-drops : (m : Machine) (v : ℕ) → Drops m (controlWritten v m)
+unfolding controlWritten
+control-drops m v =
+    let r = released-drops (m .phase) (stored v m) refl in
+    on (Drops m) (register.resetBy v (m .control)) (record { mode = refl; less = omega arith })
+    (on (Drops m) (register.run (register.asControl v)) (record { mode = refl; less = omega arith }) (record { mode = r .mode; less = r .less }))
+
+abbrev AfterWrite : Machine → WroteRegister → Type 0
+AfterWrite m (wrote.Done n) = Drops m n
+AfterWrite m (wrote.Refused why) = Unit {0}
+
+in-answer : (m : Machine) (b : Bool) (x y : WroteRegister) → AfterWrite m x → AfterWrite m y → AfterWrite m (cond b x y)
+in-answer m true x y p q = p
+in-answer m false x y p q = q
+
+write-drops : (m : Machine) (offset v : ℕ) → AfterWrite m (writeOf m offset v)
+unfolding writeOf
+write-drops m offset v =
+    let same : Drops m m = record { mode = refl; less = omega arith } in
+    in-answer m (keeps m) _ _
+    (in-answer m (isRegister offset) _ _
+    (on (Drops m) (eqb offset 0) (record { mode = refl; less = omega arith })
+    (on (Drops m) (eqb offset 4) (control-drops m v)
+    (on (Drops m) (eqb offset 8) (record { mode = refl; less = omega arith }) same)))
+    tt)
+    tt
+
+-- ---- a run
+
+ran-serves : (l : Lent) (used : ℕ) (w : World) (budget : ℕ) (r : Ran) → many.Done r ≡ runAnswer used l w budget
+    → (l ≡ serves) × (r ≡ ranAs used w (run budget w))
+ran-serves serves used w budget r e = (refl, cc)
+ran-serves (refused why) used w budget r e = absurd (let z : _≡_ {A = ℕ} 0 1 = cc in omega arith)
+
+used-in : (m : Machine) (window beats out ledger : List ℕ) (used : ℕ) → lentOf m window beats out ledger used ≡ serves → used ≤ length ledger / 12
+unfolding lentOf
+used-in m window beats out ledger used e = serves-good (keeps m) m window beats out ledger used e .2
+
+-- ---- sessions
+
+record Kept (m : Machine) (before ledger : List ℕ) (rs : List Entry) (t l : ℕ) : Type 0 where
+  mode : m .mode ≡ StreamToMemory
+  size : length ledger ≡ length before
+  adds : Adds m before ledger rs t l
+
+module _ {m : Machine} {before ledger : List ℕ} {rs : List Entry} {t l : ℕ} (h : Kept m before ledger rs t l)
+    {budget : ℕ} {window beats out window' out' ledger' : List ℕ} {r : Ran}
+    (d : HasRun m window beats out ledger (length rs) budget (many.Done r) window' out' ledger') where
+  abbrev w : World
+  w = worldOf m window beats out ledger (length rs)
+
+  abbrev new : List Entry
+  new = run budget w .world .records
+
+  both : (lentOf m window beats out ledger (length rs) ≡ serves) × (r ≡ ranAs (length rs) w (run budget w))
+  both = ran-serves (lentOf m window beats out ledger (length rs)) (length rs) w budget r (d .answer)
+
+  is : r ≡ ranAs (length rs) w (run budget w)
+  is = both .1
+
+  front : length rs ≤ length ledger / 12
+  front = used-in m window beats out ledger (length rs) (both .0)
+
+  fits : 12 * length rs + length (ledgerBytes new) ≤ length ledger
+  fits =
+      let p = run-tells budget w .passed in
+      let made : length new ≡ length (p .logged) = ap length (p .records) in
+      let room = p .left in
+      omega (arith, made, room, length-ledger new, capacity-le (length ledger) .0, front)
+
+  ledger-is : ledger' ≡ put ledger (12 * length rs) (ledgerBytes new)
+  ledger-is = d .ledger-after ∙ ap (λ (x : Lent). ledgerAfter x (run budget w .world) ledger (length rs)) (both .0)
+
+  ran-kept : Kept (r .machine) before ledger' (rs ++ new) (t + r .taken) (l + lostIn budget w)
+  ran-kept =
+      let p = run-tells budget w .passed in
+      let v = run budget w .world in
+      let machine : r .machine ≡ v .machine = ap (λ (x : Ran). x .machine) is in
+      let took : r .taken ≡ takenSince w v = ap (λ (x : Ran). x .taken) is in
+      let in-hand : held (r .machine) ≡ held (v .machine) = ap held machine in
+      let beats-left : length (v .input) ≡ length (w .input) - p .took = ap length (p .input) ∙ length-drop (p .took) (w .input) in
+      let place : 12 * length rs ≡ 0 + length (ledgerBytes rs) = omega (arith, length-ledger rs) in
+      let room : 0 + length (ledgerBytes rs) ≤ length before = omega (arith, front, place, h .size) in
+      record {
+        mode = ap (λ (x : Machine). x .mode) machine ∙ p .mode ∙ h .mode;
+        size = ap length ledger-is ∙ length-put ledger (12 * length rs) (ledgerBytes new) fits ∙ h .size;
+        adds = record {
+          sum = omega (arith, h .adds .sum, run-balanced budget w (h .mode), sum-append rs new, in-hand, took, beats-left);
+          holds = ledger-is ∙ (λ x. put (h .adds .holds x) (place x) (ledgerBytes new))
+              ∙ put-put before 0 (ledgerBytes rs) (ledgerBytes new) room ∙ ap (put before 0) (sym (ledger-append rs new));
+        };
+      }
+
+none-put : (xs : List ℕ) → xs ≡ put xs 0 []
+none-put xs = refl
+
+session-kept : {m : Machine} {before ledger : List ℕ} {rs : List Entry} {t l : ℕ} → Session m before ledger rs t l → Kept m before ledger rs t l
+session-kept (begins window ledger) =
+    record { mode = refl; size = refl; adds = record { sum = refl; holds = none-put ledger } }
+session-kept (written {m = m} {n = n} {offset = offset} {v = v} s c) =
+    let h = session-kept s in
+    let a : Drops m n = subst (AfterWrite m) (sym (c .answer)) (write-drops m offset v) in
+    record {
+      mode = a .mode ∙ h .mode;
+      size = h .size;
+      adds = record { sum = omega (arith, h .adds .sum, a .less); holds = h .adds .holds };
+    }
+session-kept (ran s d) = ran-kept (session-kept s) d
+
+-- The ledger's bytes sum to the beats taken less those in hand and those abandoned.
+pub session-adds : {m : Machine} {before ledger : List ℕ} {rs : List Entry} {t l : ℕ} → Session m before ledger rs t l → Adds m before ledger rs t l
+session-adds s = session-kept s .adds

@@ -1,0 +1,75 @@
+-- Order 6: what becomes of the beats that are taken in mode 2. Over runs from a fresh machine, the ledger empty at first and each
+-- number handed on, its bytes sum to the beats taken less those of descriptors not written back. The theorem is `session-adds`.
+-- Assumes nothing.
+use Prim.Native.Nat.{ℕ, zero, suc, _+_, _-_}
+use mathlib.Core.Path.{_≡_}
+use mathlib.Core.List.{List, [], _∷_, _++_}
+use lib.ListN.{length}
+use Rattle.words.specs.Slices.{put}
+use Rattle.bus.specs.declared.Window.{Window}
+use Rattle.regs.specs.declared.Mode.the-variants.{StreamToMemory}
+use Rattle.ledger.specs.declared.Entry.{Entry}
+use Rattle.ledger.specs.Records.{ledgerBytes}
+use Rattle.machine.specs.declared.Machine.{Machine}
+use Rattle.machine.specs.declared.Ran.{Ran}
+use Rattle.machine.specs.declared.RunAnswer.the-variants as many
+use Rattle.machine.specs.declared.registers.WroteRegister.the-variants as wrote
+use Rattle.machine.specs.declared.Phase.{Phase}
+use Rattle.machine.specs.declared.Phase.the-variants.{Rest, Fetch, Move, WriteBack, Ended, Halted, Faulted}
+use Rattle.machine.specs.Saved.{inHand}
+use Rattle.machine.specs.State as state
+use Rattle.machine.specs.Registers.{WasWritten}
+use Rattle.machine.specs.Step.{World, Answer, taken, stopped, step}
+use Rattle.machine.specs.Run.{run, worldOf, HasRun}
+
+-- the beats of the descriptor in hand
+abbrev pub held : Machine → ℕ
+held m = inHand (m .phase) .moved
+
+-- the bytes that records tell, summed
+abbrev pub sumOf : List Entry → ℕ
+sumOf [] = 0
+sumOf (e ∷ es) = e .actual + sumOf es
+
+-- what a step abandons: fault 14 drops the descriptor in hand
+abbrev pub lostBy : Phase → Phase → ℕ
+lostBy (Move k) (Faulted f) = k .moved
+lostBy (Move k) Rest = 0
+lostBy (Move k) Fetch = 0
+lostBy (Move k) (Move j) = 0
+lostBy (Move k) (WriteBack j) = 0
+lostBy (Move k) Ended = 0
+lostBy (Move k) Halted = 0
+lostBy Rest q = 0
+lostBy Fetch q = 0
+lostBy (WriteBack k) q = 0
+lostBy Ended q = 0
+lostBy Halted q = 0
+lostBy (Faulted f) q = 0
+
+-- over a run
+abbrev pub lostOn : ℕ → World → Answer → ℕ
+lostOn zero w a = 0
+lostOn (suc n) w (stopped r) = 0
+lostOn (suc n) w (taken v) = lostBy (w .machine .phase) (v .machine .phase) + lostOn n v (step v)
+
+abbrev pub lostIn : ℕ → World → ℕ
+lostIn n w = lostOn n w (step w)
+
+-- calls from a fresh machine in mode 2 on: the machine now; the ledger's bytes before and now; the records made, the beats taken
+-- and those abandoned, by a fault or by a write that resets
+pub data Session : Machine → (before ledger : List ℕ) → List Entry → (taken lost : ℕ) → Type 0 where
+  begins : (window : Window) (ledger : List ℕ) → Session (state.fresh StreamToMemory window) ledger ledger [] 0 0
+  written : {m n : Machine} {before ledger : List ℕ} {rs : List Entry} {t l offset v : ℕ} → Session m before ledger rs t l
+      → WasWritten m offset v (wrote.Done n) → Session n before ledger rs t (l + (held m - held n))
+  ran : {m : Machine} {before ledger : List ℕ} {rs : List Entry} {t l budget : ℕ} {window beats out window' out' ledger' : List ℕ} {r : Ran}
+      → Session m before ledger rs t l → HasRun m window beats out ledger (length rs) budget (many.Done r) window' out' ledger'
+      → Session (r .machine) before ledger' (rs ++ run budget (worldOf m window beats out ledger (length rs)) .world .records) (t + r .taken)
+      (l + lostIn budget (worldOf m window beats out ledger (length rs)))
+
+-- what is said of it
+pub record Adds (m : Machine) (before ledger : List ℕ) (rs : List Entry) (taken lost : ℕ) : Type 0 where
+  -- the records' bytes, those in hand and those abandoned are the beats taken
+  pub sum : sumOf rs + held m + lost ≡ taken
+  -- the ledger holds those records from its start on, and past them what it held before
+  pub holds : ledger ≡ put before 0 (ledgerBytes rs)
