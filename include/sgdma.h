@@ -226,8 +226,8 @@ extern "C" {
  * The records used before are unchanged, and so are the bytes past the last.
  *
  * A WriteBack that finds no room is not made: the run stops before it, with
- * SGDMA_REASON_LEDGER_FULL, and the descriptor is still owned. So no descriptor
- * is marked done without a record of it. Nothing is lost by that, and the core
+ * SGDMA_REASON_LEDGER_FULL, and the descriptor is still owned. So the core marks
+ * no descriptor done without a record of it. Nothing is lost by that, and the core
  * goes on in the next run that is lent room: a longer ledger that begins with
  * the same records, or the same one with used 0, once its records are kept
  * elsewhere. NULL with length 0 is a ledger without room; the largest number,
@@ -240,6 +240,27 @@ extern "C" {
 #define SGDMA_RECORD_STATUS_AT      10 /* 8 bits: as in desc_status, errors of its beats */
 #define SGDMA_RECORD_FLAGS_AT       11 /* 8 bits: EOP, and seven that are 0 */
 #define SGDMA_RECORD_EOP            SGDMA_BIT(0) /* a beat with EOP ended it; modes 0 and 1: 0 */
+
+/*
+ * What a done mark tells
+ *
+ * Descriptors are memory, and the core writes where they say: a byte that lands
+ * on the control byte of another descriptor can clear its OWNED_BY_HW, and then
+ * it reads as done with no sample behind it. It has no record in the ledger.
+ * Firmware that trusts a done mark alone sees to it, before it sets RUN, that
+ *   - the descriptors of the chain are multiples of 4, in the window, and apart
+ *     from each other, the one that is not owned at the end too;
+ *   - PARK and STOP_DMA_ER are 0, in mode 2;
+ *   - each destination and the bytes_to_transfer bytes from there on (the one
+ *     byte, under WRITE_FIXED_ADDRESS) are in the window and touch none of these
+ *     descriptors.
+ * Then, and so it is proved, with a stream and a ledger that are long enough:
+ * after every step the descriptors marked done are the first few of the chain,
+ * each with the count of bytes that the stream gave it; the core ends after 2
+ * steps and, for each of them, its bytes and 2 more; every landing place holds
+ * the last byte sent there; and nothing else has changed but the last four bytes
+ * of each descriptor. A budget of 4,294,967,295 is enough for every such chain.
+ */
 
 /*
  * The report of a run, 18 bytes: where each number stands.

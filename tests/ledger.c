@@ -271,6 +271,34 @@ static void check_refused_everywhere(void)
     check("phases met", count, MODES * PHASES - MODES_WITHOUT_HALTED);
 }
 
+/*
+ * A sample that lands on the control byte of the next descriptor marks it done;
+ * the ledger does not tell of it.
+ */
+static void check_mark_without_record(void)
+{
+    enum { NEXT = 4128, ITS_CONTROL = NEXT + SGDMA_DESCRIPTOR_DESC_CONTROL_AT };
+    uint8_t memory[ROW_LENGTH] = {0}, records[2 * SGDMA_RECORD_SIZE] = {0};
+    uint8_t beat[SGDMA_BEAT_SIZE] = {0};
+    struct descriptor first = {
+        .destination = ITS_CONTROL, .next = NEXT, .length = 1, .control = 0x80};
+    struct descriptor next = {
+        .destination = 4224, .next = 4160, .length = 1, .control = 0x80};
+    struct stream in = {beat, 1}, none = {NULL, 0};
+    struct ledger ledger = {records, 2, 0};
+    struct core core;
+
+    check_case("a done mark without a record");
+    core_create(&core, SGDMA_MODE_STREAM_TO_MEMORY, ROW_BASE, memory, sizeof memory);
+    core_build(&core, ROW_D, &first);
+    core_build(&core, NEXT, &next);
+    core_write(&core, SGDMA_REGISTER_NEXT_DESCRIPTOR_POINTER, ROW_D);
+    core_write(&core, SGDMA_REGISTER_CONTROL, SGDMA_CONTROL_RUN);
+    check("records used", core_run(&core, in, none, ledger, UINT32_MAX).used, 1);
+    check("its control", memory[ITS_CONTROL - ROW_BASE], 0);
+    check("the record's descriptor", record_at(ledger, 0).descriptor, ROW_D);
+}
+
 void test_ledger(void)
 {
     for (size_t i = 0; i < COUNT(RECORDS); i++)
@@ -284,6 +312,7 @@ void test_ledger(void)
     check_before_budget();
     check_places();
     check_handed_on();
+    check_mark_without_record();
     check_lengths();
     check_refused_everywhere();
 }

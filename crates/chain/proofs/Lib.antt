@@ -8,3 +8,4 @@ pub mod Walk
 pub mod Theorem
 pub mod OfRun
 pub mod Instances
+pub mod Enough

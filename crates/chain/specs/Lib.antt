@@ -1,3 +1,4 @@
 pub mod Chain
 pub mod Calls
 pub mod Known
+pub mod Enough

@@ -169,4 +169,7 @@ worked =
     ∷ received D four (lend 0 ∷ once 4096 0x20 100 ++ lend 1 ∷ go 100 ∷ [])
     (reason 1 ∷ steps 2 ∷ status 0x1C ∷ ledger (recorded 4 0 0) ∷ bytes 28 (4 ∷ 0 ∷ 0 ∷ 0 ∷ []) ∷ [])
     ∷ received (desc 0 4224 4096 4 0x80) (four ++ four) (lend 1 ∷ once 4096 0x20020 100) (reason 7 ∷ steps 12 ∷ taken 8 ∷ ledger (recorded 4 0 0) ∷ [])
+    -- 77: a byte that lands on the control byte of the next descriptor clears its OWNED: it reads as done, and has no record
+    ∷ received (desc 0 4159 4128 1 0x80 ++ desc 0 4224 4160 1 0x80) (0x0000 ∷ []) (once 4096 0x20 100)
+    (reason 1 ∷ steps 5 ∷ taken 1 ∷ pointer 4128 ∷ bytes 60 (0 ∷ 0 ∷ 0 ∷ 0 ∷ []) ∷ ledger (recorded 1 0 0) ∷ [])
     ∷ []

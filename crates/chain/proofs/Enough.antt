@@ -1,0 +1,119 @@
+-- A budget of 32 bits that is enough exists: no more than 2,048 descriptors without a byte in common find place in a window, and none
+-- takes more than 65,535 beats.
+-- Assumes nothing.
+use Prim.Native.Nat.{ℕ, zero, suc, _+_, _-_, _*_, _≤_, _<_}
+use mathlib.Core.Path.{_≡_, refl, sym, ap}
+use mathlib.Core.Bool.{Bool, true, false}
+use mathlib.Core.List.{List, [], _∷_, _++_}
+use native.Mathlib.Omega.{arith}
+use lib.Dec.{leb}
+use lib.ListN.{length, drop, length-append}
+use borrow.Author.Tests.{leb-true, leb-false, le-leb, lt-leb}
+use Rattle.words.specs.Bits.{flag}
+use Rattle.bus.specs.declared.Window.{Window}
+use Rattle.bus.specs.Window.{keepsLimits, inWindow}
+use Rattle.image.proofs.Tests.{and-left}
+use Rattle.chain.specs.Chain.{All, Pairwise, Link, linksFrom, links, last, everyLink, Apart, wants, takes, Enough, sharesOf, cost}
+use Rattle.chain.specs.Enough.{BudgetExists}
+use Rattle.chain.proofs.Lists.{all-map, all-left}
+use Rattle.chain.proofs.Memory.{Placed, placed}
+use Rattle.chain.proofs.Links.{wants-some, wants-short, all-bytes, links-short}
+use Rattle.chain.proofs.Moves.{takes-taken, takes-fit}
+use Rattle.chain.proofs.Theorem.{chain-theorem}
+
+-- ---- how many descriptors without a byte in common there are
+
+-- those that end at q or before
+abbrev before : ℕ → List Link → ℕ
+before q [] = 0
+before q (l ∷ ls) = flag (leb (l .at + 32) q) + before q ls
+
+flag-le : (a b c d : ℕ) → (a ≤ b → c ≤ d) → flag (leb a b) ≤ flag (leb c d)
+flag-le a b c d h = by (leb a b) refl
+  where
+    by : (x : Bool) → leb a b ≡ x → flag x ≤ flag (leb c d)
+    by true e = rw (le-leb c d (h (leb-true _ _ e))) (omega arith)
+    by false e = omega arith
+
+-- of two that lie apart and begin at q or before, no second one ends past it
+one-past : (q : ℕ) (l x : Link) → Apart l x → l .at ≤ q → q < l .at + 32 → x .at ≤ q → x .at + 32 ≤ q
+one-past q l x a low past h = by (leb (x .at + 32) q) refl
+  where
+    by : (b : Bool) → leb (x .at + 32) q ≡ b → x .at + 32 ≤ q
+    by true e = leb-true _ _ e
+    by false e =
+        let over : q < x .at + 32 = leb-false _ _ e in
+        absurd (a (x .at - l .at) (omega arith) (l .at - x .at) (omega arith) (omega arith))
+
+no-more : (q : ℕ) (l : Link) (ls : List Link) → All (Apart l) ls → l .at ≤ q → q < l .at + 32 → before (q + 32) ls ≤ before q ls
+no-more q l [] a low past = omega arith
+no-more q l (x ∷ ls) a low past =
+    let here = flag-le (x .at + 32) (q + 32) (x .at + 32) q (λ (h : x .at + 32 ≤ q + 32). one-past q l x (a .0) low past (omega arith)) in
+    let there = no-more q l ls (a .1) low past in
+    omega arith
+
+-- in 32 bytes more there is at most one more
+one-more : (q : ℕ) (ls : List Link) → Pairwise Apart ls → before (q + 32) ls ≤ suc (before q ls)
+one-more q [] a = omega arith
+one-more q (l ∷ ls) a = by (leb (l .at + 32) q) (leb (l .at + 32) (q + 32)) refl refl (one-more q ls (a .1))
+  where
+    by : (x y : Bool) → leb (l .at + 32) q ≡ x → leb (l .at + 32) (q + 32) ≡ y → before (q + 32) ls ≤ suc (before q ls)
+        → flag y + before (q + 32) ls ≤ suc (flag x + before q ls)
+    by true true e f h = omega arith
+    by true false e f h = omega arith
+    by false true e f h =
+        let past : q < l .at + 32 = leb-false _ _ e in
+        let low : l .at + 32 ≤ q + 32 = leb-true _ _ f in
+        let rest = no-more q l ls (a .0) (omega arith) past in
+        omega arith
+    by false false e f h = omega arith
+
+none-before : (q : ℕ) (ls : List Link) → All (λ l. q ≤ l .at) ls → before q ls ≡ 0
+none-before q [] a = refl
+none-before q (l ∷ ls) a =
+    let h : q ≤ l .at = a .0 in
+    rw (lt-leb (l .at + 32) q (omega arith), none-before q ls (a .1)) (omega arith)
+
+all-before : (q : ℕ) (ls : List Link) → All (λ l. l .at + 32 ≤ q) ls → before q ls ≡ length ls
+all-before q [] a = refl
+all-before q (l ∷ ls) a = rw (le-leb (l .at + 32) q (a .0), all-before q ls (a .1)) (omega arith)
+
+-- so there is at most one for each 32 bytes
+at-most : (lo m : ℕ) (ls : List Link) → Pairwise Apart ls → All (λ l. lo ≤ l .at) ls → before (lo + 32 * m) ls ≤ m
+at-most lo zero ls a b = rw (let z : lo + 32 * 0 ≡ lo = omega arith in z) (omega (arith, none-before lo ls b))
+at-most lo (suc m) ls a b =
+    rw (let z : lo + 32 * suc m ≡ lo + 32 * m + 32 = omega arith in z) (omega (arith, one-more (lo + 32 * m) ls a, at-most lo m ls a b))
+
+-- k links and the one at their end
+length-every : (w : Window) (m : List ℕ) (a k : ℕ) (e : Link) → length (linksFrom w m a k ++ e ∷ []) ≡ suc k
+length-every w m a zero e = refl
+length-every w m a (suc k) e = ap suc (length-every w m _ k e)
+
+-- ---- what they cost
+
+cost-most : (ls : List Link) (bs : List ℕ) → Enough ls bs → All (λ l. l .says .length < 65536) ls → cost (sharesOf ls bs) ≤ 65537 * length ls
+cost-most [] bs e a = omega arith
+cost-most (l ∷ ls) bs e a =
+    let t = takes (wants (l .says)) bs in
+    let fit : length t ≤ wants (l .says) = takes-fit (takes-taken (wants (l .says)) bs (wants-some (l .says)) (e .0)) .1 in
+    let short : wants (l .says) < 65536 = wants-short (l .says) (a .0) in
+    let rest = cost-most ls (drop (length t) bs) (e .1) (a .1) in
+    omega arith
+
+-- ---- the theorem
+
+pub budget-exists : BudgetExists
+unfolding keepsLimits
+budget-exists g h limits =
+    let w = g .window in
+    let size : w .length ≤ 65536 = leb-true _ _ (and-left _ _ (and-left _ _ limits)) in
+    let stand : All (λ l. Placed w (l .at) 32) (everyLink g) = all-map (λ l i. placed w (l .at) 32 i) (everyLink g) (h .inside) in
+    let all : before (w .base + 32 * 2048) (everyLink g) ≡ length (everyLink g) =
+    all-before (w .base + 32 * 2048) (everyLink g) (all-map (λ l p. omega arith) (everyLink g) stand) in
+    let most = at-most (w .base) 2048 (everyLink g) (h .apart) (all-map (λ l p. p .low) (everyLink g) stand) in
+    let every = length-every w (g .memory) (g .pointer) (g .k) (last g) in
+    let own : length (links g) + 1 ≡ length (everyLink g) = sym (length-append (links g) (last g ∷ [])) in
+    let short = links-short w (g .memory) (g .pointer) (g .k) (all-bytes (g .memory) (h .bytes)) (h .lent)
+    (all-left (λ l. inWindow w (l .at) 32 ≡ true) (links g) (last g ∷ []) (h .inside)) in
+    let paid = cost-most (links g) (g .beats) (h .stream) short in
+    record { few = omega arith; steps = omega arith; outcome = chain-theorem g h 4294967295 (omega arith) }
