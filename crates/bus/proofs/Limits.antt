@@ -13,6 +13,7 @@ use Rattle.bus.specs.declared.CheckedWindow.the-variants.{Good, Refused}
 use Rattle.bus.specs.declared.Located.the-variants.{At, Outside}
 use Rattle.bus.specs.declared.Refusal.the-variants.{BadWindow}
 use Rattle.bus.specs.Window.{keepsLimits, checkedOf, checkedNumber, inWindow, placeOf, locatedOf, Checked}
+use Rattle.bus.specs.Theorems.{LocatedIs}
 
 module _ (base length : ℕ) where
   pub checked-good : length ≤ 65536 → base ≤ 4294967295 → base + length ≤ 4294967296
@@ -73,6 +74,6 @@ within-by true false p q w a n f g i e = absurd (let z : _≡_ {A = ℕ} 0 1 = c
 within-by false t p q w a n f g i e = absurd (let z : _≡_ {A = ℕ} 0 1 = cc in omega arith)
 
 -- the place found is the address less the base, and its bytes stand within the window
-pub located-is : (w : Window) (a n : ℕ) (q : Place) → locatedOf w a n ≡ At q → (q .0 ≡ placeOf w a) × (q .0 + n ≤ w .length)
+pub located-is : LocatedIs
 unfolding locatedOf inWindow
 located-is w a n q e = within-by _ _ (record { 0 = placeOf w a }) q w a n refl refl refl e

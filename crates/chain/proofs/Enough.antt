@@ -14,7 +14,7 @@ use Rattle.bus.specs.declared.Window.{Window}
 use Rattle.bus.specs.Window.{keepsLimits, inWindow}
 use Rattle.image.proofs.Tests.{and-left}
 use Rattle.chain.specs.Chain.{All, Pairwise, Link, linksFrom, links, last, everyLink, Apart, wants, takes, Enough, sharesOf, cost}
-use Rattle.chain.specs.Enough.{BudgetExists}
+use Rattle.chain.specs.Theorems.{BudgetExists}
 use Rattle.chain.proofs.Lists.{all-map, all-left}
 use Rattle.chain.proofs.Memory.{Placed, placed}
 use Rattle.chain.proofs.Links.{wants-some, wants-short, all-bytes, links-short}

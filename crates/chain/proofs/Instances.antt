@@ -16,7 +16,8 @@ use Rattle.descriptor.specs.Layout.{bytesFor, descriptorAt}
 use Rattle.image.proofs.Tests.{and-left, and-right}
 use Rattle.machine.specs.declared.Ran.{Ran}
 use Rattle.chain.specs.Chain.{All, Given, everyLink, Off, Sent, sent, Premises, Outcome}
-use Rattle.chain.specs.Known.{after, told, InNumbers, known, three}
+use Rattle.chain.specs.Known.{after, told, known, three}
+use Rattle.chain.specs.Theorems.{KnownRun1, ChainOfThree}
 use Rattle.chain.proofs.Theorem.{chain-theorem}
 
 -- ---- tests that compute
@@ -76,9 +77,7 @@ known-outcome : Outcome known (told known) (after known)
 unfolding descriptorAt bytesFor
 known-outcome = chain-theorem known known-meets 100 (omega arith)
 
-pub known-run-1 : InNumbers known 8 4 4128
-    (record { place = 28; bytes = 0x04 ∷ 0x00 ∷ 0x00 ∷ 0x00 ∷ [] } ∷ [])
-    (record { to = 4224; byte = 0x11 } ∷ record { to = 4225; byte = 0x22 } ∷ record { to = 4226; byte = 0x33 } ∷ record { to = 4227; byte = 0x44 } ∷ [])
+pub known-run-1 : KnownRun1
 unfolding descriptorAt bytesFor
 known-run-1 =
     let o = known-outcome in
@@ -140,10 +139,7 @@ three-outcome : Outcome three (told three) (after three)
 unfolding descriptorAt bytesFor
 three-outcome = chain-theorem three three-meets 100 (omega arith)
 
-pub chain-of-three : InNumbers three 16 8 4192
-    (record { place = 28; bytes = 0x03 ∷ 0x00 ∷ 0x00 ∷ 0x00 ∷ [] }
-    ∷ record { place = 92; bytes = 0x02 ∷ 0x00 ∷ 0x03 ∷ 0x78 ∷ [] } ∷ record { place = 60; bytes = 0x03 ∷ 0x00 ∷ 0x01 ∷ 0x04 ∷ [] } ∷ [])
-    (record { to = 4224; byte = 0x11 } ∷ record { to = 4225; byte = 0x22 } ∷ record { to = 4226; byte = 0x44 } ∷ record { to = 4227; byte = 0x55 } ∷ record { to = 4240; byte = 0x88 } ∷ [])
+pub chain-of-three : ChainOfThree
 unfolding descriptorAt bytesFor
 chain-of-three =
     let o = three-outcome in

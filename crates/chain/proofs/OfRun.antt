@@ -30,6 +30,7 @@ use Rattle.machine.specs.Run.{run, even, Lent, serves, lentOf, worldOf, ranAs, 
 use Rattle.machine.proofs.Writes.{write-runs}
 use Rattle.chain.specs.Chain.{Given, machineFor, worldFor, shares, cost, Premises, FirstFew, Outcome}
 use Rattle.chain.specs.Calls.{givenBy, Called, Finished}
+use Rattle.chain.specs.Theorems.{ChainOfRun, ChainOfRunAtEveryStep}
 use Rattle.chain.proofs.Theorem.{chain-theorem, chain-records, chain-at-every-step}
 
 -- a write that is done was made of a machine that keeps the rules
@@ -146,9 +147,8 @@ module _ {window : Window} {pointer control : ℕ} {memory beats out ledger : Li
       ∙ ap (λ (m : Machine). run budget (worldOf m memory beats out ledger used) .world .memory) m2-is
 
   -- With budget enough the run is done, and this is its outcome.
-  pub chain-of-run : 2 + cost (shares (givenBy window pointer control k memory beats out ledger used)) ≤ budget
-      → Finished (givenBy window pointer control k memory beats out ledger used) r memory' out out' ledger ledger'
-  chain-of-run b =
+  pub finishes : 2 + cost (shares g) ≤ budget → Finished g r memory' out out' ledger ledger'
+  finishes b =
       let o : Outcome g (ranAs used (worldFor g) (run budget (worldFor g))) (run budget (worldFor g) .world .memory) = chain-theorem g h budget b in
       record {
         told = ranAs used (worldFor g) (run budget (worldFor g));
@@ -164,5 +164,12 @@ module _ {window : Window} {pointer control : ℕ} {memory beats out ledger : Li
       }
 
   -- With any budget those marked done are the first few.
-  pub chain-of-run-at-every-step : FirstFew window memory (shares (givenBy window pointer control k memory beats out ledger used)) memory'
-  chain-of-run-at-every-step = subst⁻¹ (FirstFew window memory (shares g)) ends-as (chain-at-every-step g h .first-few budget)
+  pub few-done : FirstFew window memory (shares g) memory'
+  few-done = subst⁻¹ (FirstFew window memory (shares g)) ends-as (chain-at-every-step g h .first-few budget)
+
+-- The same, with everything named.
+pub chain-of-run : ChainOfRun
+chain-of-run window pointer control memory beats out ledger used budget r memory' out' ledger' k c h b = finishes k c h b
+
+pub chain-of-run-at-every-step : ChainOfRunAtEveryStep
+chain-of-run-at-every-step window pointer control memory beats out ledger used budget r memory' out' ledger' k c h = few-done k c h

@@ -21,7 +21,8 @@ use Rattle.machine.specs.Run.{Report, run, takenSince, ranAs}
 use Rattle.machine.specs.Laws.{Along, more}
 use Rattle.machine.proofs.Writes.{write-runs}
 use Rattle.machine.proofs.RunLaws.{along-first, along-map, run-to-end, run-short, run-on-way}
-use Rattle.chain.specs.Chain.{All, Given, worldFor, Link, linksFrom, links, last, everyLink, sharesOf, shares, given, cost, recordsOf, Sent, sent, Off, Premises, Done, FirstFew, AtEveryStep, counts, Outcome}
+use Rattle.chain.specs.Chain.{All, Given, worldFor, Link, linksFrom, links, last, everyLink, sharesOf, shares, given, cost, recordsOf, Sent, sent, Off, Premises, Done, FirstFew, counts, Outcome}
+use Rattle.chain.specs.Theorems.{ChainTheorem, ChainRecords, ChainAtEveryStep}
 use Rattle.chain.proofs.Lists.{all-map, all-left, all-right, all-shares}
 use Rattle.chain.proofs.Memory.{Placed, placed, lastAt, lastAt-none, lastAt-last}
 use Rattle.chain.proofs.Links.{chain-is, all-bytes, links-short}
@@ -100,14 +101,6 @@ module _ (g : Given) (h : Premises g) where
       (let x : suc (cost (shares g) + 1) ≡ 2 + cost (shares g) = omega arith in x)
       (more (along-first (walked .along) .few) (rest-step w0 refl (ready .set .runs)) (along-map (λ w i. i .few) (walked .along)))
 
-  -- After every step those of the k marked done are the first few of the chain, each with the count of bytes the stream gave it.
-  pub chain-at-every-step : AtEveryStep g
-  chain-at-every-step =
-      record {
-        first-few = λ b. subst⁻¹ (λ (w : World). FirstFew (g .window) (g .memory) (shares g) (run b w .world .memory)) starts (run-on-way way (walked .stops) b);
-        spent = λ b k. subst⁻¹ (λ (w : World). (run b w .steps ≡ b) × (run b w .reason ≡ Budget)) starts (run-short way b k);
-      }
-
   -- where the run ends
   abbrev report : Report
   report = record { reason = Ended; steps = 2 + cost (shares g); world = walked .last }
@@ -144,15 +137,27 @@ module _ (g : Given) (h : Premises g) where
         pointer = walked .pointer;
       }
 
-  -- With budget enough: for every budget at least that number.
-  pub chain-theorem : (budget : ℕ) → 2 + cost (shares g) ≤ budget
-      → Outcome g (ranAs (g .used) (worldFor g) (run budget (worldFor g))) (run budget (worldFor g) .world .memory)
-  chain-theorem budget k =
-      subst⁻¹ (λ (w : World). Outcome g (ranAs (g .used) w (run budget w)) (run budget w .world .memory)) starts
-      (subst⁻¹ (λ (r : Report). Outcome g (ranAs (g .used) w0 r) (r .world .memory)) (run-to-end way (walked .stops) budget k) outcome)
+  -- a run with budget enough ends there
+  ends : (budget : ℕ) → 2 + cost (shares g) ≤ budget → run budget w0 ≡ report
+  ends budget k = run-to-end way (walked .stops) budget k
 
-  -- and the records made are those of the k, in order
-  pub chain-records : (budget : ℕ) → 2 + cost (shares g) ≤ budget → run budget (worldFor g) .world .records ≡ recordsOf (shares g)
-  chain-records budget k =
-      ap (λ (w : World). run budget w .world .records) starts
-      ∙ ap (λ (r : Report). r .world .records) (run-to-end way (walked .stops) budget k) ∙ walked .records
+-- With budget enough: for every budget at least that number.
+pub chain-theorem : ChainTheorem
+chain-theorem g h budget k =
+    subst⁻¹ (λ (w : World). Outcome g (ranAs (g .used) w (run budget w)) (run budget w .world .memory)) (starts g h)
+    (subst⁻¹ (λ (r : Report). Outcome g (ranAs (g .used) (w0 g h) r) (r .world .memory)) (ends g h budget k) (outcome g h))
+
+-- and the records made are those of the k, in order
+pub chain-records : ChainRecords
+chain-records g h budget k =
+    ap (λ (w : World). run budget w .world .records) (starts g h)
+    ∙ ap (λ (r : Report). r .world .records) (ends g h budget k) ∙ walked g h .records
+
+-- After every step those of the k marked done are the first few of the chain, each with the count of bytes the stream gave it.
+pub chain-at-every-step : ChainAtEveryStep
+chain-at-every-step g h =
+    record {
+      first-few = λ b. subst⁻¹ (λ (w : World). FirstFew (g .window) (g .memory) (shares g) (run b w .world .memory)) (starts g h)
+          (run-on-way (way g h) (walked g h .stops) b);
+      spent = λ b k. subst⁻¹ (λ (w : World). (run b w .steps ≡ b) × (run b w .reason ≡ Budget)) (starts g h) (run-short (way g h) b k);
+    }

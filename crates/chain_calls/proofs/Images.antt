@@ -39,8 +39,9 @@ use Rattle.met.proofs.RoundTrip.{loaded-typed, loads-exactly}
 use Rattle.sgdma.specs.Calls.{imageOf, isSize, ifDone, Created, writtenIn, writtenOver, RegisterWritten, runCall, ranOver}
 use Rattle.sgdma.proofs.Opened.{second-wrong}
 use Rattle.chain_calls.specs.InC.{RunLent, RunLeft, Promised}
-use Rattle.chain_calls.specs.Images.{InUse, LoadsBack}
+use Rattle.chain_calls.specs.Images.{LoadsBack}
 use Rattle.chain_calls.specs.Images as images
+use Rattle.chain_calls.specs.Theorems.{ImagesLoad}
 use Rattle.chain_calls.proofs.OfCalls.{loads-as, written-over, runAs, runs-as, has-run}
 
 -- ---- the image of a machine met in use
@@ -113,8 +114,8 @@ module _ {x : RunLent} {y : RunLeft} (b : LoadsBack (x .image)) (window : AllByt
   by-report false e = refused-back (second-wrong _ _ 18 (x .image) (x .report) size (eqb-false _ _ e))
 
 -- Every image in use loads back.
-pub images-load : {xs : List ℕ} → InUse xs → LoadsBack xs
-images-load (images.created c) = created-back c
-images-load (images.loaded g e) = loaded-back g e
-images-load (images.written h v w) = write-back (images-load h) v w _ refl
-images-load (images.ran h g b p) = by-report (images-load h) g b p _ refl
+pub images-load : ImagesLoad
+images-load _ (images.created c) = created-back c
+images-load _ (images.loaded g e) = loaded-back g e
+images-load _ (images.written h v w) = write-back (images-load _ h) v w _ refl
+images-load _ (images.ran h g b p) = by-report (images-load _ h) g b p _ refl

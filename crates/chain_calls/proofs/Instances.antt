@@ -25,9 +25,10 @@ use Rattle.chain.specs.Chain.{Given, machineFor, worldFor, Premises}
 use Rattle.chain.specs.Known.{known, three}
 use Rattle.chain.proofs.Instances.{known-run-1}
 use Rattle.sgdma.specs.Calls.{imageOf}
-use Rattle.chain_calls.specs.InC.{RunLeft, WellLent, Called, NoneRefused}
+use Rattle.chain_calls.specs.InC.{WellLent}
 use Rattle.chain_calls.specs.Known.{lends, lentTo, knownLeft}
 use Rattle.chain_calls.specs.Useless.{InBytes}
+use Rattle.chain_calls.specs.Theorems.{KnownRun1InC}
 use Rattle.chain_calls.proofs.OfCalls.{are-all-bytes, run-is, run-memory, run-image, none-refused, chain-of-calls}
 
 -- zeros and the bytes of beats are bytes, and whole beats
@@ -91,13 +92,12 @@ unfolding image bytesFor inWindow putAt descriptorAt controlWritten restStep fet
 known-ends = (refl, refl)
 
 -- Known run 1 through the C calls: each gives back 0, and these bytes are left.
-pub known-run-1-in-c : {created pointed started : ℕ} {left : RunLeft} → Called (lends known) created pointed started left
-    → NoneRefused created pointed started left × (left ≡ knownLeft)
+pub known-run-1-in-c : KnownRun1InC
 unfolding descriptorAt bytesFor capacity
-known-run-1-in-c c =
+known-run-1-in-c created pointed started left c =
     let p = run-is known-lent c in
-    let f = chain-of-calls 1 c known-lent (known-run-1 .meets) (omega arith) in
-    let n = none-refused 1 c known-lent (known-run-1 .meets) in
+    let f = chain-of-calls (lends known) created pointed started left 1 c known-lent (known-run-1 .meets) (omega arith) in
+    let n = none-refused (lends known) created pointed started left 1 c known-lent (known-run-1 .meets) in
     let image = run-image 1 known-lent (known-run-1 .meets) p ∙ known-ends .0 in
     let memory = run-memory 1 known-lent (known-run-1 .meets) p ∙ known-ends .1 in
     (n, λ i. record { number = n .run i; image = image i; memory = memory i; out = f .output i; ledger = f .ledger i; report = f .report i })

@@ -4,3 +4,6 @@ pub mod NoneUseless
 pub mod Refused
 pub mod Images
 pub mod Unchanged
+pub mod Behind
+pub mod Done
+pub mod TwoRuns

@@ -22,14 +22,15 @@ use Rattle.chain.specs.Known.{known, three}
 use Rattle.chain.proofs.Instances.{known-run-1, chain-of-three, landed-nth}
 use Rattle.sgdma.specs.Calls.{runCall, reportOver}
 use Rattle.chain_calls.specs.InC.{Found}
-use Rattle.chain_calls.specs.Useless.{Model, Keeps, honest, RefusesEverything, OneFixedAnswer, NeverMoves, OnlyMarksTheOthers, stepsTold, MakesUpSteps}
+use Rattle.chain_calls.specs.Useless.{Model, Keeps, stepsTold}
 use Rattle.chain_calls.specs.Known.{lends, lentTo}
+use Rattle.chain_calls.specs.Theorems.{HonestKeeps, RefuserFails, FixedFails, NeverMovingFails, MarkerFails, MadeUpFails}
 use Rattle.chain_calls.proofs.OfCalls.{runs-as, run-not-refused, run-finds}
 use Rattle.chain_calls.proofs.Instances.{in-bytes, known-lent, three-lent}
 
 -- ---- the promise can be kept
 
-pub honest-keeps : Keeps honest
+pub honest-keeps : HonestKeeps
 honest-keeps x b = record { number = refl; image-after = refl; window-after = refl; out-after = refl; ledger-after = refl; report-after = refl }
 
 -- ---- what a model that keeps it makes of known run 1, and of the chain of three
@@ -43,23 +44,31 @@ module _ (f : Model) (k : Keeps f) where
   unfolding descriptorAt bytesFor capacity
   three-found = run-finds 3 three-lent (chain-of-three .meets) (k (lentTo three) (in-bytes three (chain-of-three .meets) (omega arith))) (omega arith)
 
+  -- and neither is refused
+  known-done : f (lentTo known) .number ≡ 0
+  unfolding capacity
+  known-done = run-not-refused 1 known-lent (known-run-1 .meets) (k (lentTo known) (in-bytes known (known-run-1 .meets) (omega arith)))
+
+  three-done : f (lentTo three) .number ≡ 0
+  unfolding descriptorAt bytesFor capacity
+  three-done = run-not-refused 3 three-lent (chain-of-three .meets) (k (lentTo three) (in-bytes three (chain-of-three .meets) (omega arith)))
+
 -- ---- the models
 
 -- known run 1 gives back 0
-pub refuser-fails : (f : Model) → RefusesEverything f → Keeps f → ⊥
-unfolding capacity
-refuser-fails f r k = r (lentTo known) (run-not-refused 1 known-lent (known-run-1 .meets) (k (lentTo known) (in-bytes known (known-run-1 .meets) (omega arith))))
+pub refuser-fails : RefuserFails
+refuser-fails f r k = r (lentTo known) (known-done f k)
 
 -- known run 1 takes 8 steps, and the chain of three 16
-pub fixed-fails : (f : Model) → OneFixedAnswer f → Keeps f → ⊥
+pub fixed-fails : FixedFails
 unfolding descriptorAt bytesFor capacity
 fixed-fails f e k =
-    let same = e (lentTo known) (lentTo three) in
+    let same = e (lentTo known) (lentTo three) (known-done f k) (three-done f k) in
     let z : _≡_ {A = ℕ} 8 16 = ap (λ (r : List ℕ). getD r 5 0) (sym (known-found f k .report) ∙ same ∙ three-found f k .report) in
     omega arith
 
 -- in known run 1 the byte 0x11 lands at place 128, where 0 was
-pub never-moving-fails : (f : Model) → NeverMoves f → Keeps f → ⊥
+pub never-moving-fails : NeverMovingFails
 unfolding descriptorAt bytesFor capacity
 never-moving-fails f n k =
     let landed : getD (f (lentTo known) .memory) 128 0 ≡ 0x11 = landed-nth (known-found f k .outcome) 0 (omega arith) refl in
@@ -67,7 +76,7 @@ never-moving-fails f n k =
     omega arith
 
 -- in the chain of three the second descriptor's byte 0x55 lands at place 131, where 0 was
-pub marker-fails : (f : Model) → OnlyMarksTheOthers f → Keeps f → ⊥
+pub marker-fails : MarkerFails
 unfolding descriptorAt bytesFor capacity
 marker-fails f o k =
     let landed : getD (f (lentTo three) .memory) 131 0 ≡ 0x55 = landed-nth (three-found f k .outcome) 4 (omega arith) refl in
@@ -78,7 +87,7 @@ marker-fails f o k =
     omega arith
 
 -- the report's steps are the applications of the step rule, which are not more than the budget
-pub made-up-fails : (f : Model) → MakesUpSteps f → Keeps f → ⊥
+pub made-up-fails : MadeUpFails
 made-up-fails f u k =
     let x = u .lent in
     let w = worldOf (u .machine) (x .memory) (x .beats) (x .out) (x .ledger) (x .used) in

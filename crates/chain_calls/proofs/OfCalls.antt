@@ -32,10 +32,11 @@ use Rattle.chain.specs.Chain.{All, Given, machineFor, worldFor, shares, cost, g
 use Rattle.chain.specs.Calls.{Finished}
 use Rattle.chain.specs.Calls as methods
 use Rattle.chain.proofs.Theorem.{chain-at-every-step}
-use Rattle.chain.proofs.OfRun.{pointer-done, control-done, served, ends-as, chain-of-run, chain-of-run-at-every-step}
+use Rattle.chain.proofs.OfRun.{pointer-done, control-done, served, ends-as, finishes, few-done}
 use Rattle.sgdma.specs.Calls.{imageOf, createNumber, ifDone, writtenIn, writtenOver, RegisterWritten, runIn, runCall, windowIn, outIn, ledgerIn, ranOver, reportOver}
 use Rattle.sgdma.proofs.Opened.{sizes-right}
-use Rattle.chain_calls.specs.InC.{RunLent, RunLeft, Promised, Lends, WellLent, givenIn, runLent, Called, NoneRefused, Found, FoundAtEveryStep}
+use Rattle.chain_calls.specs.InC.{RunLent, RunLeft, Promised, Lends, WellLent, givenIn, runLent, Called, Found, FoundAtEveryStep}
+use Rattle.chain_calls.specs.Theorems.{NoneRefused, ChainOfCalls, ChainOfCallsAtEveryStep}
 
 -- what a window holds is bytes
 pub are-all-bytes : (xs : List ℕ) → All (λ x. x < 256) xs → AllBytes xs
@@ -183,7 +184,7 @@ module _ {l : Lends} {left : RunLeft} (k : ℕ) (w : WellLent l) (h : Premises (
 
   pub run-finds : 2 + cost (shares g) ≤ l .budget → Found g l left
   run-finds b =
-      let f : Finished g answer (left .memory) (l .out) (left .out) (l .ledger) (left .ledger) = chain-of-run k by-methods h b in
+      let f : Finished g answer (left .memory) (l .out) (left .out) (l .ledger) (left .ledger) = finishes k by-methods h b in
       let same : many.Done (f .told) ≡ many.Done ran = sym (f .answer) ∙ done in
       let o : Outcome g ran (left .memory) = subst (λ (r : Ran). Outcome g r (left .memory)) (cc) (f .outcome) in
       let reason : reasonNumber (ran .reason) ≡ 1 = ap reasonNumber (o .reason) in
@@ -202,7 +203,7 @@ module _ {l : Lends} {left : RunLeft} (k : ℕ) (w : WellLent l) (h : Premises (
 
   pub run-finds-at-every-step : FoundAtEveryStep g l left
   run-finds-at-every-step =
-      record { first-few = chain-of-run-at-every-step k by-methods h; image = run-image; loads = run-loads; spent = spent }
+      record { first-few = few-done k by-methods h; image = run-image; loads = run-loads; spent = spent }
     where
       spent : l .budget < 2 + cost (shares g) → take 6 (left .report) ≡ rowBytes MostFirst (2 ∷ 4 ∷ []) (6 ∷ l .budget ∷ [])
       spent b =
@@ -213,22 +214,20 @@ module _ {l : Lends} {left : RunLeft} (k : ℕ) (w : WellLent l) (h : Premises (
 
 -- ---- the calls
 
-module _ {l : Lends} {created pointed started : ℕ} {left : RunLeft} (k : ℕ)
-    (c : Called l created pointed started left) (w : WellLent l) (h : Premises (givenIn l k)) where
-  -- No call is refused.
-  pub none-refused : NoneRefused created pointed started left
-  none-refused =
-      record {
-        create = c .create .number ∙ creates w c;
-        point = x2-is w c .0;
-        start = x3-is w c .0;
-        run = run-not-refused k w h (run-is w c);
-      }
+-- No call is refused.
+pub none-refused : NoneRefused
+none-refused l created pointed started left k c w h =
+    record {
+      create = c .create .number ∙ creates w c;
+      point = x2-is w c .0;
+      start = x3-is w c .0;
+      run = run-not-refused k w h (run-is w c);
+    }
 
-  -- With budget enough the window, the report, the image and the output are left so.
-  pub chain-of-calls : 2 + cost (shares (givenIn l k)) ≤ l .budget → Found (givenIn l k) l left
-  chain-of-calls b = run-finds k w h (run-is w c) b
+-- With budget enough the window, the report, the image and the output are left so.
+pub chain-of-calls : ChainOfCalls
+chain-of-calls l created pointed started left k c w h b = run-finds k w h (run-is w c) b
 
-  -- With any budget those marked done are the first few.
-  pub chain-of-calls-at-every-step : FoundAtEveryStep (givenIn l k) l left
-  chain-of-calls-at-every-step = run-finds-at-every-step k w h (run-is w c)
+-- With any budget those marked done are the first few.
+pub chain-of-calls-at-every-step : ChainOfCallsAtEveryStep
+chain-of-calls-at-every-step l created pointed started left k c w h = run-finds-at-every-step k w h (run-is w c)

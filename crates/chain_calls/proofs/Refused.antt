@@ -11,7 +11,6 @@ use Rattle.bus.specs.declared.Refusal.{Refusal}
 use Rattle.bus.specs.declared.Refusal.the-variants.{OtherWindow, BadSize, BadImage, OddStream, BadLedger}
 use Rattle.bus.specs.Refusal.{refusalNumber}
 use Rattle.bus.specs.Window.{keepsLimits, inWindow}
-use Rattle.descriptor.specs.declared.Job.{Job}
 use Rattle.descriptor.specs.Calls.{slotOf, slotNumber, readNumber as descriptorNumber}
 use Rattle.descriptor.proofs.Slots.{by-tests, built-number, found-number}
 use Rattle.regs.specs.Offsets.{isRegister}
@@ -30,8 +29,9 @@ use Rattle.ledger.specs.Records.{isLedger}
 use Rattle.machine.specs.Run.{serves, refused, even, lentOf, runNumber, lentNumber}
 use Rattle.machine.proofs.Answers.{was-loaded, was-register, was-written, was-line, run-number}
 use Rattle.met.proofs.RoundTrip.{loaded-keeps}
-use Rattle.sgdma.specs.Calls.{isSize, Created, registerOf, readCall, RegisterRead, writtenIn, RegisterWritten, lineIn, lineCall, LineRead, runIn, runCall, RunMade, DescriptorBuilt, descriptorCall, DescriptorRead}
-use Rattle.chain_calls.specs.Refused.{first, FirstThatApplies, createTests, readTests, writeTests, lineTests, runTests, buildTests, descriptorTests}
+use Rattle.sgdma.specs.Calls.{isSize, registerOf, readCall, writtenIn, lineIn, lineCall, runIn, runCall, descriptorCall}
+use Rattle.chain_calls.specs.Refused.{first, buildTests}
+use Rattle.chain_calls.specs.Theorems.{CreateInOrder, ReadInOrder, WriteInOrder, LineInOrder, RunInOrder, BuildInOrder, DescriptorInOrder}
 
 -- ---- tests one after the other
 
@@ -93,33 +93,30 @@ module _ (xs : List ℕ) (offset : ℕ) where
       → wroteNumber (writeOf (machine xs) offset v) ≡ cond (not (isRegister offset)) 1 0
   written-known v s k = was-written refl .number ∙ rw (keeps-loaded xs s k) (unless (isRegister offset) 1 refl)
 
-pub create-in-order : {xs ys : List ℕ} {mode base length r : ℕ} → Created xs mode base length r ys
-    → FirstThatApplies (createTests xs mode base length) r
-create-in-order {xs} {mode = mode} {base} {length} p =
+pub create-in-order : CreateInOrder
+create-in-order xs mode base length r xs' p =
     record { number = p .number ∙ unless (sized xs) 7 (unless (leb mode 2) 2 (unless (keepsLimits base length) 3 refl)); in-order = refl }
 
-pub read-in-order : {xs value after : List ℕ} {offset r : ℕ} → RegisterRead xs offset value r after
-    → FirstThatApplies (readTests xs offset value) r
+pub read-in-order : ReadInOrder
 unfolding readCall
-read-in-order {xs} {value} {offset = offset} p =
+read-in-order xs offset value r value' p =
     record {
       number = p .number ∙ chosen readNumber (sized xs && isSize 4 value) _ _
           ∙ opened-with xs (λ l. readNumber (registerOf l offset)) (λ why. refl) (isSize 4 value) (read-known xs offset);
       in-order = refl;
     }
 
-pub write-in-order : {xs after : List ℕ} {offset v r : ℕ} → RegisterWritten xs offset v r after
-    → FirstThatApplies (writeTests xs offset) r
-write-in-order {xs} {offset = offset} {v} p =
+pub write-in-order : WriteInOrder
+write-in-order xs offset v r xs' p =
     record {
       number = p .number ∙ opened xs (λ l. wroteNumber (writtenIn l offset v)) (λ why. refl)
           ∙ if-so (sized xs) 7 (λ s. if-so (keepsRules (fields xs)) 8 (λ k. written-known xs offset v s k));
       in-order = refl;
     }
 
-pub line-in-order : {xs value after : List ℕ} {r : ℕ} → LineRead xs value r after → FirstThatApplies (lineTests xs value) r
+pub line-in-order : LineInOrder
 unfolding lineCall
-line-in-order {xs} {value} p =
+line-in-order xs value r value' p =
     record {
       number = p .number ∙ chosen lineNumber (sized xs && isSize 4 value) _ _
           ∙ opened-with xs (λ l. lineNumber (lineIn l)) (λ why. refl) (isSize 4 value)
@@ -137,10 +134,9 @@ lent-number true true false = refl
 lent-number true false right = refl
 lent-number false kept right = refl
 
-pub run-in-order : {xs window beats out ledger report x w o l p : List ℕ} {used budget r : ℕ}
-    → RunMade xs window beats out ledger used budget report r x w o l p → FirstThatApplies (runTests xs window beats out ledger used report) r
+pub run-in-order : RunInOrder
 unfolding runCall lentOf
-run-in-order {xs} {window} {beats} {out} {ledger} {report} {used = used} {budget = budget} p =
+run-in-order xs window beats out ledger used budget report r xs' window' out' ledger' report' p =
     record {
       number = p .number ∙ chosen runNumber (sized xs && isSize 18 report) _ _
           ∙ opened-with xs (λ l. runNumber (runIn l window beats out ledger used budget)) (λ why. refl) (isSize 18 report) known;
@@ -161,15 +157,13 @@ slot-number window base a =
     ∙ unless (keepsLimits base (length window)) 3
     (unless (eqb (a % 4) 0) 5 (unless (inWindow (record { base = base; length = length window }) a 32) 6 refl))
 
-pub build-in-order : {window after : List ℕ} {base a r : ℕ} {j : Job} → DescriptorBuilt window base a j r after
-    → FirstThatApplies (buildTests window base a) r
-build-in-order {window} {base = base} {a} p =
+pub build-in-order : BuildInOrder
+build-in-order window base a j r window' p =
     record { number = p .number ∙ built-number (slotOf (length window) base a) ∙ slot-number window base a; in-order = refl }
 
-pub descriptor-in-order : {window answer after : List ℕ} {base a r : ℕ} → DescriptorRead window base a answer r after
-    → FirstThatApplies (descriptorTests window base a answer) r
+pub descriptor-in-order : DescriptorInOrder
 unfolding descriptorCall
-descriptor-in-order {window} {answer} {base = base} {a} p =
+descriptor-in-order window base a answer r answer' p =
     record {
       number = p .number ∙ chosen descriptorNumber (isSize 18 answer) _ _
           ∙ unless (isSize 18 answer) 7 (found-number window (slotOf (length window) base a) ∙ slot-number window base a);

@@ -9,7 +9,6 @@ use mathlib.Core.List.{List}
 use lib.ListN.{length}
 use borrow.Author.Tests.{ne-eqb}
 use Rattle.bus.specs.declared.Refusal.the-variants.{BadSize}
-use Rattle.descriptor.specs.declared.Job.{Job}
 use Rattle.descriptor.specs.declared.ReadDescriptor.{ReadDescriptor}
 use Rattle.descriptor.specs.declared.ReadDescriptor.the-variants as descriptor
 use Rattle.descriptor.specs.Calls.{slotOf, readNumber as descriptorNumber}
@@ -29,8 +28,8 @@ use Rattle.machine.specs.Saved.{loadOf}
 use Rattle.machine.specs.Step.{World}
 use Rattle.machine.specs.Registers.{readNumber, wroteNumber, lineNumber}
 use Rattle.machine.specs.Run.{Lent, serves, refused, lentOf, worldOf, runAnswer, windowAfter, outAfter, ledgerAfter, runNumber}
-use Rattle.sgdma.specs.Calls.{createNumber, Created, readCall, valueOver, RegisterRead, writtenIn, writtenOver, RegisterWritten, lineCall, lineOver, LineRead, isSize, runIn, runCall, ranOver, reportOver, windowIn, outIn, ledgerIn, RunMade, DescriptorBuilt, descriptorCall, answerOver, DescriptorRead}
-use Rattle.chain_calls.specs.Refused.{WhereRefused}
+use Rattle.sgdma.specs.Calls.{createNumber, readCall, valueOver, writtenIn, writtenOver, lineCall, lineOver, isSize, runIn, runCall, ranOver, reportOver, windowIn, outIn, ledgerIn, descriptorCall, answerOver}
+use Rattle.chain_calls.specs.Theorems.{CreateUnchanged, ReadUnchanged, WriteUnchanged, LineUnchanged, RunUnchanged, BuildUnchanged, DescriptorUnchanged}
 
 -- the number given back is that of the answer, so the answer is a refusal too
 answer-refused : {r n : ℕ} → r ≡ n → r ≢ 0 → n ≢ 0
@@ -79,32 +78,31 @@ module _ (window beats out ledger : List ℕ) (used budget : ℕ) where
 
 -- ---- the calls
 
-pub create-unchanged : {xs ys : List ℕ} {mode base length r : ℕ} → Created xs mode base length r ys → WhereRefused r (ys ≡ xs)
-create-unchanged {xs} {mode = mode} {base} {length} c h =
+pub create-unchanged : CreateUnchanged
+create-unchanged xs mode base length r xs' c h =
     c .image-after ∙ rw (ne-eqb (createNumber xs mode base length) 0 (answer-refused (c .number) h))
 
-pub read-unchanged : {xs value after : List ℕ} {offset r : ℕ} → RegisterRead xs offset value r after → WhereRefused r (after ≡ value)
-read-unchanged {xs} {value} {offset = offset} c h = c .value-after ∙ read-stays (readCall xs offset value) value (answer-refused (c .number) h)
+pub read-unchanged : ReadUnchanged
+read-unchanged xs offset value r value' c h = c .value-after ∙ read-stays (readCall xs offset value) value (answer-refused (c .number) h)
 
-pub write-unchanged : {xs ys : List ℕ} {offset v r : ℕ} → RegisterWritten xs offset v r ys → WhereRefused r (ys ≡ xs)
-write-unchanged {xs} {offset = offset} {v} c h = c .image-after ∙ write-stays (writtenIn (loadOf xs) offset v) xs (answer-refused (c .number) h)
+pub write-unchanged : WriteUnchanged
+write-unchanged xs offset v r xs' c h = c .image-after ∙ write-stays (writtenIn (loadOf xs) offset v) xs (answer-refused (c .number) h)
 
-pub line-unchanged : {xs value after : List ℕ} {r : ℕ} → LineRead xs value r after → WhereRefused r (after ≡ value)
-line-unchanged {xs} {value} c h = c .value-after ∙ line-stays (lineCall xs value) value (answer-refused (c .number) h)
+pub line-unchanged : LineUnchanged
+line-unchanged xs value r value' c h = c .value-after ∙ line-stays (lineCall xs value) value (answer-refused (c .number) h)
 
-pub run-unchanged : {xs window beats out ledger report x w o l p : List ℕ} {used budget r : ℕ}
-    → RunMade xs window beats out ledger used budget report r x w o l p
-    → WhereRefused r ((x ≡ xs) × (w ≡ window) × (o ≡ out) × (l ≡ ledger) × (p ≡ report))
+pub run-unchanged : RunUnchanged
 unfolding runCall
-run-unchanged {xs} {window} {beats} {out} {ledger} {report} {used = used} {budget = budget} c h =
+run-unchanged xs window beats out ledger used budget report r xs' window' out' ledger' report' c h =
     let n = answer-refused (c .number) h in
     let a = run-stays (runCall xs window beats out ledger used budget report) xs report n in
     let s = slices-stay window beats out ledger used budget (sized xs && isSize 18 report) (loadOf xs) n in
     (c .image-after ∙ a .0, c .window-after ∙ s .0, c .out-after ∙ s .1, c .ledger-after ∙ s .2, c .report-after ∙ a .1)
 
-pub build-unchanged : {window after : List ℕ} {base a r : ℕ} {j : Job} → DescriptorBuilt window base a j r after → WhereRefused r (after ≡ window)
-build-unchanged {window} {base = base} {a} {j = j} c h = c .window-after ∙ build-stays (slotOf (length window) base a) window j (answer-refused (c .number) h)
+pub build-unchanged : BuildUnchanged
+build-unchanged window base a j r window' c h =
+    c .window-after ∙ build-stays (slotOf (length window) base a) window j (answer-refused (c .number) h)
 
-pub descriptor-unchanged : {window answer after : List ℕ} {base a r : ℕ}
-    → DescriptorRead window base a answer r after → WhereRefused r (after ≡ answer)
-descriptor-unchanged {window} {answer} {base = base} {a} c h = c .answer-after ∙ descriptor-stays (descriptorCall window base a answer) answer (answer-refused (c .number) h)
+pub descriptor-unchanged : DescriptorUnchanged
+descriptor-unchanged window base a answer r answer' c h =
+    c .answer-after ∙ descriptor-stays (descriptorCall window base a answer) answer (answer-refused (c .number) h)

@@ -104,7 +104,7 @@ pub record Called (l : Lends) (created pointed started : ℕ) (left : RunLeft) :
 -- ---- what is found after them
 
 -- every call gives back 0
-pub record NoneRefused (created pointed started : ℕ) (left : RunLeft) : Type 0 where
+pub record AllDone (created pointed started : ℕ) (left : RunLeft) : Type 0 where
   pub create : created ≡ 0
   pub point : pointed ≡ 0
   pub start : started ≡ 0

@@ -3,3 +3,5 @@ pub mod Known
 pub mod Useless
 pub mod Refused
 pub mod Images
+pub mod Theorems
+pub mod TwoRuns

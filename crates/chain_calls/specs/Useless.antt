@@ -59,9 +59,9 @@ RefusesEverything f = (x : RunLent) → f x .number ≢ 0
 
 -- ---- "the one with one fixed answer"
 
--- already in the report
+-- two calls that are not refused tell the same report, whatever they are lent
 abbrev pub OneFixedAnswer : Model → Type 0
-OneFixedAnswer f = (x y : RunLent) → f x .report ≡ f y .report
+OneFixedAnswer f = (x y : RunLent) → f x .number ≡ 0 → f y .number ≡ 0 → f x .report ≡ f y .report
 
 -- ---- "the one that never moves"
 

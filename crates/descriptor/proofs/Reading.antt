@@ -14,22 +14,14 @@ use Rattle.words.proofs.Slices.{row-from, number-in-part, byte-in-part}
 use Rattle.descriptor.specs.declared.ReadDescriptor.{ReadDescriptor}
 use Rattle.descriptor.specs.Layout.{widths, named, descriptorOf, descriptorAt}
 use Rattle.descriptor.specs.Calls.{slotOf, found, readNumber, WasRead}
+use Rattle.descriptor.specs.Theorems.{ByOffset}
 use Rattle.descriptor.proofs.Slots.{found-number}
 
 pub was-read : {xs : List ℕ} {base a : ℕ} {r : ReadDescriptor} → r ≡ found xs (slotOf (length xs) base a) → WasRead xs base a r
 was-read {xs} {base} {a} e = record { answer = e; number = ap readNumber e ∙ found-number xs (slotOf (length xs) base a) }
 
 -- each named field by its offset
-pub by-offset : (ys : List ℕ) → descriptorOf ys
-    ≡ record {
-      source = numberOf LeastFirst (part ys 0 4);
-      destination = numberOf LeastFirst (part ys 8 4);
-      next = numberOf LeastFirst (part ys 16 4);
-      length = numberOf LeastFirst (part ys 24 2);
-      actual = numberOf LeastFirst (part ys 28 2);
-      status = numberOf LeastFirst (part ys 30 1);
-      control = record { 0 = numberOf LeastFirst (part ys 31 1) };
-    }
+pub by-offset : ByOffset
 by-offset ys = ap named (row-from LeastFirst 0 widths ys)
 
 module _ (xs : List ℕ) (at : ℕ) where

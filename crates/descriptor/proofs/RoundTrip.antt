@@ -3,7 +3,6 @@
 use Prim.Native.Nat.{ℕ, _+_, _-_, _≤_}
 use mathlib.Core.Path.{_≡_, refl, sym, ap, subst, _∙_}
 use mathlib.Core.List.{List, [], _∷_}
-use mathlib.Core.Logic.{_↔_}
 use native.Mathlib.Omega.{arith}
 use lib.ListN.{length, drop, length-drop}
 use lib.Seq.{length-take-le}
@@ -18,12 +17,12 @@ use Rattle.descriptor.specs.declared.Slot.{Slot}
 use Rattle.descriptor.specs.declared.Slot.the-variants.{At, Refused}
 use Rattle.descriptor.specs.declared.Job.{Job}
 use Rattle.descriptor.specs.declared.Descriptor.{Descriptor}
-use Rattle.descriptor.specs.declared.ReadDescriptor.{ReadDescriptor}
 use Rattle.descriptor.specs.declared.ReadDescriptor.the-variants.{Good}
 use Rattle.descriptor.specs.declared.BuiltDescriptor.the-variants.{Done}
 use Rattle.descriptor.specs.Layout.{widths, named, bytesFor, descriptorOf, descriptorAt}
-use Rattle.descriptor.specs.Calls.{slotOf, found, built, withJob, WasRead, WasBuilt}
+use Rattle.descriptor.specs.Calls.{slotOf, found, built, withJob}
 use Rattle.descriptor.specs.RoundTrip.{Typed, asBuilt, jobOf, OthersZero}
+use Rattle.descriptor.specs.Theorems.{ReadAfterBuild, BuildAfterRead}
 use Rattle.descriptor.proofs.Slots.{slot-is}
 use Rattle.descriptor.proofs.Reading.{there}
 use Rattle.descriptor.proofs.Writing.{length-job}
@@ -42,9 +41,8 @@ done-at (At p) e = (p, refl)
 done-at (Refused why) e = absurd (let z : _≡_ {A = ℕ} 0 1 = cc in omega arith)
 
 -- Read after build gives the same fields.
-pub read-after-build : {xs ys : List ℕ} {base a : ℕ} {j : Job} {r : ReadDescriptor}
-    → Typed j → WasBuilt xs base a j Done ys → WasRead ys base a r → r ≡ Good (asBuilt j)
-read-after-build {xs} {ys} {base} {a} {j} {r} t b w =
+pub read-after-build : ReadAfterBuild
+read-after-build xs ys base a j r t b w =
     let at = done-at (slotOf (length xs) base a) (b .answer) in
     let p = at .0 in
     let fits : p .0 + 32 ≤ length xs = slot-is a p (length xs) base (at .1) .1 in
@@ -80,10 +78,8 @@ good-is : (xs : List ℕ) (d : Descriptor) (s : Slot) (p : Place) → s ≡ At p
 good-is xs d s p e f = let same : Good d ≡ Good (descriptorAt xs (p .0)) = f ∙ ap (found xs) e in cc
 
 -- Build after read gives the same bytes exactly when reserved, actual and status bytes were zero.
-pub build-after-read : {xs ys : List ℕ} {base a : ℕ} {d : Descriptor}
-    → AllBytes xs → WasRead xs base a (Good d) → WasBuilt xs base a (jobOf d) Done ys
-    → (ys ≡ xs) ↔ OthersZero (part xs (a - base) 32)
-build-after-read {xs} {ys} {base} {a} {d} g w b =
+pub build-after-read : BuildAfterRead
+build-after-read xs ys base a d g w b =
     let at = done-at (slotOf (length xs) base a) (b .answer) in
     let p = at .0 in
     let is = slot-is a p (length xs) base (at .1) in

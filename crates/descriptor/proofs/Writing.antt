@@ -16,6 +16,7 @@ use Rattle.descriptor.specs.declared.Slot.the-variants.{At, Refused}
 use Rattle.descriptor.specs.declared.BuiltDescriptor.the-variants as build
 use Rattle.descriptor.specs.Calls.{slotOf, withJob, WasBuilt}
 use Rattle.descriptor.specs.Layout.{bytesFor, lastFour}
+use Rattle.descriptor.specs.Theorems.{LengthJob}
 
 four : {a b c d x y z w : ℕ} → a ≡ x → b ≡ y → c ≡ z → d ≡ w → a ∷ b ∷ c ∷ d ∷ [] ≡ x ∷ y ∷ z ∷ w ∷ []
 four e f g h = cc
@@ -36,7 +37,7 @@ eight-words j h i =
     four (omega arith) (omega arith) (omega arith) (omega arith) in
     ap (λ (ys : List ℕ). bytesOf LeastFirst 4 (j .source) ++ bytesOf LeastFirst 4 0 ++ bytesOf LeastFirst 4 (j .destination) ++ bytesOf LeastFirst 4 0 ++ bytesOf LeastFirst 4 (j .next) ++ bytesOf LeastFirst 4 0 ++ ys) (ap (λ (ys : List ℕ). ys ++ bytesOf LeastFirst 4 (j .control .0 * 0x100_0000)) size ∙ ap (λ (ys : List ℕ). lastFour (j .length) 0 0 ++ ys) control)
 
-pub length-job : (j : Job) → length (bytesFor j) ≡ 32
+pub length-job : LengthJob
 unfolding bytesFor
 length-job j = refl
 

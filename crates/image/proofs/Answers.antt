@@ -4,7 +4,6 @@ use Prim.Native.Nat.{ℕ}
 use mathlib.Core.Path.{_≡_, refl, sym, ap, subst, _∙_}
 use mathlib.Core.Bool.{Bool, true, false, cond}
 use mathlib.Core.List.{List}
-use mathlib.Core.Logic.{_↔_}
 use native.Mathlib.Omega.{arith}
 use lib.ListN.{length}
 use borrow.Author.Tests.{eq-eqb, ne-eqb, eqb-true, lt-ltb}
@@ -19,6 +18,7 @@ use Rattle.image.specs.declared.WroteImage.the-variants as wrote
 use Rattle.image.specs.Layout.{values, widths, image, fields, Typed}
 use Rattle.image.specs.Rules.{lowestBroken, keepsRules}
 use Rattle.image.specs.Promise.{sized, readOf, wroteOf, imageOver, fits, imagePut, readNumber, wroteNumber, imageNumber, WasRead, Wrote}
+use Rattle.image.specs.Theorems.{ReadExactly}
 use Rattle.image.proofs.Facts.{edition-is, mode-le, phase-le, fault-le, rest-is}
 use Rattle.image.proofs.RoundTrip.{length-image, fields-image, image-fields, fields-fit}
 use Rattle.image.proofs.Fitting.{keeps-fit, fit-typed}
@@ -92,8 +92,7 @@ read-image f t e =
     read-good (image f) (length-image f) (ap keepsRules back ∙ keeps f e) ∙ ap read.Good back
 
 -- bytes are read as f exactly when they are 44, f keeps the rules and they are its image
-pub read-exactly : (xs : List ℕ) (f : Fields) → AllBytes xs → Typed f
-    → (readOf xs ≡ read.Good f) ↔ ((length xs ≡ 44) × (lowestBroken f ≡ 0) × (image f ≡ xs))
+pub read-exactly : ReadExactly
 read-exactly xs f g t = (there, back)
   where
     there : readOf xs ≡ read.Good f → (length xs ≡ 44) × (lowestBroken f ≡ 0) × (image f ≡ xs)

@@ -3,3 +3,4 @@ pub mod Rules
 pub mod Promise
 pub mod InWords
 pub mod InGroups
+pub mod Theorems

@@ -224,7 +224,11 @@ found r =
 abbrev pub wanted : Row → Outcome
 wanted r = record { number = 8; lowest = getD (r .places) 0 0; all = r .places; again = Good (r .twin) }
 
-pub rows-hold : map found rows ≡ map wanted rows
+-- Each image rule, broken alone, is refused with 8 at its field, and the repaired twin is read.
+abbrev pub RowsHold : Type 0
+RowsHold = map found rows ≡ map wanted rows
+
+pub rows-hold : RowsHold
 unfolding image fields rules lowestBroken keepsRules readOf keepsLimits inWindow
 rows-hold = refl
 
@@ -255,10 +259,18 @@ sampleBytes =
     0x00 ∷ 0x00 ∷ 0x00 ∷ 0x00 ∷
     []
 
-pub sample-written : image sample ≡ sampleBytes
+-- The fields' image is these bytes.
+abbrev pub SampleWritten : Type 0
+SampleWritten = image sample ≡ sampleBytes
+
+-- The bytes are read as these fields.
+abbrev pub SampleRead : Type 0
+SampleRead = readOf sampleBytes ≡ Good sample
+
+pub sample-written : SampleWritten
 unfolding image
 sample-written = refl
 
-pub sample-read : readOf sampleBytes ≡ Good sample
+pub sample-read : SampleRead
 unfolding fields rules lowestBroken keepsRules readOf keepsLimits inWindow
 sample-read = refl

@@ -1,7 +1,6 @@
 -- The tables hold, by computation over the definitions.
 -- Assumes nothing.
-use mathlib.Core.Path.{_≡_, refl}
-use mathlib.Core.List.{[]}
+use mathlib.Core.Path.{refl}
 use Rattle.words.specs.Slices.{putAt}
 use Rattle.bus.specs.Window.{keepsLimits, inWindow}
 use Rattle.descriptor.specs.Layout.{descriptorAt}
@@ -10,16 +9,14 @@ use Rattle.image.specs.Rules.{rules, lowestBroken, keepsRules}
 use Rattle.machine.specs.Registers.{controlWritten, writeOf}
 use Rattle.machine.specs.Step.{restStep, fetched, fetchStep, sourceOf, destinationOf, onward, copyStep, beatFor, sendStep, writtenControl, writtenBack, completed, writeBackStep, step}
 use Rattle.machine.specs.Run.{run}
-use Rattle.known_runs.specs.Scene.{wrong}
-use Rattle.known_runs.specs.Known.{known}
-use Rattle.known_runs.specs.Worked.{worked}
+use Rattle.known_runs.specs.Theorems.{KnownRunsHold, WorkedCasesHold}
 
 -- the paper's eleven known runs
-pub known-runs-hold : wrong 1 known ≡ []
+pub known-runs-hold : KnownRunsHold
 unfolding rules lowestBroken keepsRules keepsLimits inWindow putAt descriptorAt controlWritten writeOf restStep fetched fetchStep sourceOf destinationOf onward copyStep beatFor sendStep writtenControl writtenBack counted completed writeBackStep step run
 known-runs-hold = refl
 
 -- the cases worked out by hand
-pub worked-cases-hold : wrong 1 worked ≡ []
+pub worked-cases-hold : WorkedCasesHold
 unfolding rules lowestBroken keepsRules keepsLimits inWindow putAt descriptorAt controlWritten writeOf restStep fetched fetchStep sourceOf destinationOf onward copyStep beatFor sendStep writtenControl writtenBack counted completed writeBackStep step run
 worked-cases-hold = refl

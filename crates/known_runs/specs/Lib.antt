@@ -1,3 +1,4 @@
 pub mod Scene
 pub mod Known
 pub mod Worked
+pub mod Theorems

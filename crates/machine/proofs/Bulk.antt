@@ -173,7 +173,7 @@ module _ {place : Window} {k : Work} {most : ℕ} where
           ≡ taken (midway w (onward m (movedBy k n (k .errors))) (copied memory (reads k) (from .at) (writes k) (to .at) n) beats took out made)
       by zero l f t w = no-steps g (midway w m memory beats took out made)
       by (suc n) l f t w =
-          copy-steps g (from .at) (to .at) (suc n) (r .row (suc n) (omega arith) f) (s .row (suc n) (omega arith) t) l
+          copy-steps place k most m g (from .at) (to .at) (suc n) (r .row (suc n) (omega arith) f) (s .row (suc n) (omega arith) t) l
           (midway w m memory beats took out made) memory
 
   -- mode 1
@@ -202,7 +202,7 @@ module _ {place : Window} {k : Work} {most : ℕ} where
           no-steps g (midway w m memory beats took out made)
           ∙ (λ x. taken (worldAt w (onward m (movedBy k 0 (k .errors))) memory beats took (none x) (all x)))
       by (suc n) l f w h u =
-          send-steps g (from .at) (suc n) (r .row (suc n) (omega arith) f) l u (midway w m memory beats took out made) h
+          send-steps place k most m g (from .at) (suc n) (r .row (suc n) (omega arith) f) l u (midway w m memory beats took out made) h
 
   -- mode 2
   pub receive-bursts : {to : Reach} (some : ℕ) (memory memory' beats : List ℕ) (took : ℕ) (r : Absorbed) → Reaches (writes k) place (destinationOf k) to
@@ -233,7 +233,7 @@ module _ {place : Window} {k : Work} {most : ℕ} where
           (spread memory (writes k) (to .at) (drop took (beatsIn beats)) n) (drop n (drop took (beatsIn beats))))
       by m g zero l f i q w = no-steps g (received w m memory (drop took (beatsIn beats)))
       by m g (suc n) l f i q w =
-          receive-steps g (to .at) (suc n) (s .row (suc n) (omega arith) f) l w memory (drop took (beatsIn beats)) i q
+          receive-steps place k most m g (to .at) (suc n) (s .row (suc n) (omega arith) f) l w memory (drop took (beatsIn beats)) i q
 
 -- ---- what the run does with a burst
 

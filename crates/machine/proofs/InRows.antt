@@ -27,11 +27,12 @@ use Rattle.machine.specs.declared.Phase.the-variants.{Move}
 use Rattle.machine.specs.State.{withPhase}
 use Rattle.machine.specs.Step.{World, taken, became, stored, received, sent, step, whole, byteAddress, sourceOf, destinationOf, withByte, onward, copyStep, sendStep, receiveFrom, moveStep, beatFor}
 use Rattle.machine.specs.Turns.{stepsOn, steps, movedBy, Moving, Row, Unmarked}
+use Rattle.machine.specs.Theorems.{RowSteps, CopySteps, SendSteps, ReceiveSteps}
 use Rattle.machine.proofs.Places.{further}
 
 -- ---- a row of worlds
 
-pub row-steps : (row : ℕ → World) (n : ℕ) → ((i : ℕ) → i < n → step (row i) ≡ taken (row (suc i))) → steps n (row 0) ≡ taken (row n)
+pub row-steps : RowSteps
 unfolding steps
 row-steps row zero h = refl
 row-steps row (suc n) h =
@@ -143,10 +144,12 @@ module _ {window : Window} {k : Work} {most : ℕ} {m : Machine} (g : Moving Mem
         here,
       )
 
-  pub copy-steps : steps n (stored w m memory)
-      ≡ taken (stored w (onward m (movedBy k n (k .errors))) (copied memory (readFixed (k .control .0)) from (writeFixed (k .control .0)) to n))
+  copies : steps n (stored w m memory) ≡ taken (copy-row n)
   unfolding copied
-  copy-steps = ap (λ (x : Machine). steps n (stored w x memory)) (sym (at-first g)) ∙ row-steps copy-row n copy-next
+  copies = ap (λ (x : Machine). steps n (stored w x memory)) (sym (at-first g)) ∙ row-steps copy-row n copy-next
+
+pub copy-steps : CopySteps
+copy-steps window k most m g from to n r s l w memory = copies g from to n r s l w memory
 
 -- ---- mode 1
 
@@ -181,14 +184,16 @@ module _ {window : Window} {k : Work} {most : ℕ} {m : Machine} (g : Moving Mem
       ∙ send-one here-is j (w .room - suc i) (in-row r m (g .window-is) i h (sourceOf j) a) (omega arith)
       ∙ λ x. taken (sent w (here x) (made x) (w .room - suc i))
 
-  pub send-steps : steps n (became w m)
-      ≡ taken (sent w (onward m (movedBy k n (k .errors))) (w .output ++ plain (w .memory) (readFixed (k .control .0)) from n) (w .room - n))
+  sends : steps n (became w m) ≡ taken (send-row n)
   unfolding plain
-  send-steps =
+  sends =
       let first = sym (at-first g) in
       let none = sym (append-nil (w .output)) in
       let all = sym (sub-zero (w .room)) in
       (λ x. steps n (sent w (first x) (none x) (all x))) ∙ row-steps send-row n send-next
+
+pub send-steps : SendSteps
+send-steps window k most m g from n r l unmarked w some = sends g from n r l unmarked w some
 
 -- ---- mode 2
 
@@ -228,7 +233,9 @@ module _ {window : Window} {k : Work} {most : ℕ} {m : Machine} (g : Moving Str
       ∙ receive-one here-is j b (drop (suc i) beats) (drop-cons beats i 0 (omega arith)) (in-row r m (g .window-is) i h (destinationOf j) a)
       ∙ λ x. taken (received w (here x) (bytes x) (drop (suc i) beats))
 
-  pub receive-steps : steps n (received w m memory beats)
-      ≡ taken (received w (onward m (movedBy k n (gathered (k .errors) (take n beats)))) (spread memory (writeFixed (k .control .0)) to beats n) (drop n beats))
+  receives : steps n (received w m memory beats) ≡ taken (receive-row n)
   unfolding spread
-  receive-steps = ap (λ (x : Machine). steps n (received w x memory beats)) (sym (at-first g)) ∙ row-steps receive-row n receive-next
+  receives = ap (λ (x : Machine). steps n (received w x memory beats)) (sym (at-first g)) ∙ row-steps receive-row n receive-next
+
+pub receive-steps : ReceiveSteps
+receive-steps window k most m g to n r l w memory beats some calm = receives g to n r l w memory beats some calm

@@ -26,8 +26,9 @@ use Rattle.machine.specs.declared.RunAnswer.{RunAnswer}
 use Rattle.machine.specs.declared.steps.Wait.the-variants.{Go, Stop}
 use Rattle.machine.specs.Saved.{keeps}
 use Rattle.machine.specs.Step.{World, Answer, taken, stopped, noted, step}
-use Rattle.machine.specs.Run.{Lent, serves, refused, even, lentIf, lentOf, worldOf, outputOver, ledgerOver, steppedAs, worldAfter, stepAnswer, windowAfter, outAfter, ledgerAfter, stepNumber, lentNumber, Stepped, Runs, HasRun, readyOf, Resumed}
+use Rattle.machine.specs.Run.{Lent, serves, refused, even, lentIf, lentOf, worldOf, outputOver, ledgerOver, steppedAs, worldAfter, stepAnswer, windowAfter, outAfter, ledgerAfter, stepNumber, lentNumber, Stepped, Runs, readyOf}
 use Rattle.machine.specs.Turns.{worldAt, midway, waitOf, Within, Logs, Turned, Ready}
+use Rattle.machine.specs.Theorems.{ResumedRuns}
 use Rattle.machine.proofs.Answers.{stepped-number}
 use Rattle.machine.proofs.Readiness.{keeps-ready, keeps-tested}
 
@@ -137,7 +138,6 @@ runs-as good good' e {m} {window} {beats} {out} {ledger} {window'} {out'} {ledge
     subst (λ (b : Bool). Runs (lentIf b m window beats out ledger used) m window beats out ledger used budget r window' out' ledger') e h
 
 -- one that keeps the rules is resumed as it is run
-pub resumed-runs : {m : Machine} {window beats out ledger window' out' ledger' : List ℕ} {used : ℕ} {budget : ℕ} {r : RunAnswer} → keeps m ≡ true
-    → Resumed m window beats out ledger used budget r window' out' ledger' → HasRun m window beats out ledger used budget r window' out' ledger'
+pub resumed-runs : ResumedRuns
 unfolding lentOf
-resumed-runs {m} k h = runs-as (readyOf m) (keeps m) (keeps-tested m k ∙ sym k) h
+resumed-runs m window beats out ledger used budget r window' out' ledger' k h = runs-as (readyOf m) (keeps m) (keeps-tested m k ∙ sym k) h

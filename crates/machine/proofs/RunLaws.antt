@@ -11,6 +11,7 @@ use Rattle.machine.specs.declared.Reason.the-variants.{Budget}
 use Rattle.machine.specs.Step.{World, Answer, taken, stopped, step}
 use Rattle.machine.specs.Run.{Report, oneMore, run, takenSince}
 use Rattle.machine.specs.Laws.{Passed, onTop, Along, here, more, Found, stops, spent, Tells}
+use Rattle.machine.specs.Theorems.{RunAdd, RunTells, BudgetOnly}
 use Rattle.machine.proofs.StepLaws.{passed-none, passed-on, took-since, step-passed, never-budget}
 
 -- ---- a run by its first step
@@ -43,7 +44,7 @@ on-suc n r = ap (λ (k : ℕ). record { reason = r .reason; steps = k; world = r
 abbrev then : ℕ → Report → Report
 then b r = onTop (r .steps) (run b (r .world))
 
-pub run-add : (a b : ℕ) (w : World) → run (a + b) w ≡ onTop (run a w .steps) (run b (run a w .world))
+pub run-add : RunAdd
 run-add zero b w = by (step w) refl
   where
     by : (x : Answer) → step w ≡ x → run (0 + b) w ≡ then b (run 0 w)
@@ -64,7 +65,7 @@ later : {b : ℕ} {r : Report} → Found b r → Found (suc b) (oneMore r)
 later (stops e) = stops e
 later (spent v e f g) = spent v e f (ap suc g)
 
-pub run-tells : (b : ℕ) (w : World) → Tells b w (run b w)
+pub run-tells : RunTells
 run-tells zero w = by (step w) refl
   where
     by : (x : Answer) → step w ≡ x → Tells 0 w (run 0 w)
@@ -102,7 +103,7 @@ run-again b w h n = by (run-tells b w .found)
     by (spent v e f g) = absurd (h f)
 
 -- Budget is told only where another step was possible
-pub budget-only : (b : ℕ) (w : World) → run b w .reason ≡ Budget → (run b w .steps ≡ b) × ((v : World) × (step (run b w .world) ≡ taken v))
+pub budget-only : BudgetOnly
 budget-only b w h = by (run-tells b w .found)
   where
     by : Found b (run b w) → (run b w .steps ≡ b) × ((v : World) × (step (run b w .world) ≡ taken v))

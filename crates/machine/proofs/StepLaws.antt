@@ -27,6 +27,7 @@ use Rattle.machine.specs.Step.{World, Answer, taken, stopped, became, st
 use Rattle.machine.specs.Saved.{inHand}
 use Rattle.machine.specs.Run.{reasonNumber, takenSince}
 use Rattle.machine.specs.Laws.{Passed, sparesMove, sparesIn}
+use Rattle.machine.specs.Theorems.{StepPassed, StepSpares}
 use Rattle.machine.proofs.Puts.{length-put-at, put-off}
 
 -- ---- what n steps leave
@@ -254,13 +255,6 @@ module _ (w : World) where
         subst (λ (x : World). Passed 1 w x × ((q : ℕ) → sparesIn (w .machine .phase) w q → getD (x .memory) q 0 ≡ getD (w .memory) q 0)) u-is (p, h)
     taken-is (stays h) f = absurd (let z : _≡_ {A = ℕ} 0 1 = cc in omega arith)
 
-    pub step-passed : Passed 1 w v
-    step-passed = taken-is step-sound e .0
-
-    -- a step leaves every byte of memory but those that it names
-    pub step-spares : (q : ℕ) → sparesIn (w .machine .phase) w q → getD (v .memory) q 0 ≡ getD (w .memory) q 0
-    step-spares = taken-is step-sound e .1
-
   -- a step never stops for the budget
   pub never-budget : step w ≢ stopped reason.Budget
   never-budget e = by step-sound e
@@ -268,3 +262,12 @@ module _ (w : World) where
       by : {a : Answer} → Sound w (sparesIn (w .machine .phase) w) a → a ≢ stopped reason.Budget
       by (goes p h) f = let z : _≡_ {A = ℕ} 0 1 = cc in omega arith
       by (stays {r = r} h) f = h (let g : r ≡ reason.Budget = cc in g)
+
+-- ---- a step that is taken
+
+pub step-passed : StepPassed
+step-passed w v e = taken-is w v e (step-sound w) e .0
+
+-- a step leaves every byte of memory but those that it names
+pub step-spares : StepSpares
+step-spares w v e = taken-is w v e (step-sound w) e .1

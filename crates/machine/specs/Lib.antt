@@ -5,3 +5,4 @@ pub mod Step
 pub mod Run
 pub mod Laws
 pub mod Turns
+pub mod Theorems

@@ -15,18 +15,17 @@ use Rattle.machine.specs.declared.Reason.the-variants as reason
 use Rattle.machine.specs.declared.registers.WroteRegister.{WroteRegister}
 use Rattle.machine.specs.declared.registers.WroteRegister.the-variants.{Done, Refused}
 use Rattle.machine.specs.Saved.{keeps}
-use Rattle.machine.specs.Registers.{stored, released, controlWritten, writeOf, WasWritten}
-use Rattle.machine.specs.Step.{World, step, stepIn}
-use Rattle.machine.specs.Run.{run}
+use Rattle.machine.specs.Registers.{stored, released, controlWritten, writeOf}
+use Rattle.machine.specs.Step.{step, stepIn}
 use Rattle.machine.proofs.RunLaws.{run-stopped}
 use Rattle.met.specs.Faults.{AfterWrite, stays, reset}
+use Rattle.met.specs.Theorems.{FaultedStands, OnlyResetLeaves}
 use Rattle.met.proofs.Kept.{on}
 
 -- No step is taken: a run of any budget ends at once, with that reason.
-pub faulted-stands : (w : World) {f : Fault} → w .machine .phase ≡ Faulted f → (budget : ℕ)
-    → run budget w ≡ record { reason = reason.Faulted; steps = 0; world = w }
+pub faulted-stands : FaultedStands
 unfolding step
-faulted-stands w p budget = run-stopped w reason.Faulted (ap (λ (q : Phase). stepIn q w) p) budget
+faulted-stands w f p budget = run-stopped w reason.Faulted (ap (λ (q : Phase). stepIn q w) p) budget
 
 abbrev After : (m : Machine) (f : Fault) (v offset : ℕ) → WroteRegister → Type 0
 After m f v offset (Done n) = AfterWrite m f offset v n
@@ -53,6 +52,6 @@ module _ (m : Machine) (f : Fault) (p : m .phase ≡ Faulted f) (v : ℕ) where
       (λ r. tt))
       (λ k. tt)
 
-  -- Of the register writes only the reset leaves it.
-  pub only-reset-leaves : {n : Machine} {offset : ℕ} → WasWritten m offset v (Done n) → AfterWrite m f offset v n
-  only-reset-leaves {n} {offset} w = subst (After m f v offset) (sym (w .answer)) (after offset)
+-- Of the register writes only the reset leaves it.
+pub only-reset-leaves : OnlyResetLeaves
+only-reset-leaves m f p offset v n w = subst (After m f v offset) (sym (w .answer)) (after m f p v offset)

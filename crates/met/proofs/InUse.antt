@@ -2,7 +2,7 @@
 -- Assumes nothing.
 use Prim.Native.Nat.{ℕ}
 use mathlib.Core.Path.{_≡_, refl, sym, subst}
-use mathlib.Core.Bool.{true, _&&_}
+use mathlib.Core.Bool.{_&&_}
 use mathlib.Core.List.{List, [], _∷_}
 use native.Mathlib.Omega.{arith}
 use lib.ListN.{length}
@@ -18,16 +18,13 @@ use Rattle.machine.specs.declared.StepAnswer.{StepAnswer}
 use Rattle.machine.specs.declared.StepAnswer.the-variants as one
 use Rattle.machine.specs.declared.RunAnswer.{RunAnswer}
 use Rattle.machine.specs.declared.RunAnswer.the-variants as many
-use Rattle.machine.specs.declared.SavedMachine.{SavedMachine}
-use Rattle.machine.specs.declared.SavedMachine.the-variants.{Done}
-use Rattle.machine.specs.declared.LoadedMachine.{LoadedMachine}
-use Rattle.machine.specs.declared.LoadedMachine.the-variants.{Good}
-use Rattle.machine.specs.Saved.{keeps, WasLoaded, WasSaved}
+use Rattle.machine.specs.Saved.{keeps}
 use Rattle.machine.specs.Step.{World, Answer, taken, stopped, step}
 use Rattle.machine.specs.Run.{Lent, serves, refused, even, lentOf, worldOf, steppedAs, stepAnswer, runAnswer, Stepped, HasRun}
 use Rattle.met.specs.Sound.{Sound, AllBeats, SoundWorld}
 use Rattle.met.specs.Met.{Met}
 use Rattle.met.specs.Met as met
+use Rattle.met.specs.Theorems.{MetKeeps, MetSaves}
 use Rattle.met.proofs.RoundTrip.{loaded-keeps, loaded-typed, loads-back}
 use Rattle.met.proofs.Writes.{fresh-keeps, write-keeps}
 use Rattle.met.proofs.Kept.{on}
@@ -72,7 +69,7 @@ SoundRun (many.Refused why) = Unit {0}
 
 module _ (used : ℕ) (w : World) where
   answer-sound : SoundWorld w → (a : Answer) → step w ≡ a → SoundStep (steppedAs used w a)
-  answer-sound s (taken v) e = step-keeps s e .machine
+  answer-sound s (taken v) e = step-keeps w v s e .machine
   answer-sound s (stopped r) e = tt
 
   step-sound : (l : Lent) → IfServes (SoundWorld w) l → SoundStep (stepAnswer used l w)
@@ -80,7 +77,7 @@ module _ (used : ℕ) (w : World) where
   step-sound (refused why) s = tt
 
   run-sound : (l : Lent) → IfServes (SoundWorld w) l → (budget : ℕ) → SoundRun (runAnswer used l w budget)
-  run-sound serves s budget = run-keeps budget s .machine
+  run-sound serves s budget = run-keeps budget w s .machine
   run-sound (refused why) s budget = tt
 
 module _ {m : Machine} {window beats out ledger window' out' ledger' : List ℕ} {used : ℕ} (s : Sound m) (g : AllBytes window) (b : AllBytes beats) where
@@ -97,15 +94,14 @@ module _ {m : Machine} {window beats out ledger window' out' ledger' : List ℕ}
 pub met-sound : {m : Machine} → Met m → Sound m
 met-sound (met.fresh mode w l) = fresh-keeps mode w l
 met-sound (met.loaded l) = record { rules = loaded-keeps l; typed = loaded-typed l }
-met-sound (met.written h v w) = write-keeps (met-sound h) v w
+met-sound (met.written h v w) = write-keeps _ _ _ _ (met-sound h) v w
 met-sound (met.stepped h g b s) = stepped-keeps (met-sound h) g b s
 met-sound (met.ran h g b r) = ran-keeps (met-sound h) g b r
 
 -- Every machine met in use keeps the image rules.
-pub met-keeps : {m : Machine} → Met m → keeps m ≡ true
-met-keeps h = met-sound h .rules
+pub met-keeps : MetKeeps
+met-keeps m h = met-sound h .rules
 
 -- Hence it saves to an image that loads back as it.
-pub met-saves : {m : Machine} {ys zs : List ℕ} {r : SavedMachine} {s : LoadedMachine} → Met m → length ys ≡ 44
-    → WasSaved m ys r zs → WasLoaded zs s → (r ≡ Done) × (s ≡ Good m)
-met-saves h l p q = loads-back (met-sound h .typed) (met-keeps h) l p q
+pub met-saves : MetSaves
+met-saves m ys zs r s h l p q = loads-back m ys zs r s (met-sound h .typed) (met-keeps m h) l p q

@@ -17,6 +17,7 @@ use Rattle.machine.specs.declared.Phase.{Phase}
 use Rattle.machine.specs.declared.Phase.the-variants.{Rest, Fetch, Move, WriteBack, Ended, Halted, Faulted}
 use Rattle.machine.specs.Step.{World, Answer, wantsLength, restStep, fetched, fetchStep, sourceOf, destinationOf, copyStep, sendTo, sendStep, receiveFrom, moveStep, backTo, writeBackStep, stepIn, step}
 use Rattle.met.specs.Reading.{over, atPointer, Alike, both, neither}
+use Rattle.met.specs.Theorems.{ReadInFetchAlone}
 
 choice : (b : Bool) {x y u v : Answer} → Alike x u → Alike y v → Alike (cond b x y) (cond b u v)
 choice true p q = p
@@ -86,6 +87,6 @@ module _ (w : World) (memory : List ℕ) where
   step-alike Halted h = neither
   step-alike (Faulted f) h = neither
 
-  pub read-in-fetch-alone : (w .machine .phase ≡ Fetch → atPointer w ≡ atPointer (over memory w)) → Alike (step w) (step (over memory w))
-  unfolding step
-  read-in-fetch-alone h = step-alike (w .machine .phase) h
+pub read-in-fetch-alone : ReadInFetchAlone
+unfolding step
+read-in-fetch-alone w memory h = step-alike w memory (w .machine .phase) h

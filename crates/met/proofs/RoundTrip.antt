@@ -5,7 +5,6 @@ use Prim.Native.Nat.{ℕ}
 use mathlib.Core.Path.{_≡_, refl, sym, ap, _∙_}
 use mathlib.Core.Bool.{true, false}
 use mathlib.Core.List.{List}
-use mathlib.Core.Logic.{_↔_}
 use native.Mathlib.Omega.{arith}
 use lib.ListN.{length}
 use borrow.Author.Tests.{eqb-false}
@@ -19,12 +18,12 @@ use Rattle.image.specs.Promise.{readOf}
 use Rattle.image.proofs.Facts.{edition-is, mode-le, phase-le, armed-is, status-lt, rest-is, fault-none, faultat-none, no-address, no-source, no-destination, no-size, no-dcontrol, no-errors, no-moved, no-eop}
 use Rattle.image.proofs.Answers.{keeps, kept-none, good-keeps, good-image, good-typed, read-image, wrote-done}
 use Rattle.machine.specs.declared.Machine.{Machine}
-use Rattle.machine.specs.declared.LoadedMachine.{LoadedMachine}
 use Rattle.machine.specs.declared.LoadedMachine.the-variants.{Good}
 use Rattle.machine.specs.declared.SavedMachine.{SavedMachine}
 use Rattle.machine.specs.declared.SavedMachine.the-variants as saved
 use Rattle.machine.specs.Saved as core
 use Rattle.machine.proofs.Answers.{was-loaded}
+use Rattle.met.specs.Theorems.{SavedAgain, LoadsBack, LoadsExactly}
 use Rattle.met.proofs.Numbers.{mode-back, mode-there, status-back, status-there, phase-back, phase-there}
 
 -- ---- a machine as fields, and back
@@ -127,22 +126,19 @@ loads m t k =
     ap core.loadedAs (read-image (core.fieldsOf m) t (kept-none (core.fieldsOf m) k)) ∙ ap Good (machine-back m)
 
 -- A loaded image saved again gives the same bytes.
-pub saved-again : {xs ys zs : List ℕ} {m : Machine} {r : SavedMachine} → AllBytes xs → length ys ≡ 44
-    → core.WasLoaded xs (Good m) → core.WasSaved m ys r zs → (r ≡ saved.Done) × (zs ≡ xs)
-saved-again g l p s =
+pub saved-again : SavedAgain
+saved-again xs ys zs m r g l p s =
     let d = saves (loaded-keeps p) l s in
     (d .0, d .1 ∙ loaded-image p g)
 
 -- A machine that keeps the rules saves to an image that loads back as it.
-pub loads-back : {m : Machine} {ys zs : List ℕ} {r : SavedMachine} {s : LoadedMachine} → Typed (core.fieldsOf m) → core.keeps m ≡ true
-    → length ys ≡ 44 → core.WasSaved m ys r zs → core.WasLoaded zs s → (r ≡ saved.Done) × (s ≡ Good m)
-loads-back {m} t k l p q =
+pub loads-back : LoadsBack
+loads-back m ys zs r s t k l p q =
     let d = saves k l p in
     (d .0, q .answer ∙ ap core.loadOf (d .1) ∙ loads m t k)
 
 -- Bytes load as m exactly when m keeps the rules and they are its image.
-pub loads-exactly : (xs : List ℕ) (m : Machine) → AllBytes xs → Typed (core.fieldsOf m)
-    → core.WasLoaded xs (Good m) ↔ ((core.keeps m ≡ true) × (xs ≡ image (core.fieldsOf m)))
+pub loads-exactly : LoadsExactly
 loads-exactly xs m g t = (there, back)
   where
     there : core.WasLoaded xs (Good m) → (core.keeps m ≡ true) × (xs ≡ image (core.fieldsOf m))

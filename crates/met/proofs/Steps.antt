@@ -1,12 +1,12 @@
 -- A step and a run take a world whose machine keeps the rules to one of the same kind.
 -- Assumes nothing.
 use Prim.Native.Nat.{ℕ, zero, suc}
-use mathlib.Core.Path.{_≡_, refl, subst}
+use mathlib.Core.Path.{refl, subst}
 use Rattle.machine.specs.declared.Phase.{Phase}
 use Rattle.machine.specs.declared.Phase.the-variants.{Rest, Fetch, Move, WriteBack, Ended, Halted, Faulted}
 use Rattle.machine.specs.Step.{World, Answer, taken, stopped, stepIn, step}
 use Rattle.machine.specs.Run.{runOn, run}
-use Rattle.met.specs.Sound.{SoundWorld}
+use Rattle.met.specs.Theorems.{StepKeeps, RunKeeps}
 use Rattle.met.proofs.Kept.{Suits}
 use Rattle.met.proofs.Worlds.{KeptWorld, sound-world, kept-world, After, rest-after}
 use Rattle.met.proofs.AtFetch.{fetch-after}
@@ -33,10 +33,10 @@ run-on (suc n) (stopped r) h s = h
 run-on (suc n) (taken v) h s = run-on n (step v) s (step-after s)
 
 -- A step taken in a sound world leads to a sound world.
-pub step-keeps : {w v : World} → SoundWorld w → step w ≡ taken v → SoundWorld v
-step-keeps s e = sound-world (subst After e (step-after (kept-world s)))
+pub step-keeps : StepKeeps
+step-keeps w v s e = sound-world (subst After e (step-after (kept-world s)))
 
 -- So does a run, whatever its budget.
-pub run-keeps : (n : ℕ) {w : World} → SoundWorld w → SoundWorld (run n w .world)
+pub run-keeps : RunKeeps
 unfolding run
-run-keeps n {w} s = sound-world (run-on n (step w) (kept-world s) (step-after (kept-world s)))
+run-keeps n w s = sound-world (run-on n (step w) (kept-world s) (step-after (kept-world s)))

@@ -1,7 +1,7 @@
 -- Descriptor control: "Bits 3..6 have no effect and are kept as given."
 -- Assumes nothing.
 use Prim.Native.Nat.{ℕ, zero, suc, _/_, _%_}
-use mathlib.Core.Path.{_≡_, refl, sym, ap, subst}
+use mathlib.Core.Path.{_≡_, refl, sym, ap, subst, _∙_}
 use mathlib.Core.Bool.{Bool, true, false, cond, _&&_, _||_}
 use mathlib.Core.List.{List, [], _∷_}
 use native.Mathlib.Omega.{arith}
@@ -12,15 +12,17 @@ use Rattle.descriptor.specs.declared.Descriptor.{Descriptor}
 use Rattle.descriptor.specs.Layout.{owned}
 use Rattle.regs.specs.declared.Mode.{Mode}
 use Rattle.regs.specs.declared.Mode.the-variants.{MemoryToMemory, MemoryToStream, StreamToMemory}
-use Rattle.regs.specs.Control.{park}
+use Rattle.regs.specs.Control.{run, park}
 use Rattle.flow.specs.Beats.{beatError, beatEop}
 use Rattle.machine.specs.declared.Machine.{Machine}
 use Rattle.machine.specs.declared.Work.{Work}
 use Rattle.machine.specs.declared.Phase.{Phase}
 use Rattle.machine.specs.declared.Phase.the-variants.{Fetch, Move, WriteBack}
 use Rattle.machine.specs.State.{withPhase}
-use Rattle.machine.specs.Step.{World, Answer, wantsLength, fetched, sourceOf, destinationOf, whole, withByte, onward, copyStep, beatFor, sendTo, sendStep, receiveFrom, moveStep, writtenControl, writtenBack, completed, backTo, writeBackStep, stepIn, step}
+use Rattle.machine.specs.Step.{World, Answer, wantsLength, fetched, fetchStep, sourceOf, destinationOf, whole, withByte, onward, copyStep, beatFor, sendTo, sendStep, receiveFrom, moveStep, writtenControl, writtenBack, completed, backTo, writeBackStep, stepIn, step}
+use Rattle.met.specs.Reading.{over, atPointer}
 use Rattle.met.specs.Unused.{SameUse, descriptorUnder, workUnder, phaseUnder, worldUnder, answerUnder, answerOver}
+use Rattle.met.specs.Theorems.{NoEffectInFetch, NoEffectInMove, NoEffectInWriteBack, KeptAsGiven}
 
 -- ---- they have no effect
 
@@ -28,16 +30,6 @@ module _ (c : ℕ) where
   choice : (b : Bool) {x y : Answer} (u v : Answer) → x ≡ answerUnder c u → y ≡ answerUnder c v → cond b x y ≡ answerUnder c (cond b u v)
   choice true u v p q = p
   choice false u v p q = q
-
-  -- In Fetch the descriptor is kept, or not, as under the other control.
-  pub no-effect-in-fetch : (w : World) (d : Descriptor) → w .machine .phase ≡ Fetch → SameUse c (d .control .0)
-      → fetched w (descriptorUnder c d) ≡ answerUnder c (fetched w d)
-  unfolding fetched
-  no-effect-in-fetch w d e same =
-      rw (same .own)
-      (choice (owned (d .control .0)) _ _
-      (choice (wantsLength (w .machine .mode) && eqb (d .length) 0) _ _ refl refl)
-      refl)
 
   moved-on : (m : Machine) (p : Phase) (k : Work)
       → onward (withPhase p m) (workUnder c k) ≡ withPhase (phaseUnder c (onward m k .phase)) (onward m k)
@@ -95,25 +87,56 @@ module _ (c : ℕ) where
       moved MemoryToStream = sent
       moved StreamToMemory = received (w .input)
 
-      -- In Move the step is the same, but for the control that is kept.
-      pub no-effect-in-move : w .machine .phase ≡ Move k → step (worldUnder c w) ≡ answerUnder c (step w)
-      unfolding step
-      no-effect-in-move e =
-          subst (λ (p : Phase). stepIn (phaseUnder c p) (worldUnder c w) ≡ answerUnder c (stepIn p w)) (sym e) (moved (w .machine .mode))
+-- In Fetch the descriptor is kept, or not, as under the other control.
+module _ (c : ℕ) (memory : List ℕ) (w : World) where
+  abbrev under : Answer → Answer
+  under a = answerOver memory (answerUnder c a)
 
-  -- In WriteBack it is the same, but for the control that is written.
-  pub no-effect-in-write-back : (k : Work) (w : World) → w .machine .phase ≡ WriteBack k
-      → step (worldUnder c w) ≡ answerOver (writtenBack w (workUnder c k)) (step w)
-  unfolding step writeBackStep completed writtenBack writtenControl
-  no-effect-in-write-back k w e =
-      subst (λ (p : Phase). stepIn (phaseUnder c p) (worldUnder c w) ≡ answerOver (writtenBack w (workUnder c k)) (stepIn p w)) (sym e) back
-    where
-      back-to : (left : ℕ) → backTo (worldUnder c w) (workUnder c k) left ≡ answerOver (writtenBack w (workUnder c k)) (backTo w k left)
-      back-to zero = refl
-      back-to (suc left) = refl
+  either : (b : Bool) {x y : Answer} (u v : Answer) → x ≡ under u → y ≡ under v → cond b x y ≡ under (cond b u v)
+  either true u v p q = p
+  either false u v p q = q
 
-      back : writeBackStep (worldUnder c w) (workUnder c k) ≡ answerOver (writtenBack w (workUnder c k)) (writeBackStep w k)
-      back = back-to (w .left)
+  kept : (d : Descriptor) → w .machine .phase ≡ Fetch → SameUse c (d .control .0) → fetched (over memory w) (descriptorUnder c d) ≡ under (fetched w d)
+  unfolding fetched
+  kept d e same =
+      rw (same .own)
+      (either (owned (d .control .0)) _ _
+      (either (wantsLength (w .machine .mode) && eqb (d .length) 0) _ _ refl refl)
+      refl)
+
+  in-fetch : w .machine .phase ≡ Fetch → SameUse c (atPointer w .control .0) → atPointer (over memory w) ≡ descriptorUnder c (atPointer w)
+      → fetchStep (over memory w) ≡ under (fetchStep w)
+  unfolding fetchStep
+  in-fetch e same reads =
+      let m = w .machine in
+      either (run (m .control)) _ _
+      (either (eqb (m .pointer .0 % 4) 0) _ _
+      (either (inWindow (m .window) (m .pointer .0) 32) _ _ (ap (fetched (over memory w)) reads ∙ kept (atPointer w) e same) refl) refl)
+      refl
+
+pub no-effect-in-fetch : NoEffectInFetch
+unfolding step
+no-effect-in-fetch c memory w e same reads =
+    subst (λ (p : Phase). stepIn p (over memory w) ≡ answerOver memory (answerUnder c (stepIn p w))) (sym e) (in-fetch c memory w e same reads)
+
+-- In Move the step is the same, but for the control that is kept.
+pub no-effect-in-move : NoEffectInMove
+unfolding step
+no-effect-in-move c k same w e =
+    subst (λ (p : Phase). stepIn (phaseUnder c p) (worldUnder c w) ≡ answerUnder c (stepIn p w)) (sym e) (moved c k same w (w .machine .mode))
+
+-- In WriteBack it is the same, but for the control that is written.
+pub no-effect-in-write-back : NoEffectInWriteBack
+unfolding step writeBackStep completed writtenBack writtenControl
+no-effect-in-write-back c k w e =
+    subst (λ (p : Phase). stepIn (phaseUnder c p) (worldUnder c w) ≡ answerOver (writtenBack w (workUnder c k)) (stepIn p w)) (sym e) back
+  where
+    back-to : (left : ℕ) → backTo (worldUnder c w) (workUnder c k) left ≡ answerOver (writtenBack w (workUnder c k)) (backTo w k left)
+    back-to zero = refl
+    back-to (suc left) = refl
+
+    back : writeBackStep (worldUnder c w) (workUnder c k) ≡ answerOver (writtenBack w (workUnder c k)) (writeBackStep w k)
+    back = back-to (w .left)
 
 -- ---- they are kept as given
 
@@ -130,11 +153,7 @@ module _ (n : ℕ) where
   sixth : n % 128 / 64 % 2 ≡ n / 64 % 2
   sixth = omega arith
 
-pub kept-as-given : (m : Machine) (k : Work)
-    → (bit 3 (writtenControl m k) ≡ bit 3 (k .control .0))
-    × (bit 4 (writtenControl m k) ≡ bit 4 (k .control .0))
-    × (bit 5 (writtenControl m k) ≡ bit 5 (k .control .0))
-    × (bit 6 (writtenControl m k) ≡ bit 6 (k .control .0))
+pub kept-as-given : KeptAsGiven
 unfolding writtenControl
 kept-as-given m k = under (park (m .control))
   where

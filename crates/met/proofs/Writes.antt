@@ -1,6 +1,6 @@
 -- A fresh machine keeps the rules, and every register write takes a machine that keeps them to one that does.
 -- Assumes nothing.
-use Prim.Native.Nat.{ℕ, _/_, _%_, _^_, _≤_, _<_}
+use Prim.Native.Nat.{ℕ, _/_, _%_, _≤_, _<_}
 use mathlib.Core.Path.{_≡_, refl, sym, ap, subst, _∙_}
 use mathlib.Core.Bool.{Bool, true, false, not, cond, _&&_, _||_}
 use native.Mathlib.Nat.{mod-lt}
@@ -19,8 +19,9 @@ use Rattle.machine.specs.declared.registers.WroteRegister.{WroteRegister}
 use Rattle.machine.specs.declared.registers.WroteRegister.the-variants.{Done, Refused}
 use Rattle.machine.specs.State.{withPointer, withPhase, withBusy, fresh}
 use Rattle.machine.specs.Saved.{keeps}
-use Rattle.machine.specs.Registers.{statusWritten, stored, released, controlWritten, writeOf, WasWritten}
+use Rattle.machine.specs.Registers.{statusWritten, stored, released, controlWritten, writeOf}
 use Rattle.met.specs.Sound.{Sound}
+use Rattle.met.specs.Theorems.{WriteKeeps}
 use Rattle.met.proofs.Kept.{InPhase, Suits, Kept, on, neither}
 use Rattle.met.proofs.ByParts.{kept-sound, sound-kept}
 
@@ -119,6 +120,6 @@ module _ (v : ℕ) {m : Machine} (k : Kept m) where
       (λ e. tt)
 
 -- Every register write takes a machine that keeps the rules to one that keeps them.
-pub write-keeps : {m n : Machine} {offset v : ℕ} → Sound m → v < 2 ^ 32 → WasWritten m offset v (Done n) → Sound n
-write-keeps {m} {n} {offset} {v} s h w =
+pub write-keeps : WriteKeeps
+write-keeps m n offset v s h w =
     kept-sound (subst AfterWrite (sym (w .answer)) (write-after v (sound-kept s) h offset))

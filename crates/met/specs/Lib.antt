@@ -3,3 +3,4 @@ pub mod Met
 pub mod Faults
 pub mod Reading
 pub mod Unused
+pub mod Theorems

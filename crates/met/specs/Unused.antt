@@ -1,5 +1,6 @@
 -- Descriptor control: "Bits 3..6 have no effect and are kept as given." Two controls that agree in the bits that have one. That a
--- step is the same under both is `no-effect`; that what is written back has the bits as given is `kept-as-given`.
+-- step is the same under both is `no-effect-in-fetch` and the two laws beside it; that what is written back has the bits as given is
+-- `kept-as-given`.
 -- Assumes nothing.
 use Prim.Native.Nat.{ℕ}
 use mathlib.Core.Path.{_≡_}

@@ -45,8 +45,8 @@ sound-loaded xs {m} e =
 
 pub written-keeps : (xs : List ℕ) {m n : Machine} (offset v : ℕ) → loadOf xs ≡ Good m → v < 2 ^ 32 → isRegister offset ≡ true
     → n ≡ writtenTo m offset v → keeps n ≡ true
-written-keeps xs offset v e h r f =
-    write-keeps (sound-loaded xs e) h (was-written (ap wrote.Done f ∙ sym (write-loaded xs e offset v r))) .rules
+written-keeps xs {m} {n} offset v e h r f =
+    write-keeps m n offset v (sound-loaded xs e) h (was-written (ap wrote.Done f ∙ sym (write-loaded xs e offset v r))) .rules
 
 module _ {xs ys : List ℕ} {offset v r : ℕ} where
   says : (a : WroteRegister) → writtenIn (loadOf xs) offset v ≡ a → r ≡ wroteNumber a → ys ≡ writtenOver a xs → RegisterWritten xs offset v r ys

@@ -56,8 +56,9 @@ module _ {m : Machine} {window beats out ledger window' out' ledger' : List ℕ}
   pub ran-keeps : (xs : List ℕ) → loadOf xs ≡ Good m → AllBytes window → AllBytes beats → keeps (r .machine) ≡ true
   ran-keeps xs l g i =
       let done : HasRun m window beats out ledger used budget (ran.Done r) window' out' ledger' =
-      subst (λ (x : RunAnswer). HasRun m window beats out ledger used budget x window' out' ledger') e (resumed-runs (keeps-loaded xs l) h) in
-      met-keeps (met.ran (met.loaded (was-loaded (sym l))) g i done)
+      subst (λ (x : RunAnswer). HasRun m window beats out ledger used budget x window' out' ledger') e
+      (resumed-runs m window beats out ledger used budget a window' out' ledger' (keeps-loaded xs l) h) in
+      met-keeps (r .machine) (met.ran (met.loaded (was-loaded (sym l))) g i done)
 
 -- ---- sgdma_run
 
@@ -109,7 +110,8 @@ module _ {xs window beats out ledger report xs' window' out' ledger' report' : L
           → RunMade xs window beats out ledger used budget report r xs' window' out' ledger' report'
       unfolding runCall
       run-answers {m} {a} {b} {v} {u} {t} e resumed f p x w o d q =
-          let h : HasRun m window beats out ledger used budget a v u t = resumed-runs (keeps-loaded xs e) resumed in
+          let h : HasRun m window beats out ledger used budget a v u t =
+          resumed-runs m window beats out ledger used budget a v u t (keeps-loaded xs e) resumed in
           made b
           (sizes-right _ _ 18 xs report l k ∙ ap (λ (n : LoadedMachine). runIn n window beats out ledger used budget) e ∙ sym (h .answer) ∙ f)
           (sizes-right _ _ 18 xs report l k ∙ ap (λ (n : LoadedMachine). windowIn n window beats out ledger used budget) e ∙ sym (h .window-after))

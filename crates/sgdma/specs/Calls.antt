@@ -58,9 +58,13 @@ pub record Created (xs : List ℕ) (mode base length : ℕ) (r : ℕ) (xs' : Lis
   pub image-after : xs'
       ≡ ifDone (createNumber xs mode base length) (imageOf (fresh (modeOf mode) (record { base = base; length = length }))) xs
 
-pub created-unique : {xs ys zs : List ℕ} {mode base length r s : ℕ}
+-- No second outcome of sgdma_create keeps its promise.
+abbrev pub CreatedUnique : Type 0
+CreatedUnique = (xs : List ℕ) (mode base length r s : ℕ) (ys zs : List ℕ)
     → Created xs mode base length r ys → Created xs mode base length s zs → (r ≡ s) × (ys ≡ zs)
-created-unique p q = (p .number ∙ sym (q .number), p .image-after ∙ sym (q .image-after))
+
+pub created-unique : CreatedUnique
+created-unique xs mode base length r s ys zs p q = (p .number ∙ sym (q .number), p .image-after ∙ sym (q .image-after))
 
 -- ---- sgdma_read_register: 7, 8, 1
 
@@ -80,9 +84,13 @@ pub record RegisterRead (xs : List ℕ) (offset : ℕ) (value : List ℕ) (r : �
   pub number : r ≡ readNumber (readCall xs offset value)
   pub value-after : value' ≡ valueOver (readCall xs offset value) value
 
-pub register-read-unique : {xs value ys zs : List ℕ} {offset r s : ℕ}
+-- No second outcome of sgdma_read_register keeps its promise.
+abbrev pub RegisterReadUnique : Type 0
+RegisterReadUnique = (xs : List ℕ) (offset : ℕ) (value : List ℕ) (r s : ℕ) (ys zs : List ℕ)
     → RegisterRead xs offset value r ys → RegisterRead xs offset value s zs → (r ≡ s) × (ys ≡ zs)
-register-read-unique p q = (p .number ∙ sym (q .number), p .value-after ∙ sym (q .value-after))
+
+pub register-read-unique : RegisterReadUnique
+register-read-unique xs offset value r s ys zs p q = (p .number ∙ sym (q .number), p .value-after ∙ sym (q .value-after))
 
 -- ---- sgdma_write_register: 7, 8, 1
 
@@ -98,9 +106,13 @@ pub record RegisterWritten (xs : List ℕ) (offset v : ℕ) (r : ℕ) (xs' : Lis
   pub number : r ≡ wroteNumber (writtenIn (loadOf xs) offset v)
   pub image-after : xs' ≡ writtenOver (writtenIn (loadOf xs) offset v) xs
 
-pub register-written-unique : {xs ys zs : List ℕ} {offset v r s : ℕ}
+-- No second outcome of sgdma_write_register keeps its promise.
+abbrev pub RegisterWrittenUnique : Type 0
+RegisterWrittenUnique = (xs : List ℕ) (offset v r s : ℕ) (ys zs : List ℕ)
     → RegisterWritten xs offset v r ys → RegisterWritten xs offset v s zs → (r ≡ s) × (ys ≡ zs)
-register-written-unique p q = (p .number ∙ sym (q .number), p .image-after ∙ sym (q .image-after))
+
+pub register-written-unique : RegisterWrittenUnique
+register-written-unique xs offset v r s ys zs p q = (p .number ∙ sym (q .number), p .image-after ∙ sym (q .image-after))
 
 -- ---- sgdma_line: 7, 8; the value is 1 where the line is up, else 0
 
@@ -120,8 +132,13 @@ pub record LineRead (xs value : List ℕ) (r : ℕ) (value' : List ℕ) : Type 0
   pub number : r ≡ lineNumber (lineCall xs value)
   pub value-after : value' ≡ lineOver (lineCall xs value) value
 
-pub line-read-unique : {xs value ys zs : List ℕ} {r s : ℕ} → LineRead xs value r ys → LineRead xs value s zs → (r ≡ s) × (ys ≡ zs)
-line-read-unique p q = (p .number ∙ sym (q .number), p .value-after ∙ sym (q .value-after))
+-- No second outcome of sgdma_line keeps its promise.
+abbrev pub LineReadUnique : Type 0
+LineReadUnique = (xs value : List ℕ) (r s : ℕ) (ys zs : List ℕ)
+    → LineRead xs value r ys → LineRead xs value s zs → (r ≡ s) × (ys ≡ zs)
+
+pub line-read-unique : LineReadUnique
+line-read-unique xs value r s ys zs p q = (p .number ∙ sym (q .number), p .value-after ∙ sym (q .value-after))
 
 -- ---- sgdma_run: 7, 8, 9, 19, 4
 
@@ -166,10 +183,14 @@ pub record RunMade (xs window beats out ledger : List ℕ) (used budget : ℕ) (
   pub ledger-after : ledger' ≡ cond (sized xs && isSize 18 report) (ledgerIn (loadOf xs) window beats out ledger used budget) ledger
   pub report-after : report' ≡ reportOver (runCall xs window beats out ledger used budget report) report
 
-pub run-made-unique : {xs window beats out ledger report x1 w1 o1 l1 p1 x2 w2 o2 l2 p2 : List ℕ} {used budget r s : ℕ}
+-- No second outcome of sgdma_run keeps its promise.
+abbrev pub RunMadeUnique : Type 0
+RunMadeUnique = (xs window beats out ledger : List ℕ) (used budget : ℕ) (report : List ℕ) (r s : ℕ) (x1 w1 o1 l1 p1 x2 w2 o2 l2 p2 : List ℕ)
     → RunMade xs window beats out ledger used budget report r x1 w1 o1 l1 p1 → RunMade xs window beats out ledger used budget report s x2 w2 o2 l2 p2
     → (r ≡ s) × (x1 ≡ x2) × (w1 ≡ w2) × (o1 ≡ o2) × (l1 ≡ l2) × (p1 ≡ p2)
-run-made-unique p q = (
+
+pub run-made-unique : RunMadeUnique
+run-made-unique xs window beats out ledger used budget report r s x1 w1 o1 l1 p1 x2 w2 o2 l2 p2 p q = (
   p .number ∙ sym (q .number),
   p .image-after ∙ sym (q .image-after),
   p .window-after ∙ sym (q .window-after),
@@ -184,9 +205,13 @@ pub record DescriptorBuilt (window : List ℕ) (base a : ℕ) (j : Job) (r : ℕ
   pub number : r ≡ builtNumber (built (slotOf (length window) base a))
   pub window-after : window' ≡ withJob window j (slotOf (length window) base a)
 
-pub descriptor-built-unique : {window ys zs : List ℕ} {base a : ℕ} {j : Job} {r s : ℕ}
+-- No second outcome of sgdma_build_descriptor keeps its promise.
+abbrev pub DescriptorBuiltUnique : Type 0
+DescriptorBuiltUnique = (window : List ℕ) (base a : ℕ) (j : Job) (r s : ℕ) (ys zs : List ℕ)
     → DescriptorBuilt window base a j r ys → DescriptorBuilt window base a j s zs → (r ≡ s) × (ys ≡ zs)
-descriptor-built-unique p q = (p .number ∙ sym (q .number), p .window-after ∙ sym (q .window-after))
+
+pub descriptor-built-unique : DescriptorBuiltUnique
+descriptor-built-unique window base a j r s ys zs p q = (p .number ∙ sym (q .number), p .window-after ∙ sym (q .window-after))
 
 -- ---- sgdma_read_descriptor: 7, 3, 5, 6
 
@@ -205,6 +230,10 @@ pub record DescriptorRead (window : List ℕ) (base a : ℕ) (answer : List ℕ)
   pub number : r ≡ descriptorNumber (descriptorCall window base a answer)
   pub answer-after : answer' ≡ answerOver (descriptorCall window base a answer) answer
 
-pub descriptor-read-unique : {window answer ys zs : List ℕ} {base a r s : ℕ}
+-- No second outcome of sgdma_read_descriptor keeps its promise.
+abbrev pub DescriptorReadUnique : Type 0
+DescriptorReadUnique = (window : List ℕ) (base a : ℕ) (answer : List ℕ) (r s : ℕ) (ys zs : List ℕ)
     → DescriptorRead window base a answer r ys → DescriptorRead window base a answer s zs → (r ≡ s) × (ys ≡ zs)
-descriptor-read-unique p q = (p .number ∙ sym (q .number), p .answer-after ∙ sym (q .answer-after))
+
+pub descriptor-read-unique : DescriptorReadUnique
+descriptor-read-unique window base a answer r s ys zs p q = (p .number ∙ sym (q .number), p .answer-after ∙ sym (q .answer-after))

@@ -29,6 +29,7 @@ use Rattle.machine.specs.Run.{Lent, serves, refused, lentOf, worldOf, takenSinc
 use Rattle.machine.proofs.Outcomes.{serves-good}
 use Rattle.machine.proofs.RunLaws.{run-tells}
 use Rattle.sums.specs.Sum.{held, lostIn, Session, begins, written, ran, Adds}
+use Rattle.sums.specs.Theorems.{SessionAdds}
 use Rattle.sums.proofs.Balance.{sum-append, run-balanced}
 
 -- ---- a register write leaves what is in hand, or drops it
@@ -160,5 +161,5 @@ session-kept (written {m = m} {n = n} {offset = offset} {v = v} s c) =
 session-kept (ran s d) = ran-kept (session-kept s) d
 
 -- The ledger's bytes sum to the beats taken less those in hand and those abandoned.
-pub session-adds : {m : Machine} {before ledger : List ℕ} {rs : List Entry} {t l : ℕ} → Session m before ledger rs t l → Adds m before ledger rs t l
-session-adds s = session-kept s .adds
+pub session-adds : SessionAdds
+session-adds m before ledger rs t l s = session-kept s .adds

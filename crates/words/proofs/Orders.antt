@@ -11,8 +11,9 @@ use lib.Seq.{take-at, drop-at, length-take-le}
 use Rattle.words.specs.declared.Order.{Order}
 use Rattle.words.specs.declared.Order.the-variants.{MostFirst, LeastFirst}
 use Rattle.words.specs.Numbers.{total, join, split, bytes, Fit}
-use Rattle.words.specs.Orders.{inOrder, bytesOf, numberOf, bitWidths, rowBytes, rowNumbers, wordBytes}
+use Rattle.words.specs.Orders.{inOrder, bytesOf, numberOf, rowBytes, wordBytes}
 use Rattle.words.specs.Slices.{AllBytes}
+use Rattle.words.specs.Theorems.{RowBack, RowThere}
 use Rattle.words.proofs.Recode.{join-split, split-join}
 use Rattle.words.proofs.Bytes.{bytes-fit, take-bytes, drop-bytes, order-bytes}
 
@@ -59,14 +60,14 @@ turn-bytes LeastFirst v =
     bytes-number LeastFirst (reverse (split (bytes 4) v)) (order-bytes LeastFirst (split (bytes 4) v) (split-bytes v))
 
 -- a row of numbers comes back from its bytes
-pub row-back : (order : Order) (ns vs : List ℕ) → Fit (bitWidths ns) vs → rowNumbers order ns (rowBytes order ns vs) ≡ vs
+pub row-back : RowBack
 row-back order [] [] p = refl
 row-back order (n ∷ ns) (v ∷ vs) p =
     let l : length (bytesOf order n v) ≡ n = length-bytes order n v in
     rw (take-at (bytesOf order n v) (rowBytes order ns vs) n l, drop-at (bytesOf order n v) (rowBytes order ns vs) n l, row-back order ns vs (p .1), number-bytes order n v, mod-eq-of-lt (p .0))
 
 -- the bytes of a row come back from its numbers
-pub row-there : (order : Order) (ns xs : List ℕ) → length xs ≡ total ns → AllBytes xs → rowBytes order ns (rowNumbers order ns xs) ≡ xs
+pub row-there : RowThere
 row-there order [] [] e g = refl
 row-there order [] (x ∷ xs) e g = absurd (suc-ne-zero (length xs) e)
 row-there order (n ∷ ns) xs e g =

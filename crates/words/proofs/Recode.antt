@@ -9,6 +9,7 @@ use native.Mathlib.Omega.{arith}
 use lib.ListN.{length}
 use lib.Pow.{pow-add, pow-pos, high, shr-shr, mod-pow-add}
 use Rattle.words.specs.Numbers.{total, join, split, recode, Fit}
+use Rattle.words.specs.Theorems.{RecodeBack}
 
 pub fit-length : (ws vs : List ℕ) → Fit ws vs → length vs ≡ length ws
 fit-length [] [] f = refl
@@ -72,7 +73,7 @@ recode-append ws us bs cs vs xs f p q =
     (split-append bs cs (join ws vs) (join us xs) (rw f (join-lt us xs q)))
 
 -- read at other widths and back: the same values
-pub recode-back : (ws bs vs : List ℕ) → total bs ≡ total ws → Fit ws vs → recode bs ws (recode ws bs vs) ≡ vs
+pub recode-back : RecodeBack
 recode-back ws bs vs e p = rw (join-split bs (join ws vs), e, mod-eq-of-lt (join-lt ws vs p)) (split-join ws vs p)
 
 pub recode-fit : (ws bs vs : List ℕ) → Fit bs (recode ws bs vs)

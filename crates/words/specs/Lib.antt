@@ -3,3 +3,4 @@ pub mod Numbers
 pub mod Bits
 pub mod Orders
 pub mod Slices
+pub mod Theorems

@@ -1,0 +1,72 @@
+-- What is proved of chains, demand 3: each theorem's whole statement, under its name. A term of each stands in proofs/.
+-- Assumes nothing.
+use Prim.Native.Nat.{ℕ, _+_, _≤_}
+use mathlib.Core.Path.{_≡_}
+use mathlib.Core.Bool.{true}
+use mathlib.Core.List.{List, [], _∷_}
+use Rattle.bus.specs.declared.Window.{Window}
+use Rattle.bus.specs.Window.{keepsLimits}
+use Rattle.machine.specs.declared.RunAnswer.{RunAnswer}
+use Rattle.machine.specs.Run.{run, ranAs}
+use Rattle.chain.specs.Chain.{Given, worldFor, shares, cost, recordsOf, Premises, FirstFew, AtEveryStep, Outcome}
+use Rattle.chain.specs.Enough.{WithinBudget}
+use Rattle.chain.specs.Calls.{givenBy, Called, Finished}
+use Rattle.chain.specs.Known.{InNumbers, known, three}
+
+-- ---- of the definitions
+
+-- Demand 3, with budget enough.
+abbrev pub ChainTheorem : Type 0
+ChainTheorem = (g : Given) → Premises g → (budget : ℕ) → 2 + cost (shares g) ≤ budget
+    → Outcome g (ranAs (g .used) (worldFor g) (run budget (worldFor g))) (run budget (worldFor g) .world .memory)
+
+-- And the records made are those of the k, in order.
+abbrev pub ChainRecords : Type 0
+ChainRecords = (g : Given) → Premises g → (budget : ℕ) → 2 + cost (shares g) ≤ budget
+    → run budget (worldFor g) .world .records ≡ recordsOf (shares g)
+
+-- Demand 3, after every step.
+abbrev pub ChainAtEveryStep : Type 0
+ChainAtEveryStep = (g : Given) → Premises g → AtEveryStep g
+
+-- "With budget enough": a budget of 32 bits that is enough exists for every chain that meets the premises. Its window keeps the limits: any
+-- other is refused, and no machine stands over it.
+abbrev pub BudgetExists : Type 0
+BudgetExists = (g : Given) → Premises g → keepsLimits (g .window .base) (g .window .length) ≡ true → WithinBudget g
+
+-- ---- of the public methods: fresh, two register writes, one run
+
+-- Demand 3, of the public methods, with budget enough.
+abbrev pub ChainOfRun : Type 0
+ChainOfRun = (window : Window) (pointer control : ℕ) (memory beats out ledger : List ℕ) (used budget : ℕ) (r : RunAnswer)
+    (memory' out' ledger' : List ℕ) (k : ℕ)
+    → Called window pointer control memory beats out ledger used budget r memory' out' ledger'
+    → let g : Given = givenBy window pointer control k memory beats out ledger used in
+    Premises g → 2 + cost (shares g) ≤ budget → Finished g r memory' out out' ledger ledger'
+
+-- Demand 3, of the public methods, after every step: with any budget those marked done are the first few.
+abbrev pub ChainOfRunAtEveryStep : Type 0
+ChainOfRunAtEveryStep = (window : Window) (pointer control : ℕ) (memory beats out ledger : List ℕ) (used budget : ℕ) (r : RunAnswer)
+    (memory' out' ledger' : List ℕ) (k : ℕ)
+    → Called window pointer control memory beats out ledger used budget r memory' out' ledger'
+    → let g : Given = givenBy window pointer control k memory beats out ledger used in
+    Premises g → FirstFew window memory (shares g) memory'
+
+-- ---- the premises can be met
+
+-- Known run 1 meets them, and this is concluded there.
+abbrev pub KnownRun1 : Type 0
+KnownRun1 =
+    InNumbers known 8 4 4128
+    (record { place = 28; bytes = 0x04 ∷ 0x00 ∷ 0x00 ∷ 0x00 ∷ [] } ∷ [])
+    (record { to = 4224; byte = 0x11 } ∷ record { to = 4225; byte = 0x22 } ∷ record { to = 4226; byte = 0x33 } ∷ record { to = 4227; byte = 0x44 } ∷ [])
+
+-- A chain of three meets them, with an EOP in the second and a fixed destination in the third, and this is concluded there.
+abbrev pub ChainOfThree : Type 0
+ChainOfThree =
+    InNumbers three 16 8 4192
+    (record { place = 28; bytes = 0x03 ∷ 0x00 ∷ 0x00 ∷ 0x00 ∷ [] }
+    ∷ record { place = 92; bytes = 0x02 ∷ 0x00 ∷ 0x03 ∷ 0x78 ∷ [] }
+    ∷ record { place = 60; bytes = 0x03 ∷ 0x00 ∷ 0x01 ∷ 0x04 ∷ [] } ∷ [])
+    (record { to = 4224; byte = 0x11 } ∷ record { to = 4225; byte = 0x22 } ∷ record { to = 4226; byte = 0x44 }
+    ∷ record { to = 4227; byte = 0x55 } ∷ record { to = 4240; byte = 0x88 } ∷ [])

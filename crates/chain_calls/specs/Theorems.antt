@@ -1,0 +1,154 @@
+-- What is proved of the C calls: each theorem's whole statement, under its name. A term of each stands in proofs/.
+-- Assumes nothing.
+use Prim.Native.Nat.{ℕ, _+_, _^_, _≤_, _<_}
+use mathlib.Core.Path.{_≡_}
+use mathlib.Core.List.{List}
+use lib.ListN.{length}
+use Rattle.descriptor.specs.declared.Job.{Job}
+use Rattle.chain.specs.Chain.{shares, cost, Premises}
+use Rattle.chain.specs.Known.{known}
+use Rattle.sgdma.specs.Calls.{Created, RegisterRead, RegisterWritten, LineRead, RunMade, DescriptorBuilt, DescriptorRead}
+use Rattle.chain_calls.specs.InC.{RunLent, RunLeft, Promised, Lends, WellLent, givenIn, Called, AllDone, Found, FoundAtEveryStep}
+use Rattle.chain_calls.specs.Known.{lends, knownLeft}
+use Rattle.chain_calls.specs.Refused.{FirstThatApplies, WhereRefused, createTests, readTests, writeTests, lineTests, runTests, buildTests, descriptorTests}
+use Rattle.chain_calls.specs.TwoRuns.{lentNext, lentWith, DoTheSame}
+use Rattle.chain_calls.specs.Images.{InUse, LoadsBack}
+use Rattle.chain_calls.specs.Useless.{Model, InBytes, Keeps, honest, RefusesEverything, OneFixedAnswer, NeverMoves, OnlyMarksTheOthers, MakesUpSteps}
+
+-- ---- "First that applies": the number that a call gives back is the first, in the paper's one order, of the refusals that apply to
+-- it, or 0
+
+-- sgdma_create gives back the first that applies.
+abbrev pub CreateInOrder : Type 0
+CreateInOrder = (xs : List ℕ) (mode base length r : ℕ) (xs' : List ℕ) → Created xs mode base length r xs'
+    → FirstThatApplies (createTests xs mode base length) r
+
+-- sgdma_read_register does.
+abbrev pub ReadInOrder : Type 0
+ReadInOrder = (xs : List ℕ) (offset : ℕ) (value : List ℕ) (r : ℕ) (value' : List ℕ) → RegisterRead xs offset value r value'
+    → FirstThatApplies (readTests xs offset value) r
+
+-- sgdma_write_register does.
+abbrev pub WriteInOrder : Type 0
+WriteInOrder = (xs : List ℕ) (offset v r : ℕ) (xs' : List ℕ) → RegisterWritten xs offset v r xs'
+    → FirstThatApplies (writeTests xs offset) r
+
+-- sgdma_line does.
+abbrev pub LineInOrder : Type 0
+LineInOrder = (xs value : List ℕ) (r : ℕ) (value' : List ℕ) → LineRead xs value r value' → FirstThatApplies (lineTests xs value) r
+
+-- sgdma_run does.
+abbrev pub RunInOrder : Type 0
+RunInOrder = (xs window beats out ledger : List ℕ) (used budget : ℕ) (report : List ℕ) (r : ℕ) (xs' window' out' ledger' report' : List ℕ)
+    → RunMade xs window beats out ledger used budget report r xs' window' out' ledger' report'
+    → FirstThatApplies (runTests xs window beats out ledger used report) r
+
+-- sgdma_build_descriptor does.
+abbrev pub BuildInOrder : Type 0
+BuildInOrder = (window : List ℕ) (base a : ℕ) (j : Job) (r : ℕ) (window' : List ℕ) → DescriptorBuilt window base a j r window'
+    → FirstThatApplies (buildTests window base a) r
+
+-- sgdma_read_descriptor does.
+abbrev pub DescriptorInOrder : Type 0
+DescriptorInOrder = (window : List ℕ) (base a : ℕ) (answer : List ℕ) (r : ℕ) (answer' : List ℕ) → DescriptorRead window base a answer r answer'
+    → FirstThatApplies (descriptorTests window base a answer) r
+
+-- ---- a call that gives back another number than 0 leaves everything that it may write as it was lent
+
+-- sgdma_create, refused, leaves the image.
+abbrev pub CreateUnchanged : Type 0
+CreateUnchanged = (xs : List ℕ) (mode base length r : ℕ) (xs' : List ℕ) → Created xs mode base length r xs' → WhereRefused r (xs' ≡ xs)
+
+-- sgdma_read_register leaves the value.
+abbrev pub ReadUnchanged : Type 0
+ReadUnchanged = (xs : List ℕ) (offset : ℕ) (value : List ℕ) (r : ℕ) (value' : List ℕ) → RegisterRead xs offset value r value'
+    → WhereRefused r (value' ≡ value)
+
+-- sgdma_write_register leaves the image.
+abbrev pub WriteUnchanged : Type 0
+WriteUnchanged = (xs : List ℕ) (offset v r : ℕ) (xs' : List ℕ) → RegisterWritten xs offset v r xs' → WhereRefused r (xs' ≡ xs)
+
+-- sgdma_line leaves the value.
+abbrev pub LineUnchanged : Type 0
+LineUnchanged = (xs value : List ℕ) (r : ℕ) (value' : List ℕ) → LineRead xs value r value' → WhereRefused r (value' ≡ value)
+
+-- sgdma_run leaves image, window, output, ledger and report.
+abbrev pub RunUnchanged : Type 0
+RunUnchanged = (xs window beats out ledger : List ℕ) (used budget : ℕ) (report : List ℕ) (r : ℕ) (xs' window' out' ledger' report' : List ℕ)
+    → RunMade xs window beats out ledger used budget report r xs' window' out' ledger' report'
+    → WhereRefused r ((xs' ≡ xs) × (window' ≡ window) × (out' ≡ out) × (ledger' ≡ ledger) × (report' ≡ report))
+
+-- sgdma_build_descriptor leaves the window.
+abbrev pub BuildUnchanged : Type 0
+BuildUnchanged = (window : List ℕ) (base a : ℕ) (j : Job) (r : ℕ) (window' : List ℕ) → DescriptorBuilt window base a j r window'
+    → WhereRefused r (window' ≡ window)
+
+-- sgdma_read_descriptor leaves the answer.
+abbrev pub DescriptorUnchanged : Type 0
+DescriptorUnchanged = (window : List ℕ) (base a : ℕ) (answer : List ℕ) (r : ℕ) (answer' : List ℕ)
+    → DescriptorRead window base a answer r answer' → WhereRefused r (answer' ≡ answer)
+
+-- ---- images
+
+-- Every image that the C calls leave, from one created or one that loads, is that of a machine met in use and loads back as it, so that
+-- 8 never applies to it.
+abbrev pub ImagesLoad : Type 0
+ImagesLoad = (xs : List ℕ) → InUse xs → LoadsBack xs
+
+-- ---- demand 3 of the C calls: sgdma_create, sgdma_write_register twice, sgdma_run
+
+-- Every number that they give back is 0.
+abbrev pub NoneRefused : Type 0
+NoneRefused = (l : Lends) (created pointed started : ℕ) (left : RunLeft) (k : ℕ)
+    → Called l created pointed started left → WellLent l → Premises (givenIn l k) → AllDone created pointed started left
+
+-- With budget enough: every lent byte after them.
+abbrev pub ChainOfCalls : Type 0
+ChainOfCalls = (l : Lends) (created pointed started : ℕ) (left : RunLeft) (k : ℕ)
+    → Called l created pointed started left → WellLent l → Premises (givenIn l k) → 2 + cost (shares (givenIn l k)) ≤ l .budget
+    → Found (givenIn l k) l left
+
+-- With any budget: after every step.
+abbrev pub ChainOfCallsAtEveryStep : Type 0
+ChainOfCallsAtEveryStep = (l : Lends) (created pointed started : ℕ) (left : RunLeft) (k : ℕ)
+    → Called l created pointed started left → WellLent l → Premises (givenIn l k) → FoundAtEveryStep (givenIn l k) l left
+
+-- Known run 1 through the C calls: the numbers, all 44 bytes of the image, the window's 256, the report's 18, the ledger's 12.
+abbrev pub KnownRun1InC : Type 0
+KnownRun1InC = (created pointed started : ℕ) (left : RunLeft) → Called (lends known) created pointed started left
+    → AllDone created pointed started left × (left ≡ knownLeft)
+
+-- ---- runs in a row
+
+-- Two runs, with budgets a and b, do what one of a + b does: whatever C lends the first, where it is not refused and a + b is a number of
+-- 32 bits. The report slice of the second has its 18 bytes.
+abbrev pub TwoRunsAdd : Type 0
+TwoRunsAdd = (x : RunLent) (b : ℕ) (report : List ℕ) (first second one : RunLeft) → InBytes x → x .budget + b < 2 ^ 32 → length report ≡ 18
+    → Promised x first → first .number ≡ 0 → Promised (lentNext x first b report) second → Promised (lentWith x (x .budget + b)) one
+    → DoTheSame first second one
+
+-- ---- the useless models
+
+-- The promise of sgdma_run can be kept: one model keeps it.
+abbrev pub HonestKeeps : Type 0
+HonestKeeps = Keeps honest
+
+-- "The one that refuses everything" does not.
+abbrev pub RefuserFails : Type 0
+RefuserFails = (f : Model) → RefusesEverything f → Keeps f → ⊥
+
+-- "The one with one fixed answer" does not.
+abbrev pub FixedFails : Type 0
+FixedFails = (f : Model) → OneFixedAnswer f → Keeps f → ⊥
+
+-- "The one that never moves" does not.
+abbrev pub NeverMovingFails : Type 0
+NeverMovingFails = (f : Model) → NeverMoves f → Keeps f → ⊥
+
+-- "The one that does the first descriptor honestly and only marks the others" does not.
+abbrev pub MarkerFails : Type 0
+MarkerFails = (f : Model) → OnlyMarksTheOthers f → Keeps f → ⊥
+
+-- One with "a made-up step count" does not.
+abbrev pub MadeUpFails : Type 0
+MadeUpFails = (f : Model) → MakesUpSteps f → Keeps f → ⊥

@@ -1,0 +1,67 @@
+-- What the header says of sgdma_run: "The next run is lent what this one left: the beats from the taken ones on, the room behind those
+-- made, the ledger with the number of records now used. So two runs, with budgets a and b, do what one of a + b does." The theorem is
+-- `two-runs-add`.
+-- Assumes nothing.
+use Prim.Native.Nat.{ℕ, _+_, _*_}
+use mathlib.Core.Path.{_≡_}
+use mathlib.Core.List.{List, _++_}
+use lib.ListN.{take, drop}
+use Rattle.words.specs.declared.Order.the-variants.{MostFirst}
+use Rattle.words.specs.Orders.{numberOf}
+use Rattle.words.specs.Slices.{part}
+use Rattle.chain_calls.specs.InC.{RunLent, RunLeft}
+use Rattle.chain_calls.specs.Useless.{stepsTold}
+
+-- ---- what a report tells, at the header's offsets; the steps, at 2, are `stepsTold`
+
+abbrev pub reasonTold : List ℕ → ℕ
+reasonTold report = numberOf MostFirst (part report 0 2)
+
+abbrev pub takenTold : List ℕ → ℕ
+takenTold report = numberOf MostFirst (part report 6 4)
+
+abbrev pub madeTold : List ℕ → ℕ
+madeTold report = numberOf MostFirst (part report 10 4)
+
+abbrev pub usedTold : List ℕ → ℕ
+usedTold report = numberOf MostFirst (part report 14 4)
+
+-- ---- the runs
+
+-- what the next run is lent after this one, with a budget and a report slice of its own: image, window and ledger as this one left them;
+-- the beats, two bytes each, from the taken ones on; the output's bytes behind those made; the number of records now used
+abbrev pub lentNext : RunLent → RunLeft → (budget : ℕ) (report : List ℕ) → RunLent
+lentNext x left budget report =
+    record {
+      image = left .image;
+      memory = left .memory;
+      beats = drop (2 * takenTold (left .report)) (x .beats);
+      out = drop (2 * madeTold (left .report)) (left .out);
+      ledger = left .ledger;
+      used = usedTold (left .report);
+      budget = budget;
+      report = report;
+    }
+
+-- the same is lent with another budget
+abbrev pub lentWith : RunLent → (budget : ℕ) → RunLent
+lentWith x budget =
+    record { image = x .image; memory = x .memory; beats = x .beats; out = x .out; ledger = x .ledger; used = x .used; budget = budget; report = x .report }
+
+-- what is left after the two, and after the one
+pub record DoTheSame (first second one : RunLeft) : Type 0 where
+  -- neither is refused
+  pub second-done : second .number ≡ 0
+  pub one-done : one .number ≡ 0
+  -- image, window and ledger are the same
+  pub image : one .image ≡ second .image
+  pub memory : one .memory ≡ second .memory
+  pub ledger : one .ledger ≡ second .ledger
+  -- the output too: the beats that the first made, and behind them what the second left of the room
+  pub out : one .out ≡ take (2 * madeTold (first .report)) (first .out) ++ second .out
+  -- the report tells the reason and the records used that the second's tells, and the steps and beats of both
+  pub reason : reasonTold (one .report) ≡ reasonTold (second .report)
+  pub steps : stepsTold (one .report) ≡ stepsTold (first .report) + stepsTold (second .report)
+  pub taken : takenTold (one .report) ≡ takenTold (first .report) + takenTold (second .report)
+  pub made : madeTold (one .report) ≡ madeTold (first .report) + madeTold (second .report)
+  pub used : usedTold (one .report) ≡ usedTold (second .report)

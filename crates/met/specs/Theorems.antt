@@ -1,0 +1,113 @@
+-- What is proved of the machines met in use: each theorem's whole statement, under its name. A term of each stands in proofs/.
+-- Assumes nothing.
+use Prim.Native.Nat.{ℕ, _^_, _<_}
+use mathlib.Core.Path.{_≡_}
+use mathlib.Core.Bool.{true}
+use mathlib.Core.List.{List}
+use mathlib.Core.Logic.{_↔_}
+use lib.ListN.{length}
+use Rattle.words.specs.Bits.{bit}
+use Rattle.words.specs.Slices.{AllBytes}
+use Rattle.image.specs.Layout.{image, Typed}
+use Rattle.machine.specs.declared.Machine.{Machine}
+use Rattle.machine.specs.declared.Work.{Work}
+use Rattle.machine.specs.declared.Fault.{Fault}
+use Rattle.machine.specs.declared.Phase.the-variants.{Fetch, Move, WriteBack, Faulted}
+use Rattle.machine.specs.declared.Reason.the-variants as reason
+use Rattle.machine.specs.declared.LoadedMachine.{LoadedMachine}
+use Rattle.machine.specs.declared.LoadedMachine.the-variants.{Good}
+use Rattle.machine.specs.declared.SavedMachine.{SavedMachine}
+use Rattle.machine.specs.declared.SavedMachine.the-variants as saved
+use Rattle.machine.specs.declared.registers.WroteRegister.the-variants as wrote
+use Rattle.machine.specs.Saved.{fieldsOf, keeps, WasLoaded, WasSaved}
+use Rattle.machine.specs.Registers.{WasWritten}
+use Rattle.machine.specs.Step.{World, taken, writtenControl, writtenBack, step}
+use Rattle.machine.specs.Run.{run}
+use Rattle.met.specs.Sound.{Sound, SoundWorld}
+use Rattle.met.specs.Met.{Met}
+use Rattle.met.specs.Faults.{AfterWrite}
+use Rattle.met.specs.Reading.{over, atPointer, Alike}
+use Rattle.met.specs.Unused.{SameUse, descriptorUnder, workUnder, worldUnder, answerUnder, answerOver}
+
+-- ---- images
+
+-- A loaded image saved again gives the same bytes.
+abbrev pub SavedAgain : Type 0
+SavedAgain = (xs ys zs : List ℕ) (m : Machine) (r : SavedMachine) → AllBytes xs → length ys ≡ 44
+    → WasLoaded xs (Good m) → WasSaved m ys r zs → (r ≡ saved.Done) × (zs ≡ xs)
+
+-- A machine that keeps the rules saves to an image that loads back as it.
+abbrev pub LoadsBack : Type 0
+LoadsBack = (m : Machine) (ys zs : List ℕ) (r : SavedMachine) (s : LoadedMachine) → Typed (fieldsOf m) → keeps m ≡ true
+    → length ys ≡ 44 → WasSaved m ys r zs → WasLoaded zs s → (r ≡ saved.Done) × (s ≡ Good m)
+
+-- Bytes load as m exactly when m keeps the rules and they are its image.
+abbrev pub LoadsExactly : Type 0
+LoadsExactly = (xs : List ℕ) (m : Machine) → AllBytes xs → Typed (fieldsOf m)
+    → WasLoaded xs (Good m) ↔ ((keeps m ≡ true) × (xs ≡ image (fieldsOf m)))
+
+-- ---- the rules are kept
+
+-- Every register write takes a machine that keeps the rules to one that keeps them.
+abbrev pub WriteKeeps : Type 0
+WriteKeeps = (m n : Machine) (offset v : ℕ) → Sound m → v < 2 ^ 32 → WasWritten m offset v (wrote.Done n) → Sound n
+
+-- So does every step.
+abbrev pub StepKeeps : Type 0
+StepKeeps = (w v : World) → SoundWorld w → step w ≡ taken v → SoundWorld v
+
+-- So does every run.
+abbrev pub RunKeeps : Type 0
+RunKeeps = (budget : ℕ) (w : World) → SoundWorld w → SoundWorld (run budget w .world)
+
+-- Every machine met in use keeps the rules.
+abbrev pub MetKeeps : Type 0
+MetKeeps = (m : Machine) → Met m → keeps m ≡ true
+
+-- Every machine met in use saves to an image that loads back as it.
+abbrev pub MetSaves : Type 0
+MetSaves = (m : Machine) (ys zs : List ℕ) (r : SavedMachine) (s : LoadedMachine) → Met m → length ys ≡ 44
+    → WasSaved m ys r zs → WasLoaded zs s → (r ≡ saved.Done) × (s ≡ Good m)
+
+-- ---- Faulted
+
+-- No step is taken in Faulted: a run of any budget ends at once, with that reason.
+abbrev pub FaultedStands : Type 0
+FaultedStands = (w : World) (f : Fault) → w .machine .phase ≡ Faulted f → (budget : ℕ)
+    → run budget w ≡ record { reason = reason.Faulted; steps = 0; world = w }
+
+-- Only reset leaves Faulted: every other register write keeps it.
+abbrev pub OnlyResetLeaves : Type 0
+OnlyResetLeaves = (m : Machine) (f : Fault) → m .phase ≡ Faulted f → (offset v : ℕ) (n : Machine)
+    → WasWritten m offset v (wrote.Done n) → AfterWrite m f offset v n
+
+-- ---- descriptors
+
+-- A descriptor is read only in its own Fetch: in every other phase the window's bytes do not show in the machine.
+abbrev pub ReadInFetchAlone : Type 0
+ReadInFetchAlone = (w : World) (memory : List ℕ) → (w .machine .phase ≡ Fetch → atPointer w ≡ atPointer (over memory w))
+    → Alike (step w) (step (over memory w))
+
+-- Descriptor control bits 3 to 6 have no effect. In Fetch the step over bytes in which the descriptor at the pointer has another control
+-- with the same use is the same, but for that control, which is kept.
+abbrev pub NoEffectInFetch : Type 0
+NoEffectInFetch = (c : ℕ) (memory : List ℕ) (w : World) → w .machine .phase ≡ Fetch → SameUse c (atPointer w .control .0)
+    → atPointer (over memory w) ≡ descriptorUnder c (atPointer w) → step (over memory w) ≡ answerOver memory (answerUnder c (step w))
+
+-- In Move the step is the same, but for the control that is kept.
+abbrev pub NoEffectInMove : Type 0
+NoEffectInMove = (c : ℕ) (k : Work) → SameUse c (k .control .0) → (w : World) → w .machine .phase ≡ Move k
+    → step (worldUnder c w) ≡ answerUnder c (step w)
+
+-- In WriteBack it is the same, but for the control that is written.
+abbrev pub NoEffectInWriteBack : Type 0
+NoEffectInWriteBack = (c : ℕ) (k : Work) (w : World) → w .machine .phase ≡ WriteBack k
+    → step (worldUnder c w) ≡ answerOver (writtenBack w (workUnder c k)) (step w)
+
+-- Descriptor control bits 3 to 6 are written back as given.
+abbrev pub KeptAsGiven : Type 0
+KeptAsGiven = (m : Machine) (k : Work)
+    → (bit 3 (writtenControl m k) ≡ bit 3 (k .control .0))
+    × (bit 4 (writtenControl m k) ≡ bit 4 (k .control .0))
+    × (bit 5 (writtenControl m k) ≡ bit 5 (k .control .0))
+    × (bit 6 (writtenControl m k) ≡ bit 6 (k .control .0))

@@ -1,0 +1,386 @@
+-- Begin here: what is proved of the core, on one page. Each theorem has the sentence that it carries, the name of its statement and, by
+-- its path, the term that proves it. A statement stands whole, with every premise, under its name in specs/Theorems.antt of its crate;
+-- those of image_rows in its specs/Rows.antt, and those of sgdma beside the promises, in its specs/Calls.antt. What else a reader
+-- believes are the definitions that the statements use, all of them in specs/.
+-- Assumes nothing.
+use Rattle.words.specs.Theorems.{RecodeBack, RowBack, RowThere}
+use Rattle.bus.specs.Theorems.{LocatedIs}
+use Rattle.image.specs.Theorems.{ReadExactly}
+use Rattle.image_rows.specs.Rows.{RowsHold, SampleWritten, SampleRead}
+use Rattle.descriptor.specs.Theorems.{LengthJob, ByOffset, ReadAfterBuild, BuildAfterRead}
+use Rattle.machine.specs.Theorems.{RunAdd, RunTells, BudgetOnly, ResumedRuns, StepPassed, StepSpares, RowSteps, CopySteps, SendSteps, ReceiveSteps}
+use Rattle.known_runs.specs.Theorems.{KnownRunsHold, WorkedCasesHold}
+use Rattle.met.specs.Theorems.{FaultedStands, OnlyResetLeaves, ReadInFetchAlone, NoEffectInFetch, NoEffectInMove, NoEffectInWriteBack, KeptAsGiven}
+use Rattle.met.specs.Theorems.{LoadsExactly, SavedAgain, LoadsBack, WriteKeeps, StepKeeps, RunKeeps, MetKeeps, MetSaves}
+use Rattle.sums.specs.Theorems.{SessionAdds}
+use Rattle.chain.specs.Theorems.{ChainTheorem, ChainAtEveryStep, ChainRecords, BudgetExists, ChainOfRun, ChainOfRunAtEveryStep, KnownRun1, ChainOfThree}
+use Rattle.sgdma.specs.Calls.{CreatedUnique, RegisterReadUnique, RegisterWrittenUnique, LineReadUnique, RunMadeUnique, DescriptorBuiltUnique}
+use Rattle.sgdma.specs.Calls.{DescriptorReadUnique}
+use Rattle.chain_calls.specs.Theorems.{CreateInOrder, ReadInOrder, WriteInOrder, LineInOrder, RunInOrder, BuildInOrder, DescriptorInOrder, CreateUnchanged}
+use Rattle.chain_calls.specs.Theorems.{ReadUnchanged, WriteUnchanged, LineUnchanged, RunUnchanged, BuildUnchanged, DescriptorUnchanged, ImagesLoad}
+use Rattle.chain_calls.specs.Theorems.{NoneRefused, ChainOfCalls, ChainOfCallsAtEveryStep, KnownRun1InC, HonestKeeps, RefuserFails, FixedFails}
+use Rattle.chain_calls.specs.Theorems.{NeverMovingFails, MarkerFails, MadeUpFails, TwoRunsAdd}
+
+-- ======== demand 1: every call gets a defined answer, and one that is refused changes nothing
+
+-- ---- defined answers: of each C call the promise leaves nothing open
+
+-- No second outcome of sgdma_create keeps its promise.
+pub created-unique : CreatedUnique
+created-unique = Rattle.sgdma.specs.Calls.created-unique
+
+-- No second outcome of sgdma_read_register keeps its promise.
+pub register-read-unique : RegisterReadUnique
+register-read-unique = Rattle.sgdma.specs.Calls.register-read-unique
+
+-- No second outcome of sgdma_write_register keeps its promise.
+pub register-written-unique : RegisterWrittenUnique
+register-written-unique = Rattle.sgdma.specs.Calls.register-written-unique
+
+-- No second outcome of sgdma_line keeps its promise.
+pub line-read-unique : LineReadUnique
+line-read-unique = Rattle.sgdma.specs.Calls.line-read-unique
+
+-- No second outcome of sgdma_run keeps its promise.
+pub run-made-unique : RunMadeUnique
+run-made-unique = Rattle.sgdma.specs.Calls.run-made-unique
+
+-- No second outcome of sgdma_build_descriptor keeps its promise.
+pub descriptor-built-unique : DescriptorBuiltUnique
+descriptor-built-unique = Rattle.sgdma.specs.Calls.descriptor-built-unique
+
+-- No second outcome of sgdma_read_descriptor keeps its promise.
+pub descriptor-read-unique : DescriptorReadUnique
+descriptor-read-unique = Rattle.sgdma.specs.Calls.descriptor-read-unique
+
+-- ---- "First that applies": 0, or the first number in the paper's one order of the refusals that apply
+
+-- sgdma_create gives back the first that applies.
+pub create-in-order : CreateInOrder
+create-in-order = Rattle.chain_calls.proofs.Refused.create-in-order
+
+-- sgdma_read_register gives back the first that applies.
+pub read-in-order : ReadInOrder
+read-in-order = Rattle.chain_calls.proofs.Refused.read-in-order
+
+-- sgdma_write_register gives back the first that applies.
+pub write-in-order : WriteInOrder
+write-in-order = Rattle.chain_calls.proofs.Refused.write-in-order
+
+-- sgdma_line gives back the first that applies.
+pub line-in-order : LineInOrder
+line-in-order = Rattle.chain_calls.proofs.Refused.line-in-order
+
+-- sgdma_run gives back the first that applies.
+pub run-in-order : RunInOrder
+run-in-order = Rattle.chain_calls.proofs.Refused.run-in-order
+
+-- sgdma_build_descriptor gives back the first that applies.
+pub build-in-order : BuildInOrder
+build-in-order = Rattle.chain_calls.proofs.Refused.build-in-order
+
+-- sgdma_read_descriptor gives back the first that applies.
+pub descriptor-in-order : DescriptorInOrder
+descriptor-in-order = Rattle.chain_calls.proofs.Refused.descriptor-in-order
+
+-- ---- "A refused call returns its number and nothing else": what a call may write is left as it was lent
+
+-- sgdma_create, refused, leaves the image.
+pub create-unchanged : CreateUnchanged
+create-unchanged = Rattle.chain_calls.proofs.Unchanged.create-unchanged
+
+-- sgdma_read_register, refused, leaves the value.
+pub read-unchanged : ReadUnchanged
+read-unchanged = Rattle.chain_calls.proofs.Unchanged.read-unchanged
+
+-- sgdma_write_register, refused, leaves the image.
+pub write-unchanged : WriteUnchanged
+write-unchanged = Rattle.chain_calls.proofs.Unchanged.write-unchanged
+
+-- sgdma_line, refused, leaves the value.
+pub line-unchanged : LineUnchanged
+line-unchanged = Rattle.chain_calls.proofs.Unchanged.line-unchanged
+
+-- sgdma_run, refused, leaves image, window, output, ledger and report.
+pub run-unchanged : RunUnchanged
+run-unchanged = Rattle.chain_calls.proofs.Unchanged.run-unchanged
+
+-- sgdma_build_descriptor, refused, leaves the window.
+pub build-unchanged : BuildUnchanged
+build-unchanged = Rattle.chain_calls.proofs.Unchanged.build-unchanged
+
+-- sgdma_read_descriptor, refused, leaves the answer.
+pub descriptor-unchanged : DescriptorUnchanged
+descriptor-unchanged = Rattle.chain_calls.proofs.Unchanged.descriptor-unchanged
+
+-- ======== demand 2: registers, descriptors, bytes, status and interrupts, step for step
+
+-- ---- runs
+
+-- A run of a + b is a run of a followed by one of b.
+pub run-add : RunAdd
+run-add = Rattle.machine.proofs.RunLaws.run-add
+
+-- A run tells its steps, its reason, its beats and its records as the step rule makes them, and stays within the budget.
+pub run-tells : RunTells
+run-tells = Rattle.machine.proofs.RunLaws.run-tells
+
+-- Budget is given only if another step was possible.
+pub budget-only : BudgetOnly
+budget-only = Rattle.machine.proofs.RunLaws.budget-only
+
+-- Two runs through sgdma_run, with budgets a and b, do what one of a + b does.
+pub two-runs-add : TwoRunsAdd
+two-runs-add = Rattle.chain_calls.proofs.TwoRuns.two-runs-add
+
+-- A machine that keeps the rules is resumed as it is run.
+pub resumed-runs : ResumedRuns
+resumed-runs = Rattle.machine.proofs.Outcomes.resumed-runs
+
+-- ---- steps
+
+-- A step leaves mode and window, takes beats from the front, and makes beats and records at the end, within the room.
+pub step-passed : StepPassed
+step-passed = Rattle.machine.proofs.StepLaws.step-passed
+
+-- A step leaves every byte of memory but those that it names.
+pub step-spares : StepSpares
+step-spares = Rattle.machine.proofs.StepLaws.step-spares
+
+-- Bytes moved at once are as many steps: one law over the modes.
+pub row-steps : RowSteps
+row-steps = Rattle.machine.proofs.InRows.row-steps
+
+-- The row of mode 0.
+pub copy-steps : CopySteps
+copy-steps = Rattle.machine.proofs.InRows.copy-steps
+
+-- The row of mode 1.
+pub send-steps : SendSteps
+send-steps = Rattle.machine.proofs.InRows.send-steps
+
+-- The row of mode 2.
+pub receive-steps : ReceiveSteps
+receive-steps = Rattle.machine.proofs.InRows.receive-steps
+
+-- The place found is the address less the base, and place + n is within the window's length.
+pub located-is : LocatedIs
+located-is = Rattle.bus.proofs.Limits.located-is
+
+-- ---- faults
+
+-- No step is taken in Faulted: a run of any budget ends at once, with that reason.
+pub faulted-stands : FaultedStands
+faulted-stands = Rattle.met.proofs.Faults.faulted-stands
+
+-- Only reset leaves Faulted: every other register write keeps it.
+pub only-reset-leaves : OnlyResetLeaves
+only-reset-leaves = Rattle.met.proofs.Faults.only-reset-leaves
+
+-- ---- descriptors are read in Fetch alone, and control bits 3 to 6 have no effect
+
+-- A descriptor is read only in its own Fetch: in every other phase the window's bytes do not show in the machine.
+pub read-in-fetch-alone : ReadInFetchAlone
+read-in-fetch-alone = Rattle.met.proofs.Reading.read-in-fetch-alone
+
+-- In Fetch the descriptor is kept, or not, as under another control with the same use.
+pub no-effect-in-fetch : NoEffectInFetch
+no-effect-in-fetch = Rattle.met.proofs.Unused.no-effect-in-fetch
+
+-- In Move the step is the same, but for the control that is kept.
+pub no-effect-in-move : NoEffectInMove
+no-effect-in-move = Rattle.met.proofs.Unused.no-effect-in-move
+
+-- In WriteBack it is the same, but for the control that is written.
+pub no-effect-in-write-back : NoEffectInWriteBack
+no-effect-in-write-back = Rattle.met.proofs.Unused.no-effect-in-write-back
+
+-- Bits 3 to 6 are written back as given.
+pub kept-as-given : KeptAsGiven
+kept-as-given = Rattle.met.proofs.Unused.kept-as-given
+
+-- ---- images
+
+-- An image is read as fields exactly when it has 44 bytes, the fields keep the rules and it is their image.
+pub read-exactly : ReadExactly
+read-exactly = Rattle.image.proofs.Answers.read-exactly
+
+-- Bytes load as m exactly when m keeps the rules and they are its image.
+pub loads-exactly : LoadsExactly
+loads-exactly = Rattle.met.proofs.RoundTrip.loads-exactly
+
+-- A loaded image saved again gives the same bytes.
+pub saved-again : SavedAgain
+saved-again = Rattle.met.proofs.RoundTrip.saved-again
+
+-- A machine that keeps the rules saves to an image that loads back as it.
+pub loads-back : LoadsBack
+loads-back = Rattle.met.proofs.RoundTrip.loads-back
+
+-- Every register write takes a machine that keeps the rules to one that keeps them.
+pub write-keeps : WriteKeeps
+write-keeps = Rattle.met.proofs.Writes.write-keeps
+
+-- So does every step.
+pub step-keeps : StepKeeps
+step-keeps = Rattle.met.proofs.Steps.step-keeps
+
+-- So does every run.
+pub run-keeps : RunKeeps
+run-keeps = Rattle.met.proofs.Steps.run-keeps
+
+-- Every machine met in use keeps the rules.
+pub met-keeps : MetKeeps
+met-keeps = Rattle.met.proofs.InUse.met-keeps
+
+-- Every machine met in use saves to an image that loads back as it.
+pub met-saves : MetSaves
+met-saves = Rattle.met.proofs.InUse.met-saves
+
+-- Every image that the C calls leave, from one created or one that loads, loads back, so that 8 never applies to it.
+pub images-load : ImagesLoad
+images-load = Rattle.chain_calls.proofs.Images.images-load
+
+-- ---- descriptors as bytes
+
+-- The bytes that the builder writes are 32.
+pub length-job : LengthJob
+length-job = Rattle.descriptor.proofs.Writing.length-job
+
+-- Each named field stands at its offset.
+pub by-offset : ByOffset
+by-offset = Rattle.descriptor.proofs.Reading.by-offset
+
+-- Read after build gives the same fields.
+pub read-after-build : ReadAfterBuild
+read-after-build = Rattle.descriptor.proofs.RoundTrip.read-after-build
+
+-- Build after read gives the same bytes exactly when reserved, actual and status bytes were zero.
+pub build-after-read : BuildAfterRead
+build-after-read = Rattle.descriptor.proofs.RoundTrip.build-after-read
+
+-- ---- numbers as bytes
+
+-- Numbers of any widths, side by side, read at other widths and back are the same numbers.
+pub recode-back : RecodeBack
+recode-back = Rattle.words.proofs.Recode.recode-back
+
+-- A row of numbers in bytes, in either order, comes back from its bytes.
+pub row-back : RowBack
+row-back = Rattle.words.proofs.Orders.row-back
+
+-- The bytes of a row come back from its numbers.
+pub row-there : RowThere
+row-there = Rattle.words.proofs.Orders.row-there
+
+-- ---- the definitions held against the paper
+
+-- The eleven known runs of the paper.
+pub known-runs-hold : KnownRunsHold
+known-runs-hold = Rattle.known_runs.proofs.Claims.known-runs-hold
+
+-- Seventy-seven cases worked out by hand.
+pub worked-cases-hold : WorkedCasesHold
+worked-cases-hold = Rattle.known_runs.proofs.Claims.worked-cases-hold
+
+-- Each image rule, broken alone, is refused with 8 at its field, and the repaired twin is read.
+pub rows-hold : RowsHold
+rows-hold = Rattle.image_rows.specs.Rows.rows-hold
+
+-- One image byte by byte: the bytes that the fields are written as.
+pub sample-written : SampleWritten
+sample-written = Rattle.image_rows.specs.Rows.sample-written
+
+-- And the fields that the bytes are read as.
+pub sample-read : SampleRead
+sample-read = Rattle.image_rows.specs.Rows.sample-read
+
+-- ======== demand 3: what one run makes of a chain of descriptors and of a stream
+
+-- ---- of the definitions
+
+-- Demand 3, with budget enough.
+pub chain-theorem : ChainTheorem
+chain-theorem = Rattle.chain.proofs.Theorem.chain-theorem
+
+-- Demand 3, after every step.
+pub chain-at-every-step : ChainAtEveryStep
+chain-at-every-step = Rattle.chain.proofs.Theorem.chain-at-every-step
+
+-- The records made are those of the k, in order.
+pub chain-records : ChainRecords
+chain-records = Rattle.chain.proofs.Theorem.chain-records
+
+-- A budget of 32 bits that is enough exists.
+pub budget-exists : BudgetExists
+budget-exists = Rattle.chain.proofs.Enough.budget-exists
+
+-- ---- of the calls in Rattle: fresh, two register writes, one run
+
+-- Demand 3, with budget enough.
+pub chain-of-run : ChainOfRun
+chain-of-run = Rattle.chain.proofs.OfRun.chain-of-run
+
+-- Demand 3, after every step.
+pub chain-of-run-at-every-step : ChainOfRunAtEveryStep
+chain-of-run-at-every-step = Rattle.chain.proofs.OfRun.chain-of-run-at-every-step
+
+-- ---- of the C calls: sgdma_create, sgdma_write_register twice, sgdma_run
+
+-- Every number that they give back is 0.
+pub none-refused : NoneRefused
+none-refused = Rattle.chain_calls.proofs.OfCalls.none-refused
+
+-- Demand 3, with budget enough: every lent byte after them.
+pub chain-of-calls : ChainOfCalls
+chain-of-calls = Rattle.chain_calls.proofs.OfCalls.chain-of-calls
+
+-- Demand 3, after every step.
+pub chain-of-calls-at-every-step : ChainOfCallsAtEveryStep
+chain-of-calls-at-every-step = Rattle.chain_calls.proofs.OfCalls.chain-of-calls-at-every-step
+
+-- ---- its premises can be met
+
+-- Known run 1 meets them; in numbers.
+pub known-run-1 : KnownRun1
+known-run-1 = Rattle.chain.proofs.Instances.known-run-1
+
+-- A chain of three meets them, with an EOP in the second and a fixed destination in the third; in numbers.
+pub chain-of-three : ChainOfThree
+chain-of-three = Rattle.chain.proofs.Instances.chain-of-three
+
+-- Known run 1 through the C calls: the numbers, all 44 bytes of the image, the window's 256, the report's 18, the ledger's 12.
+pub known-run-1-in-c : KnownRun1InC
+known-run-1-in-c = Rattle.chain_calls.proofs.Instances.known-run-1-in-c
+
+-- ---- the ledger
+
+-- From a fresh machine in mode 2 on, the bytes that the records tell, those in hand and those abandoned are the beats taken.
+pub session-adds : SessionAdds
+session-adds = Rattle.sums.proofs.Sessions.session-adds
+
+-- ======== what the promises owe: the useless models, of sgdma_run
+
+-- The promise can be kept: one model keeps it.
+pub honest-keeps : HonestKeeps
+honest-keeps = Rattle.chain_calls.proofs.NoneUseless.honest-keeps
+
+-- "The one that refuses everything" does not.
+pub refuser-fails : RefuserFails
+refuser-fails = Rattle.chain_calls.proofs.NoneUseless.refuser-fails
+
+-- "The one with one fixed answer" does not.
+pub fixed-fails : FixedFails
+fixed-fails = Rattle.chain_calls.proofs.NoneUseless.fixed-fails
+
+-- "The one that never moves" does not.
+pub never-moving-fails : NeverMovingFails
+never-moving-fails = Rattle.chain_calls.proofs.NoneUseless.never-moving-fails
+
+-- "The one that does the first descriptor honestly and only marks the others" does not.
+pub marker-fails : MarkerFails
+marker-fails = Rattle.chain_calls.proofs.NoneUseless.marker-fails
+
+-- One with "a made-up step count" does not.
+pub made-up-fails : MadeUpFails
+made-up-fails = Rattle.chain_calls.proofs.NoneUseless.made-up-fails
