@@ -15,7 +15,8 @@ use Rattle.chain.specs.Known.{InNumbers, known, three}
 
 -- ---- of the definitions
 
--- Demand 3, with budget enough.
+-- Demand 3, with budget enough: "it stops after exactly 2 steps plus, for each of the k, its bytes and 2 more", and all that holds at the
+-- end.
 abbrev pub ChainTheorem : Type 0
 ChainTheorem = (g : Given) → Premises g → (budget : ℕ) → 2 + cost (shares g) ≤ budget
     → Outcome g (ranAs (g .used) (worldFor g) (run budget (worldFor g))) (run budget (worldFor g) .world .memory)
@@ -25,7 +26,8 @@ abbrev pub ChainRecords : Type 0
 ChainRecords = (g : Given) → Premises g → (budget : ℕ) → 2 + cost (shares g) ≤ budget
     → run budget (worldFor g) .world .records ≡ recordsOf (shares g)
 
--- Demand 3, after every step.
+-- Demand 3, after every step: "those of the k marked done are the first few of the chain, each with the count of bytes the stream gave
+-- it".
 abbrev pub ChainAtEveryStep : Type 0
 ChainAtEveryStep = (g : Given) → Premises g → AtEveryStep g
 

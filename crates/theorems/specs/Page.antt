@@ -299,11 +299,11 @@ sample-read = Rattle.image_rows.specs.Rows.sample-read
 
 -- ---- of the definitions
 
--- Demand 3, with budget enough.
+-- "With budget enough it stops after exactly 2 steps plus, for each of the k, its bytes and 2 more": all that holds at the end.
 pub chain-theorem : ChainTheorem
 chain-theorem = Rattle.chain.proofs.Theorem.chain-theorem
 
--- Demand 3, after every step.
+-- "After every step those of the k marked done are the first few of the chain, each with the count of bytes the stream gave it".
 pub chain-at-every-step : ChainAtEveryStep
 chain-at-every-step = Rattle.chain.proofs.Theorem.chain-at-every-step
 
@@ -317,11 +317,11 @@ budget-exists = Rattle.chain.proofs.Enough.budget-exists
 
 -- ---- of the calls in Rattle: fresh, two register writes, one run
 
--- Demand 3, with budget enough.
+-- With budget enough the run is done, with that outcome; the output is unchanged, and the ledger holds the records of the k.
 pub chain-of-run : ChainOfRun
 chain-of-run = Rattle.chain.proofs.OfRun.chain-of-run
 
--- Demand 3, after every step.
+-- With any budget those marked done are the first few.
 pub chain-of-run-at-every-step : ChainOfRunAtEveryStep
 chain-of-run-at-every-step = Rattle.chain.proofs.OfRun.chain-of-run-at-every-step
 
@@ -331,11 +331,11 @@ chain-of-run-at-every-step = Rattle.chain.proofs.OfRun.chain-of-run-at-every-st
 pub none-refused : NoneRefused
 none-refused = Rattle.chain_calls.proofs.OfCalls.none-refused
 
--- Demand 3, with budget enough: every lent byte after them.
+-- With budget enough that outcome, and every byte of the report, the image, the output and the ledger after them.
 pub chain-of-calls : ChainOfCalls
 chain-of-calls = Rattle.chain_calls.proofs.OfCalls.chain-of-calls
 
--- Demand 3, after every step.
+-- With any budget those marked done are the first few, the image loads back, and a budget not enough is spent.
 pub chain-of-calls-at-every-step : ChainOfCallsAtEveryStep
 chain-of-calls-at-every-step = Rattle.chain_calls.proofs.OfCalls.chain-of-calls-at-every-step
 
