@@ -2,24 +2,23 @@
 -- takes more than 65,535 beats.
 -- Assumes nothing.
 use Prim.Native.Nat.{ℕ, zero, suc, _+_, _-_, _*_, _≤_, _<_}
-use mathlib.Core.Path.{_≡_, refl, sym, ap}
+use mathlib.Core.Path.{_≡_, refl, sym}
 use mathlib.Core.Bool.{Bool, true, false}
-use mathlib.Core.List.{List, [], _∷_, _++_}
+use mathlib.Core.List.{List, [], _∷_}
 use native.Mathlib.Omega.{arith}
 use lib.Dec.{leb}
 use lib.ListN.{length, drop, length-append}
 use borrow.Author.Tests.{leb-true, leb-false, le-leb, lt-leb}
 use Rattle.words.specs.Bits.{flag}
-use Rattle.bus.specs.declared.Window.{Window}
 use Rattle.bus.specs.Window.{keepsLimits, inWindow}
 use Rattle.image.proofs.Tests.{and-left}
-use Rattle.chain.specs.Chain.{All, Pairwise, Link, linksFrom, links, last, everyLink, Apart, wants, takes, Enough, sharesOf, cost}
+use Rattle.chain.specs.Chain.{All, Pairwise, Link, links, last, everyLink, Apart, wants, takes, Enough, sharesOf, cost}
 use Rattle.chain.specs.Theorems.{BudgetExists}
 use Rattle.chain.proofs.Lists.{all-map, all-left}
 use Rattle.chain.proofs.Memory.{Placed, placed}
 use Rattle.chain.proofs.Links.{wants-some, wants-short, all-bytes, links-short}
 use Rattle.chain.proofs.Moves.{takes-taken, takes-fit}
-use Rattle.chain.proofs.Theorem.{chain-theorem}
+use Rattle.chain.proofs.Theorem.{length-links, chain-theorem}
 
 -- ---- how many descriptors without a byte in common there are
 
@@ -84,11 +83,6 @@ at-most lo zero ls a b = rw (let z : lo + 32 * 0 ≡ lo = omega arith in z) (ome
 at-most lo (suc m) ls a b =
     rw (let z : lo + 32 * suc m ≡ lo + 32 * m + 32 = omega arith in z) (omega (arith, one-more (lo + 32 * m) ls a, at-most lo m ls a b))
 
--- k links and the one at their end
-length-every : (w : Window) (m : List ℕ) (a k : ℕ) (e : Link) → length (linksFrom w m a k ++ e ∷ []) ≡ suc k
-length-every w m a zero e = refl
-length-every w m a (suc k) e = ap suc (length-every w m _ k e)
-
 -- ---- what they cost
 
 cost-most : (ls : List Link) (bs : List ℕ) → Enough ls bs → All (λ l. l .says .length < 65536) ls → cost (sharesOf ls bs) ≤ 65537 * length ls
@@ -111,7 +105,7 @@ budget-exists g h limits =
     let all : before (w .base + 32 * 2048) (everyLink g) ≡ length (everyLink g) =
     all-before (w .base + 32 * 2048) (everyLink g) (all-map (λ l p. omega arith) (everyLink g) stand) in
     let most = at-most (w .base) 2048 (everyLink g) (h .apart) (all-map (λ l p. p .low) (everyLink g) stand) in
-    let every = length-every w (g .memory) (g .pointer) (g .k) (last g) in
+    let owned = length-links w (g .memory) (g .pointer) (g .k) in
     let own : length (links g) + 1 ≡ length (everyLink g) = sym (length-append (links g) (last g ∷ [])) in
     let short = links-short w (g .memory) (g .pointer) (g .k) (all-bytes (g .memory) (h .bytes)) (h .lent)
     (all-left (λ l. inWindow w (l .at) 32 ≡ true) (links g) (last g ∷ []) (h .inside)) in

@@ -45,7 +45,7 @@ counts-given : (w : Window) (m : List ℕ) (ls : List Link) (bs : List ℕ) → 
 counts-given w m [] bs a = refl
 counts-given w m (l ∷ ls) bs a = ap₂ _+_ (a .0 .count) (counts-given w m ls _ (a .1))
 
-length-links : (w : Window) (m : List ℕ) (a n : ℕ) → length (linksFrom w m a n) ≡ n
+pub length-links : (w : Window) (m : List ℕ) (a n : ℕ) → length (linksFrom w m a n) ≡ n
 length-links w m a zero = refl
 length-links w m a (suc n) = ap suc (length-links w m _ n)
 
