@@ -2,7 +2,7 @@
 // refusal numbers, of which the check gives the first.
 ghost use Rattle.words.specs.Promise.{Gives};
 ghost use Rattle.bus.specs.Refusal.{refusalNumber};
-ghost use Rattle.bus.specs.Window.{Checked, Sought};
+ghost use Rattle.bus.specs.Window.{inWindow, Checked, Sought};
 
 // Why a call is refused, in the order of the paper's table.
 pub enum Refusal {
@@ -59,16 +59,34 @@ pub enum Located {
     Outside,
 }
 
-// The lent bytes' place on the bus: `length` of them, the first at `base`.
+// The lent bytes' place on the bus: `length` of them, the first at `base`. Both are private, so that nothing but the check of the
+// limits makes one.
 pub struct Window {
-    pub base: u32,
-    pub length: u32,
+    base: u32,
+    length: u32,
 }
 
 // A window within the limits, or BadWindow.
 pub enum CheckedWindow {
     Good(Window),
     Refused(Refusal),
+}
+
+// Whether `n` bytes at an address lie among `length` bytes at `base`. No sum of addresses is taken, so none can wrap.
+pub fn lies_in(base: u32, length: u32, address: BusAddress, n: u64) -> bool
+    ensures { λ r. ⌜ Gives (inWindow (record { base = base; length = length }) (address .0) n) r ⌝ }
+{
+    let first = base as u64;
+    let size = length as u64;
+    let a = address.0;
+    if a < first {
+        return false;
+    }
+    let offset = a - first;
+    if size < offset {
+        return false;
+    }
+    n <= size - offset
 }
 
 impl Window {
@@ -97,23 +115,30 @@ impl Window {
         })
     }
 
-    // Where `n` bytes at an address lie. No sum of addresses is taken, so none can wrap.
+    // The address of its first byte.
+    pub fn base(self) -> u32
+        ensures { λ r. ⌜ Gives (self .base) r ⌝ }
+    {
+        self.base
+    }
+
+    // How many bytes it has.
+    pub fn size(self) -> u32
+        ensures { λ r. ⌜ Gives (self .length) r ⌝ }
+    {
+        self.length
+    }
+
+    // Where `n` bytes at an address lie.
     pub fn locate(self, address: BusAddress, n: u64) -> Located
         ensures { λ r. ⌜ Sought self (address .0) n r ⌝ }
     {
+        if !lies_in(self.base, self.length, address, n) {
+            return Located::Outside;
+        }
         let base = self.base as u64;
-        let length = self.length as u64;
         let a = address.0;
-        if a < base {
-            return Located::Outside;
-        }
         let offset = a - base;
-        if length < offset {
-            return Located::Outside;
-        }
-        if length - offset < n {
-            return Located::Outside;
-        }
         Located::At(Place(offset as usize))
     }
 }

@@ -17,7 +17,7 @@ use Rattle.image.specs.declared.WroteImage.{WroteImage}
 use Rattle.image.specs.declared.WroteImage.the-variants as wrote
 use Rattle.image.specs.Layout.{values, widths, image, fields, Typed}
 use Rattle.image.specs.Rules.{lowestBroken, keepsRules}
-use Rattle.image.specs.Promise.{sized, readOf, wroteOf, imageOver, fits, imagePut, readNumber, wroteNumber, imageNumber, WasRead, Wrote}
+use Rattle.image.specs.Promise.{sized, readOf, wroteOf, imageOver, fits, putOf, imagePut, readNumber, wroteNumber, imageNumber, WasRead, Wrote, WasPut}
 use Rattle.image.specs.Theorems.{ReadExactly}
 use Rattle.image.proofs.Facts.{edition-is, mode-le, phase-le, fault-le, rest-is}
 use Rattle.image.proofs.RoundTrip.{length-image, fields-image, image-fields, fields-fit}
@@ -103,14 +103,14 @@ read-exactly xs f g t = (there, back)
 
 -- ---- writing
 
+answer-number : (t k : Bool) → wroteNumber (cond t (cond k wrote.Done (wrote.Refused BadImage)) (wrote.Refused BadSize)) ≡ imageNumber t k
+answer-number true true = refl
+answer-number true false = refl
+answer-number false k = refl
+
 pub was-wrote : {f : Fields} {xs ys : List ℕ} {r : WroteImage} → r ≡ wroteOf f xs → ys ≡ imageOver f xs → Wrote f xs r ys
 unfolding wroteOf
-was-wrote {f} {xs} e h = record { answer = e; number = ap wroteNumber e ∙ number (sized xs) (keepsRules f); lent = h }
-  where
-    number : (t k : Bool) → wroteNumber (cond t (cond k wrote.Done (wrote.Refused BadImage)) (wrote.Refused BadSize)) ≡ imageNumber t k
-    number true true = refl
-    number true false = refl
-    number false k = refl
+was-wrote {f} {xs} e h = record { answer = e; number = ap wroteNumber e ∙ answer-number (sized xs) (keepsRules f); lent = h }
 
 module _ (f : Fields) (xs : List ℕ) where
   pub wrote-size : (length xs ≡ 44 → ⊥) → Wrote f xs (wrote.Refused BadSize) xs
@@ -138,18 +138,27 @@ keeps-fits f e = rw (
   rest-is f e,
 )
 
+was-put : {f : Fields} {xs ys : List ℕ} {r : WroteImage} → r ≡ putOf f xs → ys ≡ imagePut f xs → WasPut f xs r ys
+unfolding putOf
+was-put {f} {xs} e h = record { answer = e; number = ap wroteNumber e ∙ answer-number (sized xs) (fits f); lent = h }
+
 module _ (f : Fields) (xs : List ℕ) where
-  pub put-size : (length xs ≡ 44 → ⊥) → imagePut f xs ≡ xs
-  unfolding imagePut
-  put-size h = rw (ne-eqb (length xs) 44 h)
+  pub put-size : (length xs ≡ 44 → ⊥) → WasPut f xs (wrote.Refused BadSize) xs
+  unfolding putOf imagePut
+  put-size h = was-put (rw (ne-eqb (length xs) 44 h)) (rw (ne-eqb (length xs) 44 h))
 
-  pub put-wide : length xs ≡ 44 → fits f ≡ false → imagePut f xs ≡ xs
-  unfolding imagePut
-  put-wide l h = rw (eq-eqb (length xs) 44 l, h)
+  pub put-wide : length xs ≡ 44 → fits f ≡ false → WasPut f xs (wrote.Refused BadImage) xs
+  unfolding putOf imagePut
+  put-wide l h = was-put (rw (eq-eqb (length xs) 44 l, h)) (rw (eq-eqb (length xs) 44 l, h))
 
-  pub put-fits : length xs ≡ 44 → fits f ≡ true → imagePut f xs ≡ image f
-  unfolding imagePut
-  put-fits l h = rw (eq-eqb (length xs) 44 l, h)
+  module _ (l : length xs ≡ 44) (h : fits f ≡ true) where
+    pub put-fits : imagePut f xs ≡ image f
+    unfolding imagePut
+    put-fits = rw (eq-eqb (length xs) 44 l, h)
+
+    pub put-done : (ys : List ℕ) → ys ≡ image f → WasPut f xs wrote.Done ys
+    unfolding putOf
+    put-done ys e = was-put (rw (eq-eqb (length xs) 44 l, h)) (e ∙ sym put-fits)
 
 -- what a done answer tells
 done-from : (t k : Bool) → wrote.Done ≡ cond t (cond k wrote.Done (wrote.Refused BadImage)) (wrote.Refused BadSize) → (t ≡ true) × (k ≡ true)

@@ -37,8 +37,11 @@ imageOver f xs = cond (sized xs && keepsRules f) (image f) xs
 unfoldable pub fits : Fields → Bool
 fits f = zeroFrom 4 (f .edition) && zeroFrom 2 (f .mode) && zeroFrom 3 (f .phase) && zeroFrom 5 (f .fault) && zeroFrom 15 (f .rest)
 
--- the lent bytes after fields were put that may break a rule: the image, or what they were where the size is wrong or a number
--- does not fit
+-- fields are put that may break a rule: 7 where the size is wrong; else 8 where a number does not fit its width; else done
+unfoldable pub putOf : Fields → List ℕ → WroteImage
+putOf f xs = cond (sized xs) (cond (fits f) wrote.Done (wrote.Refused BadImage)) (wrote.Refused BadSize)
+
+-- the lent bytes after: the image, or what they were where the call is refused
 unfoldable pub imagePut : Fields → List ℕ → List ℕ
 imagePut f xs = cond (sized xs && fits f) (image f) xs
 
@@ -68,8 +71,17 @@ pub record Wrote (f : Fields) (xs : List ℕ) (r : WroteImage) (xs' : List ℕ) 
   pub number : wroteNumber r ≡ imageNumber (sized xs) (keepsRules f)
   pub lent : xs' ≡ imageOver f xs
 
+-- put
+pub record WasPut (f : Fields) (xs : List ℕ) (r : WroteImage) (xs' : List ℕ) : Type 0 where
+  pub answer : r ≡ putOf f xs
+  pub number : wroteNumber r ≡ imageNumber (sized xs) (fits f)
+  pub lent : xs' ≡ imagePut f xs
+
 pub read-unique : {xs : List ℕ} {r s : ReadImage} → WasRead xs r → WasRead xs s → r ≡ s
 read-unique p q = p .answer ∙ sym (q .answer)
 
 pub wrote-unique : {f : Fields} {xs ys zs : List ℕ} {r s : WroteImage} → Wrote f xs r ys → Wrote f xs s zs → (r ≡ s) × (ys ≡ zs)
 wrote-unique p q = (p .answer ∙ sym (q .answer), p .lent ∙ sym (q .lent))
+
+pub put-unique : {f : Fields} {xs ys zs : List ℕ} {r s : WroteImage} → WasPut f xs r ys → WasPut f xs s zs → (r ≡ s) × (ys ≡ zs)
+put-unique p q = (p .answer ∙ sym (q .answer), p .lent ∙ sym (q .lent))

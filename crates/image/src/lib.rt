@@ -7,17 +7,17 @@ ghost use Rattle.words.specs.Numbers.{join, Fit};
 ghost use Rattle.words.specs.Promise.{Gives, Leaves};
 ghost use Rattle.words.specs.Slices.{numberAt};
 ghost use Rattle.words.specs.declared.Order.the-variants.{MostFirst};
-ghost use Rattle.bus.specs.Window.{keepsLimits, inWindow};
+ghost use Rattle.bus.specs.Window.{keepsLimits};
 ghost use Rattle.image.specs.Layout.{values, widths, image, fields};
 ghost use Rattle.image.specs.InGroups.{coreKept, handKept, nothingKept};
 ghost use Rattle.image.specs.InWords.{headWidths, sizesWidths, doneWidths, ofWords};
 ghost use Rattle.image.specs.Rules.{zeroOutside, phaseKept, faultKept, statusKept, controlKept, addressKept, sizeKept, dcontrolKept, errorsKept, asked, movedKept, eopKept, rules, firstFalse, lowestBroken, keepsRules};
-ghost use Rattle.image.specs.Promise.{fits, imagePut, WasRead, Wrote};
+ghost use Rattle.image.specs.Promise.{fits, WasRead, Wrote, WasPut};
 use bus::BusAddress;
 use bus::CheckedWindow;
-use bus::Located;
 use bus::Refusal;
 use bus::Window;
+use bus::lies_in;
 use descriptor::DescControl;
 use regs::Control;
 use regs::Status;
@@ -128,27 +128,13 @@ fn limits_kept(base: u32, window: u32) -> bool
     }
 }
 
-// Whether a descriptor at the address is wholly in the window.
-fn in_window(base: u32, window: u32, address: u32) -> bool
-    ensures { λ r. ⌜ r ≡ inWindow (record { base = base; length = window }) address 32 ⌝ }
-{
-    let w = Window {
-        base,
-        length: window,
-    };
-    match w.locate(BusAddress(address as u64), 32) {
-        Located::At(_) => true,
-        Located::Outside => false,
-    }
-}
-
 fn address_kept(hand: bool, base: u32, window: u32, address: u32) -> bool
     ensures { λ r. ⌜ r ≡ addressKept hand base window address ⌝ }
 {
     if !hand {
         return address == 0;
     }
-    let inside = in_window(base, window, address);
+    let inside = lies_in(base, window, BusAddress(address as u64), 32);
     (address % 4 == 0) & inside
 }
 
@@ -500,15 +486,18 @@ fn fit(f: Fields) -> bool
 }
 
 // Writes the image of fields, whether they keep the rules or not: for a caller that knows that they do. Where the size is wrong or
-// a number does not fit its width nothing is written.
-pub fn put(f: Fields, to: &mut [u8])
-    ensures { λ _. ⌜ Leaves (imagePut f (now (to .entry))) (now (to .exit)) ⌝ }
+// a number does not fit its width it is refused, and nothing is written.
+pub fn put(f: Fields, to: &mut [u8]) -> WroteImage
+    ensures { λ r. ⌜ WasPut f (now (to .entry)) r (now (to .exit)) ⌝ }
 {
-    if to.len() != SIZE {
-        return;
+    if to.len() == SIZE {
+        if fit(f) {
+            pack(f, to);
+            WroteImage::Done
+        } else {
+            WroteImage::Refused(Refusal::BadImage)
+        }
+    } else {
+        WroteImage::Refused(Refusal::BadSize)
     }
-    if !fit(f) {
-        return;
-    }
-    pack(f, to);
 }

@@ -1,7 +1,7 @@
 -- What a call answers, from what it learnt.
 -- Assumes nothing.
 use Prim.Native.Nat.{ℕ}
-use mathlib.Core.Path.{_≡_, refl, sym, ap, _∙_}
+use mathlib.Core.Path.{_≡_, refl, ap, _∙_}
 use mathlib.Core.Bool.{Bool, true, false, cond, _&&_}
 use mathlib.Core.List.{List}
 use lib.Dec.{eqb}
@@ -15,14 +15,16 @@ use Rattle.image.specs.declared.ReadImage.{ReadImage}
 use Rattle.image.specs.declared.ReadImage.the-variants as read
 use Rattle.image.specs.declared.WroteImage.{WroteImage}
 use Rattle.image.specs.declared.WroteImage.the-variants as wrote
-use Rattle.image.specs.Promise.{Wrote, readOf, wroteOf, imageOver, readNumber, wroteNumber}
+use Rattle.image.specs.Promise.{Wrote, readOf, wroteOf, imageOver, imagePut, readNumber, wroteNumber}
+use Rattle.image.specs.Promise as image
 use Rattle.machine.specs.declared.Machine.{Machine}
 use Rattle.machine.specs.declared.LoadedMachine.{LoadedMachine}
+use Rattle.machine.specs.declared.SavedMachine.{SavedMachine}
 use Rattle.machine.specs.declared.registers.WroteRegister.{WroteRegister}
 use Rattle.machine.specs.declared.registers.WroteRegister.the-variants as done
 use Rattle.machine.specs.declared.registers.Line.{Line}
 use Rattle.machine.specs.declared.registers.Line.the-variants as line
-use Rattle.machine.specs.Saved.{fieldsOf, keeps, loadedAs, loadOf, savedAs, saveOf, loadNumber, saveNumber, WasLoaded, WasSaved}
+use Rattle.machine.specs.Saved.{fieldsOf, keeps, loadedAs, loadOf, savedAs, saveOf, putOf, loadNumber, saveNumber, WasLoaded, WasSaved, WasPut}
 use Rattle.machine.specs.Registers.{writtenTo, writeOf, lineOf, lineNumber, registerNumber, WasWritten, WasLine}
 use Rattle.machine.specs.Registers as registers
 use Rattle.machine.specs.Step.{World, Answer, taken, stopped}
@@ -46,15 +48,26 @@ saved-number : (a : WroteImage) → saveNumber (savedAs a) ≡ wroteNumber a
 saved-number wrote.Done = refl
 saved-number (wrote.Refused why) = refl
 
-pub was-saved : {m : Machine} {xs ys : List ℕ} {f : Fields} {w v : WroteImage}
-    → f ≡ fieldsOf m → Wrote f xs w ys → w ≡ v → WasSaved m xs (savedAs v) ys
-unfolding saveOf
-was-saved {m} {xs} {ys} {f} {w} {v} e p q =
-    record {
-      answer = ap savedAs (sym q ∙ p .answer ∙ ap (λ (g : Fields). wroteOf g xs) e);
-      number = saved-number v ∙ ap wroteNumber (sym q ∙ p .answer ∙ ap (λ (g : Fields). wroteOf g xs) e);
-      lent = p .lent ∙ ap (λ (g : Fields). imageOver g xs) e;
-    }
+module _ {m : Machine} {xs ys : List ℕ} {f : Fields} {w : WroteImage} {r : SavedMachine} (e : f ≡ fieldsOf m) where
+  pub was-saved : Wrote f xs w ys → r ≡ savedAs w → WasSaved m xs r ys
+  unfolding saveOf
+  was-saved p q =
+      let is : w ≡ wroteOf (fieldsOf m) xs = p .answer ∙ ap (λ (g : Fields). wroteOf g xs) e in
+      record {
+        answer = q ∙ ap savedAs is;
+        number = ap saveNumber q ∙ saved-number w ∙ ap wroteNumber is;
+        lent = p .lent ∙ ap (λ (g : Fields). imageOver g xs) e;
+      }
+
+  pub was-put : image.WasPut f xs w ys → r ≡ savedAs w → WasPut m xs r ys
+  unfolding putOf
+  was-put p q =
+      let is : w ≡ image.putOf (fieldsOf m) xs = p .answer ∙ ap (λ (g : Fields). image.putOf g xs) e in
+      record {
+        answer = q ∙ ap savedAs is;
+        number = ap saveNumber q ∙ saved-number w ∙ ap wroteNumber is;
+        lent = p .lent ∙ ap (λ (g : Fields). imagePut g xs) e;
+      }
 
 -- ---- the registers and the line
 

@@ -12,7 +12,7 @@ use Rattle.machine.specs.declared.Phase.{Phase}
 use Rattle.machine.specs.declared.Phase.the-variants.{Rest, Fetch, Move, WriteBack, Ended, Halted, Faulted}
 use Rattle.machine.specs.Saved.{keeps}
 use Rattle.machine.specs.State.{withControl, rested, fresh}
-use Rattle.machine.specs.Registers.{stored, released, controlWritten, writtenTo, writeOf}
+use Rattle.machine.specs.Registers.{stored, released, controlWritten, writtenTo, wroteTo, writeOf}
 use Rattle.machine.specs.Turns.{stands}
 
 -- RUN 0 leads to Rest from the phases that stand, and leaves the others
@@ -60,14 +60,16 @@ module _ (v : ℕ) (m : Machine) where
 -- ---- a register write, by the tests that led there
 
 module _ (m : Machine) (offset v : ℕ) where
+  pub wrote-none : isRegister offset ≡ false → wrote.Refused NoRegister ≡ wroteTo m offset v
+  wrote-none r = rw r
+
+  pub wrote-done : {n : Machine} → isRegister offset ≡ true → n ≡ writtenTo m offset v → wrote.Done n ≡ wroteTo m offset v
+  wrote-done r e = rw r (ap wrote.Done e)
+
   pub write-broken : keeps m ≡ false → wrote.Refused BadImage ≡ writeOf m offset v
   unfolding writeOf
   write-broken k = rw k
 
-  pub write-none : keeps m ≡ true → isRegister offset ≡ false → wrote.Refused NoRegister ≡ writeOf m offset v
+  pub write-kept : keeps m ≡ true → wroteTo m offset v ≡ writeOf m offset v
   unfolding writeOf
-  write-none k r = rw (k, r)
-
-  pub write-done : {n : Machine} → keeps m ≡ true → isRegister offset ≡ true → n ≡ writtenTo m offset v → wrote.Done n ≡ writeOf m offset v
-  unfolding writeOf
-  write-done k r e = rw (k, r) (ap wrote.Done e)
+  write-kept k = rw k

@@ -51,10 +51,13 @@ controlWritten v m =
 abbrev pub writtenTo : Machine → (offset v : ℕ) → Machine
 writtenTo m offset v = chosen offset (statusWritten v m) (controlWritten v m) (withPointer v m) m
 
+-- 1 NoRegister: offset not 0, 4, 8
+abbrev pub wroteTo : Machine → (offset v : ℕ) → WroteRegister
+wroteTo m offset v = cond (isRegister offset) (wrote.Done (writtenTo m offset v)) (wrote.Refused NoRegister)
+
 -- a machine that breaks a rule comes before an offset that is none
 unfoldable pub writeOf : Machine → (offset v : ℕ) → WroteRegister
-writeOf m offset v =
-    cond (keeps m) (cond (isRegister offset) (wrote.Done (writtenTo m offset v)) (wrote.Refused NoRegister)) (wrote.Refused BadImage)
+writeOf m offset v = cond (keeps m) (wroteTo m offset v) (wrote.Refused BadImage)
 
 -- ---- reading changes nothing
 

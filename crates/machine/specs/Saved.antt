@@ -6,7 +6,6 @@ use mathlib.Core.Bool.{Bool, false}
 use mathlib.Core.List.{List, [], _∷_}
 use lib.ListN.{getD}
 use Rattle.bus.specs.Refusal.{refusalNumber}
-use Rattle.regs.specs.declared.CheckedMode.the-variants as mode
 use Rattle.regs.specs.Modes.{modeNumber, modeOf}
 use Rattle.regs.specs.Status.{statusNumber, statusOf}
 use Rattle.regs.specs.Control.{swReset}
@@ -16,7 +15,8 @@ use Rattle.image.specs.declared.ReadImage.the-variants as read
 use Rattle.image.specs.declared.WroteImage.{WroteImage}
 use Rattle.image.specs.declared.WroteImage.the-variants as wrote
 use Rattle.image.specs.Rules.{keepsRules}
-use Rattle.image.specs.Promise.{readOf, wroteOf, imageOver, readNumber, wroteNumber}
+use Rattle.image.specs.Promise.{readOf, wroteOf, imageOver, imagePut, readNumber, wroteNumber}
+use Rattle.image.specs.Promise as image
 use Rattle.machine.specs.declared.Machine.{Machine}
 use Rattle.machine.specs.declared.Work.{Work}
 use Rattle.machine.specs.declared.Fault.{Fault}
@@ -148,6 +148,10 @@ savedAs (wrote.Refused why) = saved.Refused why
 unfoldable pub saveOf : Machine → List ℕ → SavedMachine
 saveOf m xs = savedAs (wroteOf (fieldsOf m) xs)
 
+-- the same of a machine that may break a rule: else 7, or 8 where a number does not fit its width
+unfoldable pub putOf : Machine → List ℕ → SavedMachine
+putOf m xs = savedAs (image.putOf (fieldsOf m) xs)
+
 -- the paper's number of each answer
 abbrev pub loadNumber : LoadedMachine → ℕ
 loadNumber (Good m) = 0
@@ -168,9 +172,17 @@ pub record WasSaved (m : Machine) (xs : List ℕ) (r : SavedMachine) (after : Li
   pub number : saveNumber r ≡ wroteNumber (wroteOf (fieldsOf m) xs)
   pub lent : after ≡ imageOver (fieldsOf m) xs
 
+pub record WasPut (m : Machine) (xs : List ℕ) (r : SavedMachine) (after : List ℕ) : Type 0 where
+  pub answer : r ≡ putOf m xs
+  pub number : saveNumber r ≡ wroteNumber (image.putOf (fieldsOf m) xs)
+  pub lent : after ≡ imagePut (fieldsOf m) xs
+
 pub loaded-unique : {xs : List ℕ} {r s : LoadedMachine} → WasLoaded xs r → WasLoaded xs s → r ≡ s
 loaded-unique p q = p .answer ∙ sym (q .answer)
 
 pub saved-unique : {m : Machine} {xs ys zs : List ℕ} {r s : SavedMachine}
     → WasSaved m xs r ys → WasSaved m xs s zs → (r ≡ s) × (ys ≡ zs)
 saved-unique p q = (p .answer ∙ sym (q .answer), p .lent ∙ sym (q .lent))
+
+pub put-unique : {m : Machine} {xs ys zs : List ℕ} {r s : SavedMachine} → WasPut m xs r ys → WasPut m xs s zs → (r ≡ s) × (ys ≡ zs)
+put-unique p q = (p .answer ∙ sym (q .answer), p .lent ∙ sym (q .lent))

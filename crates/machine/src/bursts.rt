@@ -51,7 +51,7 @@ fn in_reach(fixed: bool, place: Window, address: BusAddress) -> Reach
             Reach {
                 fixed,
                 at,
-                bytes: span(fixed, place.length as usize - at),
+                bytes: span(fixed, place.size() as usize - at),
             }
         }
     }

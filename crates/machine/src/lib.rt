@@ -43,15 +43,16 @@ pub enum Phase {
     Faulted(Fault),
 }
 
+// Its parts are private, so that each machine comes from `fresh`, `load` or a call on a machine, and keeps the image rules.
 pub struct Machine {
-    pub mode: Mode,
-    pub window: Window,
-    pub status: Status,
-    pub control: Control,
-    pub pointer: Pointer,
-    pub phase: Phase,
-    pub pending: bool,
-    pub count: u8,
+    mode: Mode,
+    window: Window,
+    status: Status,
+    control: Control,
+    pointer: Pointer,
+    phase: Phase,
+    pending: bool,
+    count: u8,
 }
 
 // Why a run ends; numbered 0 to 7.

@@ -1,9 +1,11 @@
 // The registers: offsets 0 status, 4 control, 8 next_descriptor_pointer; and the interrupt line.
 ghost use mathlib.Core.Path.{_≡_};
 ghost use Rattle.words.specs.Promise.{Gives};
+ghost use Rattle.regs.specs.Control.{lineUp};
+ghost use Rattle.regs.specs.Offsets.{registerAt};
 ghost use Rattle.machine.specs.State.{fresh as freshOf, withPhase, withBusy, rested as restedOf};
 ghost use Rattle.machine.specs.Turns.{stands};
-ghost use Rattle.machine.specs.Registers.{writtenTo, WasRead, WasWritten, WasLine};
+ghost use Rattle.machine.specs.Registers.{writtenTo, wroteTo, WasRead, WasWritten, WasLine};
 use crate::Machine;
 use crate::Phase;
 use bus::Refusal;
@@ -91,10 +93,39 @@ impl Machine {
     }
 }
 
-// A register write of a machine that is known to keep the rules, as one that was loaded is.
+// Registers and line of a machine that is known to keep the rules, as one that was loaded is.
 impl Machine {
+    // The register at the offset, or NoRegister. Reading changes nothing.
+    pub fn register(self, offset: u32) -> ReadRegister
+        ensures { λ r. ⌜ Gives (registerAt (self .status) (self .control) (self .pointer) offset) r ⌝ }
+    {
+        let status = self.status;
+        let control = self.control;
+        let pointer = self.pointer;
+        read(status, control, pointer, offset)
+    }
+
+    // Whether the interrupt line is up.
+    pub fn up(self) -> bool
+        ensures { λ r. ⌜ Gives (lineUp (self .control) (self .pending)) r ⌝ }
+    {
+        let control = self.control;
+        control.raises(self.pending)
+    }
+
+    // The machine with the register at the offset written, or NoRegister.
+    pub fn write(self, offset: u32, value: u32) -> WroteRegister
+        ensures { λ r. ⌜ Gives (wroteTo self offset value) r ⌝ }
+    {
+        if is_register(offset) {
+            WroteRegister::Done(self.written(offset, value))
+        } else {
+            WroteRegister::Refused(Refusal::NoRegister)
+        }
+    }
+
     // An offset that is none changes nothing. The fields are written in place: a machine that is handed on is copied.
-    pub fn written(self, offset: u32, value: u32) -> Machine
+    pub(crate) fn written(self, offset: u32, value: u32) -> Machine
         ensures { λ r. ⌜ Gives (writtenTo self offset value) r ⌝ }
     {
         let mut m = self;
@@ -139,10 +170,7 @@ impl Machine {
         if !self.keeps() {
             return ReadRegister::Refused(Refusal::BadImage);
         }
-        let status = self.status;
-        let control = self.control;
-        let pointer = self.pointer;
-        read(status, control, pointer, offset)
+        self.register(offset)
     }
 
     pub fn write_register(self, offset: u32, value: u32) -> WroteRegister
@@ -151,11 +179,7 @@ impl Machine {
         if !self.keeps() {
             return WroteRegister::Refused(Refusal::BadImage);
         }
-        if is_register(offset) {
-            WroteRegister::Done(self.written(offset, value))
-        } else {
-            WroteRegister::Refused(Refusal::NoRegister)
-        }
+        self.write(offset, value)
     }
 
     pub fn line(self) -> Line
@@ -164,11 +188,6 @@ impl Machine {
         if !self.keeps() {
             return Line::Refused(Refusal::BadImage);
         }
-        let control = self.control;
-        if control.raises(self.pending) {
-            Line::Up
-        } else {
-            Line::Down
-        }
+        if self.up() { Line::Up } else { Line::Down }
     }
 }

@@ -1,15 +1,19 @@
 // The machine as the fields of its image, and back; load and save.
+ghost use mathlib.Core.Bool.{true};
 ghost use mathlib.Core.Path.{_≡_};
-ghost use Rattle.words.specs.Promise.{Leaves};
-ghost use Rattle.image.specs.Promise.{imagePut};
+ghost use Rattle.bus.specs.Window.{keepsLimits};
+ghost use Rattle.regs.specs.Modes.{modeOf};
+ghost use Rattle.machine.specs.declared.LoadedMachine.the-variants.{Good};
 ghost use Rattle.machine.specs.State.{phaseNumber};
-ghost use Rattle.machine.specs.Saved.{inHand, faultIn, fieldsOf, keeps as keepsOf, workOf, phaseOf, machineOf, WasLoaded, WasSaved};
+ghost use Rattle.machine.specs.Saved.{inHand, faultIn, fieldsOf, keeps as keepsOf, workOf, phaseOf, machineOf, savedAs, WasLoaded, WasSaved, WasPut};
 use crate::Fault;
 use crate::LoadedMachine;
 use crate::Machine;
 use crate::Phase;
 use crate::SavedMachine;
 use crate::Work;
+use bus::CheckedWindow;
+use bus::Refusal;
 use bus::Window;
 use descriptor::DescControl;
 use image::Fields;
@@ -114,21 +118,44 @@ fn phase_of(f: Fields) -> Phase
     }
 }
 
-fn machine_of(f: Fields) -> Machine
-    ensures { λ r. ⌜ r ≡ machineOf f ⌝ }
+// The mode of a number; the rules leave none above 2.
+fn mode_of(n: u8) -> Mode
+    ensures { λ r. ⌜ r ≡ modeOf n ⌝ }
 {
-    Machine {
-        mode: Mode::of(f.mode as u32),
-        window: Window {
-            base: f.base,
-            length: f.window,
-        },
+    match n {
+        0 => Mode::MemoryToMemory,
+        1 => Mode::MemoryToStream,
+        _ => Mode::StreamToMemory,
+    }
+}
+
+// The machine of fields whose window keeps the limits, so that it is never refused here.
+fn machine_of(f: Fields) -> LoadedMachine
+    requires { ⌜ keepsLimits (f .base) (f .window) ≡ true ⌝ }
+    ensures { λ r. ⌜ r ≡ Good (machineOf f) ⌝ }
+{
+    let CheckedWindow::Good(window) = Window::checked(f.base as u64, f.window as u64) else {
+        return LoadedMachine::Refused(Refusal::BadImage);
+    };
+    LoadedMachine::Good(Machine {
+        mode: mode_of(f.mode),
+        window,
         status: Status::of(f.status as u32),
         control: Control(f.control),
         pointer: Pointer(f.pointer),
         phase: phase_of(f),
         pending: f.pending,
         count: f.count,
+    })
+}
+
+// What was done, as an answer of the machine's.
+fn saved_as(done: WroteImage) -> SavedMachine
+    ensures { λ r. ⌜ r ≡ savedAs done ⌝ }
+{
+    match done {
+        WroteImage::Done => SavedMachine::Done,
+        WroteImage::Refused(why) => SavedMachine::Refused(why),
     }
 }
 
@@ -138,6 +165,7 @@ impl Machine {
         ensures { λ r. ⌜ r ≡ fieldsOf self ⌝ }
     {
         let mode = self.mode;
+        let window = self.window;
         let phase = self.phase;
         let work = in_hand(phase);
         let fault = fault_in(phase);
@@ -154,8 +182,8 @@ impl Machine {
             count: self.count,
             control,
             pointer: self.pointer.0,
-            base: self.window.base,
-            window: self.window.length,
+            base: window.base(),
+            window: window.size(),
             address: work.at,
             source: work.source,
             destination: work.destination,
@@ -182,7 +210,7 @@ impl Machine {
     {
         let found = image::read(from);
         match found {
-            ReadImage::Good(f) => LoadedMachine::Good(machine_of(f)),
+            ReadImage::Good(f) => machine_of(f),
             ReadImage::Refused(why) => LoadedMachine::Refused(why),
         }
     }
@@ -191,18 +219,14 @@ impl Machine {
     pub fn save(self, to: &mut [u8]) -> SavedMachine
         ensures { λ r. ⌜ WasSaved self (now (to .entry)) r (now (to .exit)) ⌝ }
     {
-        let done = image::write(self.fields(), to);
-        match done {
-            WroteImage::Done => SavedMachine::Done,
-            WroteImage::Refused(why) => SavedMachine::Refused(why),
-        }
+        saved_as(image::write(self.fields(), to))
     }
 
     // Writes the 44 bytes of a machine that is known to keep the rules. It looks at the size and the widths alone: where the
-    // slice is not of 44 bytes or a number does not fit its width nothing is written.
-    pub fn put(self, to: &mut [u8])
-        ensures { λ _. ⌜ Leaves (imagePut (fieldsOf self) (now (to .entry))) (now (to .exit)) ⌝ }
+    // slice is not of 44 bytes or a number does not fit its width it is refused, and nothing is written.
+    pub fn put(self, to: &mut [u8]) -> SavedMachine
+        ensures { λ r. ⌜ WasPut self (now (to .entry)) r (now (to .exit)) ⌝ }
     {
-        image::put(self.fields(), to);
+        saved_as(image::put(self.fields(), to))
     }
 }

@@ -12,7 +12,7 @@ ghost use Rattle.image.specs.Rules.{asked as askedOf};
 ghost use Rattle.regs.specs.Modes.{modeNumber};
 ghost use Rattle.machine.specs.State.{withPhase, withPointer};
 ghost use Rattle.machine.specs.Step.{World, stored, wantsLength, begun as begunOf, ended as endedOf, byteAddress, sourceOf, destinationOf, withByte, onward as onwardOf, beatFor, writtenControl, writtenBack, afterBack, completed as completedOf};
-ghost use Rattle.machine.specs.Step.{fetched as fetchedOf, fetchStep, copyStep, sendStep, receiveFrom, moveStep, writeBackStep, step as stepOf};
+ghost use Rattle.machine.specs.Step.{fetched as fetchedOf, fetchStep, copyStep, sendStep, receiveFrom, moveStep, step as stepOf};
 ghost use Rattle.machine.specs.Run.{lentIf, lentOf, readyOf, Stepped};
 ghost use Rattle.machine.specs.declared.Phase.the-variants.{Move, WriteBack};
 ghost use Rattle.machine.specs.Turns.{progress, inFault, Waits, Goes, lentAs, Within, Still, Went, Turned, Logs, Backs, Ready};
@@ -612,7 +612,7 @@ impl Machine {
         if !ledger::serves(ledger, used) {
             return Lent::Refused(Refusal::BadLedger);
         }
-        if window.len() != self.window.length as usize {
+        if window.len() != self.window.size() as usize {
             return Lent::Refused(Refusal::OtherWindow);
         }
         Lent::Serves

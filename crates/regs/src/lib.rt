@@ -1,7 +1,7 @@
 // The mode that a core is made in, and its three registers: their numbers and bits, and what becomes of each when it is written, when a
 // descriptor is written back and when the chain ends. (Altera, Embedded Peripherals, chapter 23, as the paper states it.)
 ghost use Rattle.words.specs.Promise.{Gives};
-ghost use Rattle.regs.specs.Modes.{modeNumber, modeOf, checkedMode};
+ghost use Rattle.regs.specs.Modes.{modeNumber, ModeChecked};
 ghost use Rattle.regs.specs.Status.{statusNumber, statusOf, clearedBy, chainEnded, statusBack};
 ghost use Rattle.regs.specs.Control.{resetBy, countFrom, pends as pendsOf, lineUp, counted};
 ghost use Rattle.regs.specs.Offsets.{isRegister, registerAt};
@@ -33,25 +33,16 @@ impl Mode {
         }
     }
 
-    // The mode of a number; a number above 2 has none of its own.
-    pub fn of(n: u32) -> Mode
-        ensures { λ r. ⌜ Gives (modeOf n) r ⌝ }
-    {
-        match n {
-            0 => Mode::MemoryToMemory,
-            1 => Mode::MemoryToStream,
-            _ => Mode::StreamToMemory,
-        }
-    }
-
     // The mode of a number, which is at most 2.
     pub fn checked(n: u32) -> CheckedMode
-        ensures { λ r. ⌜ Gives (checkedMode n) r ⌝ }
+        ensures { λ r. ⌜ ModeChecked n r ⌝ }
     {
-        if 2 < n {
-            return CheckedMode::Refused(Refusal::BadMode);
+        match n {
+            0 => CheckedMode::Good(Mode::MemoryToMemory),
+            1 => CheckedMode::Good(Mode::MemoryToStream),
+            2 => CheckedMode::Good(Mode::StreamToMemory),
+            _ => CheckedMode::Refused(Refusal::BadMode),
         }
-        CheckedMode::Good(Mode::of(n))
     }
 }
 

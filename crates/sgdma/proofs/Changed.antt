@@ -1,15 +1,16 @@
 -- Calls that change an image.
 -- Assumes nothing.
 use Prim.Native.Nat.{ℕ, _^_, _<_}
-use mathlib.Core.Path.{_≡_, refl, sym, ap, _∙_}
+use mathlib.Core.Path.{_≡_, refl, sym, ap, subst, _∙_}
 use mathlib.Core.Bool.{Bool, true, false, cond}
 use mathlib.Core.List.{List}
 use native.Mathlib.Omega.{arith}
 use lib.Dec.{leb}
 use lib.ListN.{length}
 use borrow.Author.Tests.{eq-eqb, ne-eqb}
+use Rattle.words.specs.Promise.{Gives}
 use Rattle.bus.specs.declared.Refusal.{Refusal}
-use Rattle.bus.specs.declared.Refusal.the-variants.{NoRegister, BadMode, BadSize, BadImage}
+use Rattle.bus.specs.declared.Refusal.the-variants.{BadMode, BadSize, BadImage}
 use Rattle.bus.specs.declared.Window.{Window}
 use Rattle.bus.specs.declared.CheckedWindow.the-variants as window
 use Rattle.bus.specs.Window.{keepsLimits, checkedOf}
@@ -17,7 +18,6 @@ use Rattle.bus.proofs.Limits.{checked-is}
 use Rattle.regs.specs.declared.Mode.{Mode}
 use Rattle.regs.specs.declared.CheckedMode.the-variants as mode
 use Rattle.regs.specs.Modes.{modeOf, checkedMode}
-use Rattle.regs.specs.Offsets.{isRegister}
 use Rattle.image.proofs.Answers.{read-size}
 use Rattle.image.proofs.Windows.{refused-breaks}
 use Rattle.machine.specs.declared.Machine.{Machine}
@@ -27,8 +27,8 @@ use Rattle.machine.specs.declared.registers.WroteRegister.{WroteRegister}
 use Rattle.machine.specs.declared.registers.WroteRegister.the-variants as wrote
 use Rattle.machine.specs.State.{fresh}
 use Rattle.machine.specs.Saved.{keeps, loadedAs, loadOf, WasLoaded}
-use Rattle.machine.specs.Registers.{writtenTo, wroteNumber}
-use Rattle.machine.proofs.Answers.{was-loaded, was-written}
+use Rattle.machine.specs.Registers.{wroteTo, wroteNumber, WasWritten}
+use Rattle.machine.proofs.Answers.{was-loaded}
 use Rattle.met.specs.Sound.{Sound}
 use Rattle.met.proofs.RoundTrip.{loaded-keeps, loaded-typed}
 use Rattle.met.proofs.Writes.{fresh-keeps, write-keeps}
@@ -43,10 +43,10 @@ sound-loaded xs {m} e =
     let l : WasLoaded xs (Good m) = was-loaded (sym e) in
     record { rules = loaded-keeps l; typed = loaded-typed l }
 
-pub written-keeps : (xs : List ℕ) {m n : Machine} (offset v : ℕ) → loadOf xs ≡ Good m → v < 2 ^ 32 → isRegister offset ≡ true
-    → n ≡ writtenTo m offset v → keeps n ≡ true
-written-keeps xs {m} {n} offset v e h r f =
-    write-keeps m n offset v (sound-loaded xs e) h (was-written (ap wrote.Done f ∙ sym (write-loaded xs e offset v r))) .rules
+pub written-keeps : (xs : List ℕ) {m n : Machine} {w : WroteRegister} (offset v : ℕ) → loadOf xs ≡ Good m → v < 2 ^ 32
+    → Gives (wroteTo m offset v) w → w ≡ wrote.Done n → keeps n ≡ true
+written-keeps xs {m} {n} offset v e h g f =
+    write-keeps m n offset v (sound-loaded xs e) h (subst (λ (x : WroteRegister). WasWritten m offset v x) f (write-loaded xs e offset v g)) .rules
 
 module _ {xs ys : List ℕ} {offset v r : ℕ} where
   says : (a : WroteRegister) → writtenIn (loadOf xs) offset v ≡ a → r ≡ wroteNumber a → ys ≡ writtenOver a xs → RegisterWritten xs offset v r ys
@@ -61,14 +61,10 @@ module _ {xs ys : List ℕ} {offset v r : ℕ} where
   image-spoiled {why} l e p q =
       says (wrote.Refused BadImage) (ap (λ (x : LoadedMachine). writtenIn x offset v) (not-loaded xs why l e)) p q
 
-  pub no-register : {m : Machine} → loadOf xs ≡ Good m → isRegister offset ≡ false → r ≡ 1 → ys ≡ xs → RegisterWritten xs offset v r ys
-  no-register {m} e n p q =
-      says (wrote.Refused NoRegister) (ap (λ (x : LoadedMachine). writtenIn x offset v) e ∙ write-loaded xs e offset v n) p q
-
-  pub written-done : {m n : Machine} → loadOf xs ≡ Good m → isRegister offset ≡ true → n ≡ writtenTo m offset v → r ≡ 0 → ys ≡ imageOf n
-      → RegisterWritten xs offset v r ys
-  written-done {m} {n} e k f p q =
-      says (wrote.Done n) (ap (λ (x : LoadedMachine). writtenIn x offset v) e ∙ write-loaded xs e offset v k ∙ ap wrote.Done (sym f)) p q
+  pub write-answers : {m : Machine} {w b : WroteRegister} → loadOf xs ≡ Good m → Gives (wroteTo m offset v) w → w ≡ b
+      → r ≡ wroteNumber b → ys ≡ writtenOver b xs → RegisterWritten xs offset v r ys
+  write-answers {m} {w} {b} e g f p q =
+      says b (ap (λ (x : LoadedMachine). writtenIn x offset v) e ∙ sym (write-loaded xs e offset v g .answer) ∙ f) p q
 
 -- ---- sgdma_create
 

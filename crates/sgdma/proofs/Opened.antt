@@ -9,10 +9,10 @@ use lib.ListN.{length}
 use borrow.Author.Tests.{eq-eqb, ne-eqb}
 use Rattle.words.specs.Promise.{Gives}
 use Rattle.bus.specs.declared.Refusal.{Refusal}
-use Rattle.bus.specs.declared.Refusal.the-variants.{NoRegister, BadImage}
+use Rattle.bus.specs.declared.Refusal.the-variants.{BadImage}
 use Rattle.regs.specs.declared.ReadRegister.{ReadRegister}
 use Rattle.regs.specs.Control.{lineUp}
-use Rattle.regs.specs.Offsets.{isRegister, registerAt}
+use Rattle.regs.specs.Offsets.{registerAt}
 use Rattle.image.specs.declared.Fields.{Fields}
 use Rattle.image.specs.declared.ReadImage.the-variants as read
 use Rattle.image.specs.Layout.{fields}
@@ -21,11 +21,12 @@ use Rattle.image.specs.Promise.{sized}
 use Rattle.image.specs.Promise as image
 use Rattle.machine.specs.declared.Machine.{Machine}
 use Rattle.machine.specs.declared.LoadedMachine.the-variants.{Good, Refused}
-use Rattle.machine.specs.declared.registers.WroteRegister.the-variants as wrote
+use Rattle.machine.specs.declared.registers.WroteRegister.{WroteRegister}
 use Rattle.machine.specs.declared.registers.Line.the-variants as line
 use Rattle.machine.specs.Saved.{keeps, loadedAs, loadOf}
-use Rattle.machine.specs.Registers.{readOf, writtenTo, writeOf, lineOf, WasRead}
-use Rattle.machine.proofs.Answers.{was-loaded, was-register}
+use Rattle.machine.specs.Registers.{readOf, wroteTo, lineOf, WasRead, WasWritten}
+use Rattle.machine.proofs.Answers.{was-loaded, was-register, was-written}
+use Rattle.machine.proofs.Writes.{write-kept}
 use Rattle.met.proofs.RoundTrip.{loaded-keeps}
 use Rattle.sgdma.specs.Calls.{isSize}
 
@@ -62,10 +63,8 @@ module _ (xs : List ℕ) {m : Machine} (e : loadOf xs ≡ Good m) where
   unfolding readOf
   register-loaded offset g = was-register (rw keeps-loaded (g .value))
 
-  pub write-loaded : (offset v : ℕ) {b : Bool} → isRegister offset ≡ b
-      → writeOf m offset v ≡ cond b (wrote.Done (writtenTo m offset v)) (wrote.Refused NoRegister)
-  unfolding writeOf
-  write-loaded offset v e = rw (keeps-loaded, e)
+  pub write-loaded : (offset v : ℕ) {w : WroteRegister} → Gives (wroteTo m offset v) w → WasWritten m offset v w
+  write-loaded offset v g = was-written (g .value ∙ write-kept m offset v keeps-loaded)
 
   pub line-loaded : {up : Bool} → Gives (lineUp (m .control) (m .pending)) up → lineOf m ≡ cond up line.Up line.Down
   unfolding lineOf

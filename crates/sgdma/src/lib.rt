@@ -27,11 +27,10 @@ use machine::Machine;
 use machine::Ran;
 use machine::Reason;
 use machine::RunAnswer;
+use machine::registers::WroteRegister;
 use regs::CheckedMode;
 use regs::Mode;
 use regs::ReadRegister;
-use regs::is_register;
-use regs::read;
 use words::Order;
 use words::put_u16;
 use words::put_u32;
@@ -46,7 +45,7 @@ const DESCRIPTOR: usize = 18;
 
 const REPORT: usize = 18;
 
-// Writes the image of a machine that keeps the rules.
+// Writes the image of a machine that keeps the rules, which is never refused.
 fn put_image(m: Machine, image: &mut [u8])
     requires { ⌜ keeps m ≡ true ⌝ }
     requires { ⌜ length (now image) ≡ 44 ⌝ }
@@ -84,11 +83,14 @@ pub extern "C" fn sgdma_write_register(image: &mut [u8], offset: u32, value: u32
     let LoadedMachine::Good(m) = Machine::load(image) else {
         return Refusal::BadImage.number();
     };
-    if !is_register(offset) {
-        return Refusal::NoRegister.number();
+    let wrote = m.write(offset, value);
+    match wrote {
+        WroteRegister::Refused(why) => why.number(),
+        WroteRegister::Done(n) => {
+            put_image(n, image);
+            0
+        }
     }
-    put_image(m.written(offset, value), image);
-    0
 }
 
 // Reads the register at `offset` into the four bytes of `value`.
@@ -105,10 +107,7 @@ pub extern "C" fn sgdma_read_register(image: &[u8], offset: u32, value: &mut [u8
     let LoadedMachine::Good(m) = Machine::load(image) else {
         return Refusal::BadImage.number();
     };
-    let status = m.status;
-    let control = m.control;
-    let pointer = m.pointer;
-    let answer = read(status, control, pointer, offset);
+    let answer = m.register(offset);
     match answer {
         ReadRegister::Refused(why) => why.number(),
         ReadRegister::Value(v) => {
@@ -132,8 +131,7 @@ pub extern "C" fn sgdma_line(image: &[u8], value: &mut [u8]) -> u32
     let LoadedMachine::Good(m) = Machine::load(image) else {
         return Refusal::BadImage.number();
     };
-    let control = m.control;
-    if control.raises(m.pending) {
+    if m.up() {
         put_u32(Order::MostFirst, value, 0, 1);
         return 0;
     }

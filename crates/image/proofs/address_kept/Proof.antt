@@ -11,13 +11,13 @@ returns c =
     let h : c .before .args .hand ≡ false = not-true _ (c .if1 .taken) in
     rw h (sym (and-true _))
 
-in-window-requires : tie.Need-in-window-requires
-in-window-requires c κs = search needs
+lies-in-requires : tie.Need-lies-in-requires
+lies-in-requires c κs = search needs
 
 returns-2 : tie.Need-returns-2
 returns-2 c =
     let h : c .before .before .args .hand ≡ true = not-false _ (c .before .if1 .left) in
-    rw (h, c .in-window .ensures)
+    rw (h, c .lies-in .ensures .value)
 
 pub address-kept-spec : {M : Type 1} → statement M
-address-kept-spec = tie.close (tie.spec returns in-window-requires returns-2)
+address-kept-spec = tie.close (tie.spec returns lies-in-requires returns-2)

@@ -1,20 +1,13 @@
 use Rattle.image.specs.Layout.{Typed}
 use Rattle.image.proofs.Fitting.{Stored, fits-fit}
-use Rattle.image.proofs.Answers.{put-size, put-wide, put-fits}
-use borrow.Author.Tests.{not-true, not-false}
+use Rattle.image.proofs.Answers.{put-size, put-wide, put-done}
 use mathlib.Core.Path.{sym, _∙_}
 use borrow.Author.Needs.{needs}
 use Rattle.image.proofs.put.Statement.{statement}
 use Rattle.image.proofs.put.Tie as tie
 
-returns : tie.Need-returns
-returns c = record { lent = sym (put-size _ _ (c .if1 .taken)) }
-
 fit-requires : tie.Need-fit-requires
 fit-requires c κs = search needs
-
-returns-2 : tie.Need-returns-2
-returns-2 c = record { lent = sym (put-wide _ _ (c .before .before .if1 .left) (sym (c .before .fit .ensures) ∙ not-true _ (c .if2 .taken))) }
 
 typed : (c : tie.Start) → Typed (c .args .f)
 typed c = search needs
@@ -25,19 +18,21 @@ stored c = search needs
 pack-requires : tie.Need-pack-requires
 pack-requires c κs =
     let start = c .before .before .before .before .before in
-    (c .before .before .before .if1 .left, fits-fit _ (typed start) (stored start) (sym (c .before .before .fit .ensures) ∙ not-false _ (c .before .if2 .left)))
+    (c .before .before .before .if1 .taken, fits-fit _ (typed start) (stored start) (sym (c .before .before .fit .ensures) ∙ c .before .if2 .taken))
 
 same-length : tie.Need-same-length
 same-length c = search needs
 
-returns-3 : tie.Need-returns-3
-returns-3 c =
+returns : tie.Need-returns
+returns c =
     let tested = c .before .before .before .before in
-    record {
-      lent = c .before .before .pack .ensures .lent
-          ∙ sym (put-fits _ _ (tested .before .before .if1 .left) (sym (tested .before .fit .ensures) ∙ not-false _ (tested .if2 .left)));
-    }
+    put-done _ _ (tested .before .before .if1 .taken) (sym (tested .before .fit .ensures) ∙ tested .if2 .taken) _ (c .before .before .pack .ensures .lent)
+
+returns-2 : tie.Need-returns-2
+returns-2 c = put-wide _ _ (c .before .before .if1 .taken) (sym (c .before .fit .ensures) ∙ c .if2 .left)
+
+returns-3 : tie.Need-returns-3
+returns-3 c = put-size _ _ (c .if1 .left)
 
 pub put-spec : {M : Type 1} → statement M
-put-spec =
-    tie.close (tie.spec returns fit-requires returns-2 pack-requires same-length returns-3)
+put-spec = tie.close (tie.spec fit-requires pack-requires same-length returns returns-2 returns-3)

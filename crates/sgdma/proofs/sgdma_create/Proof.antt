@@ -24,7 +24,7 @@ number-requires-2 : tie.Need-number-requires-2
 number-requires-2 c κs = search needs
 
 returns-2 : tie.Need-returns-2
-returns-2 c = create-no-mode (c .before .before .before .before .if1 .left) (sym (c .before .before .before .checked .ensures .value) ∙ c .before .enum-told .given .1) (c .number2 .ensures .value) refl
+returns-2 c = create-no-mode (c .before .before .before .before .if1 .left) (sym (c .before .before .before .checked .ensures .answer) ∙ c .before .enum-told .given .1) (c .number2 .ensures .value) refl
 
 checked-requires-2 : tie.Need-checked-requires-2
 checked-requires-2 c κs = search needs
@@ -39,7 +39,7 @@ number-requires-3 : tie.Need-number-requires-3
 number-requires-3 c κs = search needs
 
 returns-3 : tie.Need-returns-3
-returns-3 c = create-no-window (c .before .before .before .before .before .before .before .before .if1 .left) _ (sym (c .before .before .before .before .before .before .before .checked .ensures .value) ∙ c .before .before .before .before .before .mode .given .1) (sym (c .before .before .before .checked2 .ensures .answer) ∙ c .before .enum-told2 .given .1) (c .number3 .ensures .value) refl
+returns-3 c = create-no-window (c .before .before .before .before .before .before .before .before .if1 .left) _ (sym (c .before .before .before .before .before .before .before .checked .ensures .answer) ∙ c .before .before .before .before .before .mode .given .1) (sym (c .before .before .before .checked2 .ensures .answer) ∙ c .before .enum-told2 .given .1) (c .number3 .ensures .value) refl
 
 fresh-requires : tie.Need-fresh-requires
 fresh-requires c κs = search needs
@@ -51,7 +51,7 @@ same-length : tie.Need-same-length
 same-length c = search needs
 
 returns-4 : tie.Need-returns-4
-returns-4 c = create-done (c .before .before .before .before .before .before .before .before .before .before .before .before .before .if1 .left) _ (sym (c .before .before .before .before .before .before .before .before .before .before .before .before .checked .ensures .value) ∙ c .before .before .before .before .before .before .before .before .before .before .mode .given .1) _ (sym (c .before .before .before .before .before .before .before .before .checked2 .ensures .answer) ∙ c .before .before .before .before .before .before .window .given .1) refl (c .before .before .put-image .ensures .lent ∙ ap imageOf (c .before .before .before .before .fresh .ensures .value))
+returns-4 c = create-done (c .before .before .before .before .before .before .before .before .before .before .before .before .before .if1 .left) _ (sym (c .before .before .before .before .before .before .before .before .before .before .before .before .checked .ensures .answer) ∙ c .before .before .before .before .before .before .before .before .before .before .mode .given .1) _ (sym (c .before .before .before .before .before .before .before .before .checked2 .ensures .answer) ∙ c .before .before .before .before .before .before .window .given .1) refl (c .before .before .put-image .ensures .lent ∙ ap imageOf (c .before .before .before .before .fresh .ensures .value))
 
 pub sgdma-create-spec : {M : Type 1} → statement M
 sgdma-create-spec =

@@ -33,8 +33,8 @@ number-requires-3 c κs = search needs
 returns-3 : tie.Need-returns-3
 returns-3 c = line-spoiled (c .before .before .before .before .before .if1 .left) (c .before .before .before .before .if2 .left) (sym (c .before .before .before .load .ensures .answer) ∙ c .before .enum-told .given .1) (c .number3 .ensures .value) refl
 
-raises-requires : tie.Need-raises-requires
-raises-requires c κs = search needs
+up-requires : tie.Need-up-requires
+up-requires c κs = search needs
 
 put-u32-requires : tie.Need-put-u32-requires
 put-u32-requires c κs = search needs
@@ -45,8 +45,8 @@ same-length c = search needs
 returns-4 : tie.Need-returns-4
 returns-4 c =
     let up = c .before .before .before .before .before in
-    let sizes = up .before .before .before .before .before .before in
-    line-answers (sizes .before .if1 .left) (sizes .if2 .left) Up 1 (sym (up .before .before .before .before .before .load .ensures .answer) ∙ up .before .before .before .m .given .1) (up .raises .ensures)
+    let load = up .before .before .before .before in
+    line-answers (load .before .before .if1 .left) (load .before .if2 .left) Up 1 (sym (load .load .ensures .answer) ∙ up .before .before .m .given .1) (up .up .ensures)
     (ap (λ (b : Bool). cond b Up Down) (c .before .before .before .before .if3 .taken)) refl refl (c .before .before .put-u32 .ensures)
 
 put-u32-requires-2 : tie.Need-put-u32-requires-2
@@ -58,8 +58,8 @@ same-length-2 c = search needs
 returns-5 : tie.Need-returns-5
 returns-5 c =
     let up = c .before .before .before .before .before in
-    let sizes = up .before .before .before .before .before .before in
-    line-answers (sizes .before .if1 .left) (sizes .if2 .left) Down 0 (sym (up .before .before .before .before .before .load .ensures .answer) ∙ up .before .before .before .m .given .1) (up .raises .ensures)
+    let load = up .before .before .before .before in
+    line-answers (load .before .before .if1 .left) (load .before .if2 .left) Down 0 (sym (load .load .ensures .answer) ∙ up .before .before .m .given .1) (up .up .ensures)
     (ap (λ (b : Bool). cond b Up Down) (c .before .before .before .before .if3 .left)) refl refl (c .before .before .put-u322 .ensures)
 
 pub sgdma-line-spec : {M : Type 1} → statement M
@@ -75,7 +75,7 @@ sgdma-line-spec =
     enum-told
     number-requires-3
     returns-3
-    raises-requires
+    up-requires
     put-u32-requires
     same-length
     returns-4

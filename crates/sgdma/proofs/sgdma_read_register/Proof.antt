@@ -31,8 +31,8 @@ number-requires-3 c κs = search needs
 returns-3 : tie.Need-returns-3
 returns-3 c = register-spoiled (c .before .before .before .before .before .if1 .left) (c .before .before .before .before .if2 .left) (sym (c .before .before .before .load .ensures .answer) ∙ c .before .enum-told .given .1) (c .number3 .ensures .value) refl
 
-read-requires : tie.Need-read-requires
-read-requires c κs = search needs
+register-requires : tie.Need-register-requires
+register-requires c κs = search needs
 
 enum-known-answer : tie.Need-enum-known-answer
 enum-known-answer c = search needs
@@ -47,13 +47,21 @@ put-u32-requires : tie.Need-put-u32-requires
 put-u32-requires c κs = search needs
 
 returns-4 : tie.Need-returns-4
-returns-4 c = register-answers (c .before .before .before .before .before .before .before .before .before .before .before .before .before .if1 .left) (c .before .before .before .before .before .before .before .before .before .before .before .before .if2 .left) (sym (c .before .before .before .before .before .before .before .before .before .before .before .load .ensures .answer) ∙ c .before .before .before .before .before .before .before .before .before .m .given .1) (c .before .before .before .before .read .ensures) (c .before .before .answer .given .1) (c .number4 .ensures .value) refl
+returns-4 c =
+    let register = c .before .before .before .before in
+    let load = register .before .before .before .before in
+    register-answers (load .before .before .if1 .left) (load .before .if2 .left) (sym (load .load .ensures .answer) ∙ register .before .before .m .given .1) (register .register .ensures) (c .before .before .answer .given .1)
+    (c .number4 .ensures .value) refl
 
 same-length : tie.Need-same-length
 same-length c = search needs
 
 returns-5 : tie.Need-returns-5
-returns-5 c = register-answers (c .before .before .before .before .before .before .before .before .before .before .before .before .before .before .before .before .if1 .left) (c .before .before .before .before .before .before .before .before .before .before .before .before .before .before .before .if2 .left) (sym (c .before .before .before .before .before .before .before .before .before .before .before .before .before .before .load .ensures .answer) ∙ c .before .before .before .before .before .before .before .before .before .before .before .before .m .given .1) (c .before .before .before .before .before .before .before .read .ensures) (c .before .before .before .before .before .answer2 .given .1) refl (c .before .before .put-u32 .ensures .lent ∙ value-put _ _ (c .before .before .before .before .before .before .before .before .before .before .before .before .before .before .before .if2 .left))
+returns-5 c =
+    let register = c .before .before .before .before .before .before .before in
+    let load = register .before .before .before .before in
+    register-answers (load .before .before .if1 .left) (load .before .if2 .left) (sym (load .load .ensures .answer) ∙ register .before .before .m .given .1) (register .register .ensures) (c .before .before .before .before .before .answer2 .given .1)
+    refl (c .before .before .put-u32 .ensures .lent ∙ value-put _ _ (load .before .if2 .left))
 
 pub sgdma-read-register-spec : {M : Type 1} → statement M
 sgdma-read-register-spec =
@@ -68,7 +76,7 @@ sgdma-read-register-spec =
     enum-told
     number-requires-3
     returns-3
-    read-requires
+    register-requires
     enum-known-answer
     number-requires-4
     enum-known-answer-2

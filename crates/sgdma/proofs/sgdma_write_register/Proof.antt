@@ -1,6 +1,5 @@
 use mathlib.Core.Path.{refl, sym, _∙_}
-use borrow.Author.Tests.{not-true, not-false}
-use Rattle.sgdma.proofs.Changed.{written-keeps, image-short, image-spoiled, no-register, written-done}
+use Rattle.sgdma.proofs.Changed.{written-keeps, image-short, image-spoiled, write-answers}
 use borrow.Author.Needs.{needs}
 use Rattle.sgdma.proofs.sgdma_write_register.Statement.{statement}
 use Rattle.sgdma.proofs.sgdma_write_register.Tie as tie
@@ -29,41 +28,44 @@ same-length c = search needs
 returns-2 : tie.Need-returns-2
 returns-2 c = image-spoiled (c .before .before .before .before .before .if1 .left) (sym (c .before .before .before .load .ensures .answer) ∙ c .before .enum-told .given .1) (c .number2 .ensures .value) refl
 
-is-register-requires : tie.Need-is-register-requires
-is-register-requires c κs = search needs
+write-requires : tie.Need-write-requires
+write-requires c κs = search needs
+
+enum-known-wrote : tie.Need-enum-known-wrote
+enum-known-wrote c = search needs
 
 number-requires-3 : tie.Need-number-requires-3
 number-requires-3 c κs = search needs
+
+enum-known-wrote-2 : tie.Need-enum-known-wrote-2
+enum-known-wrote-2 c = search needs
+
+put-image-requires : tie.Need-put-image-requires
+put-image-requires c κs =
+    let write = c .before .before .before .before in
+    let load = write .before .before .before .before in
+    let start = load .before .before .before .before in (
+      written-keeps _ (start .args .offset) (start .args .value) (sym (load .load .ensures .answer) ∙ write .before .before .m .given .1) (start .fits .value .fits) (write .write .ensures) (c .before .before .wrote2 .given .1),
+      search needs,
+    )
 
 same-length-2 : tie.Need-same-length-2
 same-length-2 c = search needs
 
 returns-3 : tie.Need-returns-3
 returns-3 c =
-    let load = c .before .before .before .before .before .before in
-    no-register (sym (load .load .ensures .answer) ∙ c .before .before .before .before .m .given .1) (sym (c .before .before .is-register .ensures .value) ∙ not-true _ (c .before .if2 .taken))
-    (c .number3 .ensures .value) refl
-
-written-requires : tie.Need-written-requires
-written-requires c κs = search needs
-
-put-image-requires : tie.Need-put-image-requires
-put-image-requires c κs =
-    let load = c .before .before .before .before .before .before .before in
-    let start = load .before .before .before .before in (
-      written-keeps _ (start .args .offset) (start .args .value) (sym (load .load .ensures .answer) ∙ c .before .before .before .before .before .m .given .1) (start .fits .value .fits)
-          (sym (c .before .before .before .is-register .ensures .value) ∙ not-false _ (c .before .before .if2 .left)) (c .before .written .ensures .value),
-      search needs,
-    )
+    let write = c .before .before .before .before in
+    let load = write .before .before .before .before in
+    write-answers (sym (load .load .ensures .answer) ∙ write .before .before .m .given .1) (write .write .ensures) (c .before .before .wrote .given .1) (c .number3 .ensures .value) refl
 
 same-length-3 : tie.Need-same-length-3
 same-length-3 c = search needs
 
 returns-4 : tie.Need-returns-4
 returns-4 c =
-    let load = c .before .before .before .before .before .before .before .before .before .before in
-    written-done (sym (load .load .ensures .answer) ∙ c .before .before .before .before .before .before .before .before .m .given .1) (sym (c .before .before .before .before .before .before .is-register .ensures .value) ∙ not-false _ (c .before .before .before .before .before .if2 .left))
-    (c .before .before .before .before .written .ensures .value) refl (c .before .before .put-image .ensures .lent)
+    let write = c .before .before .before .before .before .before .before in
+    let load = write .before .before .before .before in
+    write-answers (sym (load .load .ensures .answer) ∙ write .before .before .m .given .1) (write .write .ensures) (c .before .before .before .before .before .wrote2 .given .1) refl (c .before .before .put-image .ensures .lent)
 
 pub sgdma-write-register-spec : {M : Type 1} → statement M
 sgdma-write-register-spec =
@@ -77,11 +79,12 @@ sgdma-write-register-spec =
     number-requires-2
     same-length
     returns-2
-    is-register-requires
+    write-requires
+    enum-known-wrote
     number-requires-3
+    enum-known-wrote-2
+    put-image-requires
     same-length-2
     returns-3
-    written-requires
-    put-image-requires
     same-length-3
     returns-4)

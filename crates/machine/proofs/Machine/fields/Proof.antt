@@ -21,15 +21,32 @@ has-requires c κs = search needs
 number-requires-2 : tie.Need-number-requires-2
 number-requires-2 c κs = search needs
 
-cast-t12 : tie.Need-cast-t12
-cast-t12 c =
+cast-t13 : tie.Need-cast-t13
+cast-t13 c =
     let told = c .number2 .ensures .value in
-    let h = status-below (c .before .before .before .before .before .before .before .args .self .status) in
+    let h = status-below (c .before .before .before .before .before .before .before .before .args .self .status) in
     search needs
+
+base-requires : tie.Need-base-requires
+base-requires c κs = search needs
+
+size-requires : tie.Need-size-requires
+size-requires c κs = search needs
 
 returns : tie.Need-returns
 returns c =
-    rw (c .number2 .ensures .value, c .before .has .ensures .value, c .before .before .phase-number .ensures, c .before .before .before .number .ensures .value, c .before .before .before .before .before .fault-in .ensures, c .before .before .before .before .before .before .in-hand .ensures)
+    let number = c .before .before in
+    let phase = number .before .before in
+    rw (
+      c .size .ensures .value,
+      c .before .base .ensures .value,
+      number .number2 .ensures .value,
+      number .before .has .ensures .value,
+      phase .phase-number .ensures,
+      phase .before .number .ensures .value,
+      phase .before .before .before .fault-in .ensures,
+      phase .before .before .before .before .in-hand .ensures,
+    )
 
 pub fields-spec : {M : Type 1} → statement M
 fields-spec =
@@ -41,5 +58,7 @@ fields-spec =
     phase-number-requires
     has-requires
     number-requires-2
-    cast-t12
+    cast-t13
+    base-requires
+    size-requires
     returns)

@@ -13,16 +13,16 @@ returns : tie.Need-returns
 unfolding lineOf
 returns c = was-line (rw (sym (c .before .keeps .ensures) ∙ not-true _ (c .if1 .taken)))
 
-raises-requires : tie.Need-raises-requires
-raises-requires c κs = search needs
+up-requires : tie.Need-up-requires
+up-requires c κs = search needs
 
 returns-2 : tie.Need-returns-2
 unfolding lineOf
-returns-2 c = was-line (rw (sym (c .before .before .before .before .keeps .ensures) ∙ not-false _ (c .before .before .before .if1 .left), sym (c .before .raises .ensures .value) ∙ c .if2 .taken))
+returns-2 c = was-line (rw (sym (c .before .before .before .keeps .ensures) ∙ not-false _ (c .before .before .if1 .left), sym (c .before .up .ensures .value) ∙ c .if2 .taken))
 
 returns-3 : tie.Need-returns-3
 unfolding lineOf
-returns-3 c = was-line (rw (sym (c .before .before .before .before .keeps .ensures) ∙ not-false _ (c .before .before .before .if1 .left), sym (c .before .raises .ensures .value) ∙ c .if2 .left))
+returns-3 c = was-line (rw (sym (c .before .before .before .keeps .ensures) ∙ not-false _ (c .before .before .if1 .left), sym (c .before .up .ensures .value) ∙ c .if2 .left))
 
 pub line-spec : {M : Type 1} → statement M
-line-spec = tie.close (tie.spec keeps-requires returns raises-requires returns-2 returns-3)
+line-spec = tie.close (tie.spec keeps-requires returns up-requires returns-2 returns-3)

@@ -1,6 +1,7 @@
 use Rattle.machine.proofs.Answers.{was-loaded}
 use Rattle.machine.specs.Saved.{loadedAs, loadOf}
-use Rattle.machine.specs.declared.LoadedMachine.the-variants.{Good}
+use Rattle.image.proofs.Answers.{good-keeps}
+use Rattle.image.proofs.EachRule.{each-rule}
 use mathlib.Core.Path.{sym, ap, _∙_}
 use borrow.Author.Needs.{needs}
 use Rattle.machine.proofs.Machine.load.Statement.{statement}
@@ -13,14 +14,14 @@ enum-known-found : tie.Need-enum-known-found
 enum-known-found c = search needs
 
 machine-of-requires : tie.Need-machine-of-requires
-machine-of-requires c κs = search needs
+machine-of-requires c κs = each-rule _ (good-keeps _ _ (sym (c .before .before .before .read .ensures .answer) ∙ c .before .found .given .1)) .window
 
 enum-known-found-2 : tie.Need-enum-known-found-2
 enum-known-found-2 c = search needs
 
 returns : tie.Need-returns
 unfolding loadOf
-returns c = was-loaded (ap Good (c .machine-of .ensures) ∙ sym (ap loadedAs (sym (c .before .before .before .before .read .ensures .answer) ∙ c .before .before .found .given .1)))
+returns c = was-loaded (c .machine-of .ensures ∙ sym (ap loadedAs (sym (c .before .before .before .before .read .ensures .answer) ∙ c .before .before .found .given .1)))
 
 returns-2 : tie.Need-returns-2
 unfolding loadOf

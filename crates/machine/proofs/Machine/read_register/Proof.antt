@@ -13,12 +13,12 @@ returns : tie.Need-returns
 unfolding readOf
 returns c = was-register (rw (sym (c .before .keeps .ensures) ∙ not-true _ (c .if1 .taken)))
 
-read-requires : tie.Need-read-requires
-read-requires c κs = search needs
+register-requires : tie.Need-register-requires
+register-requires c κs = search needs
 
 returns-2 : tie.Need-returns-2
 unfolding readOf
-returns-2 c = was-register (rw (sym (c .before .before .before .before .before .keeps .ensures) ∙ not-false _ (c .before .before .before .before .if1 .left)) (c .read .ensures .value))
+returns-2 c = was-register (rw (sym (c .before .before .keeps .ensures) ∙ not-false _ (c .before .if1 .left)) (c .register .ensures .value))
 
 pub read-register-spec : {M : Type 1} → statement M
-read-register-spec = tie.close (tie.spec keeps-requires returns read-requires returns-2)
+read-register-spec = tie.close (tie.spec keeps-requires returns register-requires returns-2)

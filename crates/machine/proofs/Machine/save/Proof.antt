@@ -9,33 +9,15 @@ fields-requires c κs = search needs
 write-requires : tie.Need-write-requires
 write-requires c κs = search needs
 
-enum-told : tie.Need-enum-told
-enum-told c = search needs
-
-enum-known-done : tie.Need-enum-known-done
-enum-known-done c = search needs
+saved-as-requires : tie.Need-saved-as-requires
+saved-as-requires c κs = search needs
 
 same-length : tie.Need-same-length
 same-length c = search needs
 
 returns : tie.Need-returns
-returns c = was-saved (c .before .before .before .before .before .before .fields .ensures) (c .before .before .before .before .write .ensures) (c .enum-told .given .1)
-
-same-length-2 : tie.Need-same-length-2
-same-length-2 c = search needs
-
-returns-2 : tie.Need-returns-2
-returns-2 c = was-saved (c .before .before .before .before .before .before .before .fields .ensures) (c .before .before .before .before .before .write .ensures) (c .before .done .given .1)
+returns c = was-saved (c .before .before .before .before .before .fields .ensures) (c .before .before .before .write .ensures) (c .saved-as .ensures)
 
 pub save-spec : {M : Type 1} → statement M
 save-spec =
-    tie.close
-    (tie.spec
-    fields-requires
-    write-requires
-    enum-told
-    enum-known-done
-    same-length
-    returns
-    same-length-2
-    returns-2)
+    tie.close (tie.spec fields-requires write-requires saved-as-requires same-length returns)

@@ -1,3 +1,4 @@
+use Prim.Native.Nat.{ℕ}
 use Rattle.bus.specs.declared.Refusal.the-variants.{OtherWindow}
 use Rattle.machine.specs.Run.{serves, refused, even, lentIf}
 use Rattle.ledger.specs.Records.{isLedger}
@@ -12,10 +13,10 @@ use Rattle.machine.proofs.Machine.served.Tie as tie
 
 -- past the ledger the window decides
 decided : (s : tie.Start) {same : Bool} → s .args .good ≡ true → (even (s .args .beats .now) && even (s .args .out .now)) ≡ true
-    → isLedger (length (s .args .ledger .now)) (s .args .used) ≡ true → eqb (length (s .args .window .now)) (s .args .self .window .length) ≡ same
+    → isLedger (length (s .args .ledger .now)) (s .args .used) ≡ true → {size : ℕ} → size ≡ s .args .self .window .length → eqb (length (s .args .window .now)) size ≡ same
     → cond same serves (refused OtherWindow)
     ≡ lentIf (s .args .good) (s .args .self) (s .args .window .now) (s .args .beats .now) (s .args .out .now) (s .args .ledger .now) (s .args .used)
-decided s good evens whole window = rw (good, evens, whole, window) refl
+decided s good evens whole told window = rw (good, evens, whole, ← told, window) refl
 
 returns : tie.Need-returns
 returns c = let bad : c .before .before .before .before .before .args .good ≡ false = not-true _ (c .if1 .taken) in rw bad
@@ -38,6 +39,9 @@ returns-3 c =
     let bad : isLedger (length (a .ledger .now)) (a .used) ≡ false = sym (c .before .serves .ensures .value) ∙ not-true _ (c .if3 .taken) in
     rw (good, evens, bad)
 
+size-requires : tie.Need-size-requires
+size-requires c κs = search needs
+
 cast-if4 : tie.Need-cast-if4
 cast-if4 c = search needs
 
@@ -45,13 +49,13 @@ returns-4 : tie.Need-returns-4
 returns-4 c =
     decided (c .before .before .before .before .before .before .before .before .before .before) (not-false _ (c .before .before .before .before .before .if1 .left))
     (not-false _ (c .before .before .before .before .if2 .left))
-    (sym (c .before .before .before .serves .ensures .value) ∙ not-false _ (c .before .before .if3 .left)) (ne-eqb _ _ (c .if4 .taken))
+    (sym (c .before .before .before .serves .ensures .value) ∙ not-false _ (c .before .before .if3 .left)) (c .before .size .ensures .value) (ne-eqb _ _ (c .if4 .taken))
 
 returns-5 : tie.Need-returns-5
 returns-5 c =
     decided (c .before .before .before .before .before .before .before .before .before .before) (not-false _ (c .before .before .before .before .before .if1 .left))
     (not-false _ (c .before .before .before .before .if2 .left))
-    (sym (c .before .before .before .serves .ensures .value) ∙ not-false _ (c .before .before .if3 .left)) (eq-eqb _ _ (c .if4 .left))
+    (sym (c .before .before .before .serves .ensures .value) ∙ not-false _ (c .before .before .if3 .left)) (c .before .size .ensures .value) (eq-eqb _ _ (c .if4 .left))
 
 pub served-spec : {M : Type 1} → statement M
 served-spec =
@@ -61,6 +65,7 @@ served-spec =
     returns-2
     serves-requires
     returns-3
+    size-requires
     cast-if4
     returns-4
     returns-5)
