@@ -26,7 +26,7 @@ use Rattle.machine.specs.State.{withPointer, withControl, fresh}
 use Rattle.machine.specs.Saved.{fieldsOf, keeps}
 use Rattle.machine.specs.Registers.{stored, controlWritten, writeOf, WasWritten}
 use Rattle.machine.specs.Step.{World}
-use Rattle.machine.specs.Run.{run, even, Lent, serves, lentOf, worldOf, ranAs, runAnswer, windowAfter, outAfter, ledgerAfter, outputOver, ledgerOver}
+use Rattle.machine.specs.Run.{run, even, Lent, Returned, Served, serves, servedOf, worldOf, outputOver, returned, ranAs, runAnswer}
 use Rattle.machine.proofs.Writes.{write-runs}
 use Rattle.chain.specs.Chain.{Given, machineFor, worldFor, shares, cost, Premises, FirstFew, Outcome}
 use Rattle.chain.specs.Calls.{givenBy, Called, Finished}
@@ -103,10 +103,10 @@ module _ (window : Window) (h : keepsLimits (window .base) (window .length) ≡ 
   control-done pointer control p = p .answer ∙ rw (rest-keeps pointer 0 false 0 (omega arith) (omega arith))
 
 -- what is lent serves it
-serve : (m : Machine) (window beats out ledger : List ℕ) (used : ℕ) → keeps m ≡ true → even beats ≡ true → even out ≡ true
-    → isLedger (length ledger) used ≡ true → length window ≡ m .window .length → lentOf m window beats out ledger used ≡ serves
-unfolding lentOf
-serve m window beats out ledger used k e f d l = rw (k, e, f, d, eq-eqb (length window) (m .window .length) l)
+serve : (m : Machine) (l : Lent) → keeps m ≡ true → even (l .beats) ≡ true → even (l .out) ≡ true
+    → isLedger (length (l .ledger)) (l .used) ≡ true → length (l .window) ≡ m .window .length → servedOf m l ≡ serves
+unfolding servedOf
+serve m l k e f d n = rw (k, e, f, d, eq-eqb (length (l .window)) (m .window .length) n)
 
 -- no byte is put where nothing is made
 nothing-made : (v : World) (out : List ℕ) → length (v .output) ≡ 0 → outputOver v out ≡ out
@@ -116,10 +116,10 @@ nothing-made v out e = by (v .output) refl e
     by [] f z = rw f
     by (x ∷ xs) f z = absurd (omega arith)
 
-module _ {window : Window} {pointer control : ℕ} {memory beats out ledger : List ℕ} {used budget : ℕ} {r : RunAnswer} {memory' out' ledger' : List ℕ} (k : ℕ)
-    (c : Called window pointer control memory beats out ledger used budget r memory' out' ledger') (h : Premises (givenBy window pointer control k memory beats out ledger used)) where
+module _ {window : Window} {pointer control : ℕ} {l : Lent} {budget : ℕ} {r : RunAnswer} {b : Returned} (k : ℕ)
+    (c : Called window pointer control l budget r b) (h : Premises (givenBy window pointer control k l)) where
   abbrev g : Given
-  g = givenBy window pointer control k memory beats out ledger used
+  g = givenBy window pointer control k l
 
   m1-is : c .m1 ≡ withPointer pointer (fresh StreamToMemory window)
   m1-is = wrote-pointer (c .m0) (c .m1) pointer (c .pointed .answer) .1 ∙ ap (withPointer pointer) (c .made .value)
@@ -135,41 +135,42 @@ module _ {window : Window} {pointer control : ℕ} {memory beats out ledger : Li
   m2-stored : c .m2 ≡ stored control (withPointer pointer (fresh StreamToMemory window))
   m2-stored = m2-is ∙ write-runs control (withPointer pointer (fresh StreamToMemory window)) (and-false (bit 16 control)) (h .run-set)
 
-  pub served : lentOf (c .m2) memory beats out ledger used ≡ serves
+  pub served : servedOf (c .m2) l ≡ serves
   served =
-      serve (c .m2) memory beats out ledger used (subst⁻¹ (λ (m : Machine). keeps m ≡ true) m2-stored
+      serve (c .m2) l (subst⁻¹ (λ (m : Machine). keeps m ≡ true) m2-stored
       (rest-keeps window limits pointer (control % 2 ^ 18) _ _ (omega arith) (let z = cond-same (bit 5 control) in omega arith)))
       (c .even-beats) (c .even-out) (c .is-ledger) (h .lent ∙ sym (ap (λ (m : Machine). m .window .length) m2-stored))
 
-  pub ends-as : memory' ≡ run budget (worldFor g) .world .memory
-  ends-as =
-      c .ran .window-after ∙ ap (λ (l : Lent). windowAfter l (run budget (worldOf (c .m2) memory beats out ledger used) .world) memory) served
-      ∙ ap (λ (m : Machine). run budget (worldOf m memory beats out ledger used) .world .memory) m2-is
+  -- what comes back is what the run leaves
+  back-is : b ≡ returned l serves (run budget (worldFor g) .world)
+  back-is =
+      c .ran .back ∙ ap (λ (s : Served). returned l s (run budget (worldOf (c .m2) l) .world)) served
+      ∙ ap (λ (m : Machine). returned l serves (run budget (worldOf m l) .world)) m2-is
+
+  pub ends-as : b .window ≡ run budget (worldFor g) .world .memory
+  ends-as = ap (λ (x : Returned). x .window) back-is
 
   -- With budget enough the run is done, and this is its outcome.
-  pub finishes : 2 + cost (shares g) ≤ budget → Finished g r memory' out out' ledger ledger'
-  finishes b =
-      let o : Outcome g (ranAs used (worldFor g) (run budget (worldFor g))) (run budget (worldFor g) .world .memory) = chain-theorem g h budget b in
+  pub finishes : 2 + cost (shares g) ≤ budget → Finished g l r b
+  finishes n =
+      let o : Outcome g (ranAs (l .used) (worldFor g) (run budget (worldFor g))) (run budget (worldFor g) .world .memory) = chain-theorem g h budget n in
       record {
-        told = ranAs used (worldFor g) (run budget (worldFor g));
-        answer = c .ran .answer ∙ ap (λ (l : Lent). runAnswer used l (worldOf (c .m2) memory beats out ledger used) budget) served
-            ∙ ap (λ (m : Machine). runAnswer used serves (worldOf m memory beats out ledger used) budget) m2-is;
-        outcome = subst⁻¹ (Outcome g (ranAs used (worldFor g) (run budget (worldFor g)))) ends-as o;
-        output = c .ran .out-after ∙ ap (λ (l : Lent). outAfter l (run budget (worldOf (c .m2) memory beats out ledger used) .world) out) served
-            ∙ ap (λ (m : Machine). outputOver (run budget (worldOf m memory beats out ledger used) .world) out) m2-is
-            ∙ nothing-made (run budget (worldFor g) .world) out (o .made);
-        ledger-after = c .ran .ledger-after ∙ ap (λ (l : Lent). ledgerAfter l (run budget (worldOf (c .m2) memory beats out ledger used) .world) ledger used) served
-            ∙ ap (λ (m : Machine). ledgerOver (run budget (worldOf m memory beats out ledger used) .world) ledger used) m2-is
-            ∙ ap (λ (rs : List Entry). put ledger (12 * used) (ledgerBytes rs)) (chain-records g h budget b);
+        told = ranAs (l .used) (worldFor g) (run budget (worldFor g));
+        answer = c .ran .answer ∙ ap (λ (s : Served). runAnswer l s (worldOf (c .m2) l) budget) served
+            ∙ ap (λ (m : Machine). runAnswer l serves (worldOf m l) budget) m2-is;
+        outcome = subst⁻¹ (Outcome g (ranAs (l .used) (worldFor g) (run budget (worldFor g)))) ends-as o;
+        output = ap (λ (x : Returned). x .out) back-is ∙ nothing-made (run budget (worldFor g) .world) (l .out) (o .made);
+        ledger-after = ap (λ (x : Returned). x .ledger) back-is
+            ∙ ap (λ (rs : List Entry). put (l .ledger) (12 * l .used) (ledgerBytes rs)) (chain-records g h budget n);
       }
 
   -- With any budget those marked done are the first few.
-  pub few-done : FirstFew window memory (shares g) memory'
-  few-done = subst⁻¹ (FirstFew window memory (shares g)) ends-as (chain-at-every-step g h .first-few budget)
+  pub few-done : FirstFew window (l .window) (shares g) (b .window)
+  few-done = subst⁻¹ (FirstFew window (l .window) (shares g)) ends-as (chain-at-every-step g h .first-few budget)
 
 -- The same, with everything named.
 pub chain-of-run : ChainOfRun
-chain-of-run window pointer control memory beats out ledger used budget r memory' out' ledger' k c h b = finishes k c h b
+chain-of-run window pointer control l budget r b k c h n = finishes k c h n
 
 pub chain-of-run-at-every-step : ChainOfRunAtEveryStep
-chain-of-run-at-every-step window pointer control memory beats out ledger used budget r memory' out' ledger' k c h = few-done k c h
+chain-of-run-at-every-step window pointer control l budget r b k c h = few-done k c h

@@ -4,7 +4,6 @@
 use Prim.Native.Nat.{ℕ, _-_, _*_, _/_}
 use mathlib.Core.Path.{_≡_}
 use mathlib.Core.Bool.{true}
-use mathlib.Core.List.{List}
 use lib.ListN.{length}
 use Rattle.words.specs.Promise.{Gives}
 use Rattle.words.specs.Slices.{put}
@@ -19,27 +18,26 @@ use Rattle.machine.specs.declared.RunAnswer.{RunAnswer}
 use Rattle.machine.specs.declared.RunAnswer.the-variants as many
 use Rattle.machine.specs.State.{fresh}
 use Rattle.machine.specs.Registers.{WasWritten}
-use Rattle.machine.specs.Run.{even, HasRun}
+use Rattle.machine.specs.Run.{even, Lent, Returned, HasRun}
 use Rattle.chain.specs.Chain.{Given, shares, recordsOf, Outcome}
 
 -- what is given, with beats and output lent as bytes
-abbrev pub givenBy : Window → (pointer control k : ℕ) (memory beats out ledger : List ℕ) (used : ℕ) → Given
-givenBy window pointer control k memory beats out ledger used =
+abbrev pub givenBy : Window → (pointer control k : ℕ) → Lent → Given
+givenBy window pointer control k l =
     record {
       window = window;
-      memory = memory;
+      memory = l .window;
       pointer = pointer;
       control = control;
-      beats = beatsIn beats;
-      room = length out / 2;
-      used = used;
-      left = capacity (length ledger) - used;
+      beats = beatsIn (l .beats);
+      room = length (l .out) / 2;
+      used = l .used;
+      left = capacity (length (l .ledger)) - l .used;
       k = k;
     }
 
 -- the calls: next_descriptor_pointer is at 8, control at 4; neither write is refused
-pub record Called (window : Window) (pointer control : ℕ) (memory beats out ledger : List ℕ) (used budget : ℕ) (r : RunAnswer)
-    (memory' out' ledger' : List ℕ) : Type 0 where
+pub record Called (window : Window) (pointer control : ℕ) (l : Lent) (budget : ℕ) (r : RunAnswer) (b : Returned) : Type 0 where
   pub m0 : Machine
   pub m1 : Machine
   pub m2 : Machine
@@ -47,17 +45,17 @@ pub record Called (window : Window) (pointer control : ℕ) (memory beats out le
   pub pointed : WasWritten m0 8 pointer (wrote.Done m1)
   pub started : WasWritten m1 4 control (wrote.Done m2)
   -- whole beats are lent
-  pub even-beats : even beats ≡ true
-  pub even-out : even out ≡ true
+  pub even-beats : even (l .beats) ≡ true
+  pub even-out : even (l .out) ≡ true
   -- and a ledger
-  pub is-ledger : isLedger (length ledger) used ≡ true
-  pub ran : HasRun m2 memory beats out ledger used budget r memory' out' ledger'
+  pub is-ledger : isLedger (length (l .ledger)) (l .used) ≡ true
+  pub ran : HasRun m2 l budget r b
 
 -- the run is done, with this outcome; the lent output is unchanged; the records of the k stand behind those used, and no other byte of
 -- the ledger differs
-pub record Finished (g : Given) (r : RunAnswer) (memory' out out' ledger ledger' : List ℕ) : Type 0 where
+pub record Finished (g : Given) (l : Lent) (r : RunAnswer) (b : Returned) : Type 0 where
   pub told : Ran
   pub answer : r ≡ many.Done told
-  pub outcome : Outcome g told memory'
-  pub output : out' ≡ out
-  pub ledger-after : ledger' ≡ put ledger (12 * g .used) (ledgerBytes (recordsOf (shares g)))
+  pub outcome : Outcome g told (b .window)
+  pub output : b .out ≡ l .out
+  pub ledger-after : b .ledger ≡ put (l .ledger) (12 * g .used) (ledgerBytes (recordsOf (shares g)))

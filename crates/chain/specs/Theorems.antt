@@ -3,11 +3,11 @@
 use Prim.Native.Nat.{ℕ, _+_, _≤_}
 use mathlib.Core.Path.{_≡_}
 use mathlib.Core.Bool.{true}
-use mathlib.Core.List.{List, [], _∷_}
+use mathlib.Core.List.{[], _∷_}
 use Rattle.bus.specs.declared.Window.{Window}
 use Rattle.bus.specs.Window.{keepsLimits}
 use Rattle.machine.specs.declared.RunAnswer.{RunAnswer}
-use Rattle.machine.specs.Run.{run, ranAs}
+use Rattle.machine.specs.Run.{run, Lent, Returned, ranAs}
 use Rattle.chain.specs.Chain.{Given, worldFor, shares, cost, recordsOf, Premises, FirstFew, AtEveryStep, Outcome}
 use Rattle.chain.specs.Enough.{WithinBudget}
 use Rattle.chain.specs.Calls.{givenBy, Called, Finished}
@@ -40,19 +40,17 @@ BudgetExists = (g : Given) → Premises g → keepsLimits (g .window .base) (g .
 
 -- Demand 3, of the public methods, with budget enough.
 abbrev pub ChainOfRun : Type 0
-ChainOfRun = (window : Window) (pointer control : ℕ) (memory beats out ledger : List ℕ) (used budget : ℕ) (r : RunAnswer)
-    (memory' out' ledger' : List ℕ) (k : ℕ)
-    → Called window pointer control memory beats out ledger used budget r memory' out' ledger'
-    → let g : Given = givenBy window pointer control k memory beats out ledger used in
-    Premises g → 2 + cost (shares g) ≤ budget → Finished g r memory' out out' ledger ledger'
+ChainOfRun = (window : Window) (pointer control : ℕ) (l : Lent) (budget : ℕ) (r : RunAnswer) (b : Returned) (k : ℕ)
+    → Called window pointer control l budget r b
+    → let g : Given = givenBy window pointer control k l in
+    Premises g → 2 + cost (shares g) ≤ budget → Finished g l r b
 
 -- Demand 3, of the public methods, after every step: with any budget those marked done are the first few.
 abbrev pub ChainOfRunAtEveryStep : Type 0
-ChainOfRunAtEveryStep = (window : Window) (pointer control : ℕ) (memory beats out ledger : List ℕ) (used budget : ℕ) (r : RunAnswer)
-    (memory' out' ledger' : List ℕ) (k : ℕ)
-    → Called window pointer control memory beats out ledger used budget r memory' out' ledger'
-    → let g : Given = givenBy window pointer control k memory beats out ledger used in
-    Premises g → FirstFew window memory (shares g) memory'
+ChainOfRunAtEveryStep = (window : Window) (pointer control : ℕ) (l : Lent) (budget : ℕ) (r : RunAnswer) (b : Returned) (k : ℕ)
+    → Called window pointer control l budget r b
+    → let g : Given = givenBy window pointer control k l in
+    Premises g → FirstFew window (l .window) (shares g) (b .window)
 
 -- ---- the premises can be met
 

@@ -28,8 +28,8 @@ use Rattle.machine.specs.declared.RunAnswer.{RunAnswer}
 use Rattle.machine.specs.declared.RunAnswer.the-variants as many
 use Rattle.machine.specs.Saved.{loadOf}
 use Rattle.machine.specs.Step.{World}
-use Rattle.machine.specs.Run.{Report, run, reasonNumber, Lent, serves, refused, lentOf, worldOf}
-use Rattle.machine.specs.Run.{takenSince, outputOver, ledgerOver, ranAs, runAnswer, runNumber, Runs}
+use Rattle.machine.specs.Run.{Report, run, reasonNumber, Served, serves, refused, servedOf, worldOf}
+use Rattle.machine.specs.Run.{takenSince, returned, ranAs, runAnswer, runNumber, Runs}
 use Rattle.machine.proofs.Answers.{was-loaded}
 use Rattle.machine.proofs.StepLaws.{took-since}
 use Rattle.machine.proofs.RunLaws.{run-tells}
@@ -44,19 +44,19 @@ use Rattle.chain_calls.proofs.OfCalls.{runAs, runs-as, has-run}
 -- ---- what it was lent
 
 -- whether it serves a machine, and the world that it opens then
-abbrev pub lentBy : RunLent → Machine → Lent
-lentBy x m = lentOf m (x .memory) (x .beats) (x .out) (x .ledger) (x .used)
+abbrev pub servedBy : RunLent → Machine → Served
+servedBy x m = servedOf m (x .lent)
 
 abbrev pub worldBy : RunLent → Machine → World
-worldBy x m = worldOf m (x .memory) (x .beats) (x .out) (x .ledger) (x .used)
+worldBy x m = worldOf m (x .lent)
 
 -- the sizes are right, the image loads, and what is lent serves
-pub record Served (x : RunLent) : Type 0 where
+pub record Accepted (x : RunLent) : Type 0 where
   pub machine : Machine
   pub size : length (x .image) ≡ 44
   pub report-size : length (x .report) ≡ 18
   pub loads : loadOf (x .image) ≡ loaded.Good machine
-  pub served : lentBy x machine ≡ serves
+  pub served : servedBy x machine ≡ serves
 
 -- no refusal has the number 0
 not-zero : (why : Refusal) → refusalNumber why ≢ 0
@@ -73,24 +73,24 @@ not-zero BadLedger e = omega arith
 
 module _ (x : RunLent) where
   by-lent : (m : Machine) → length (x .image) ≡ 44 → length (x .report) ≡ 18 → loadOf (x .image) ≡ loaded.Good m
-      → (l : Lent) → lentBy x m ≡ l → runNumber (runAnswer (x .used) l (worldBy x m) (x .budget)) ≡ 0 → Served x
+      → (served : Served) → servedBy x m ≡ served → runNumber (runAnswer (x .lent) served (worldBy x m) (x .budget)) ≡ 0 → Accepted x
   by-lent m s r e serves f n = record { machine = m; size = s; report-size = r; loads = e; served = f }
   by-lent m s r e (refused why) f n = absurd (not-zero why n)
 
   by-tests : (s r : Bool) → sized (x .image) ≡ s → isSize 18 (x .report) ≡ r → (l : LoadedMachine) → loadOf (x .image) ≡ l
-      → runNumber (cond (s && r) (runIn l (x .memory) (x .beats) (x .out) (x .ledger) (x .used) (x .budget)) (many.Refused BadSize)) ≡ 0 → Served x
+      → runNumber (cond (s && r) (runIn l (x .lent) (x .budget)) (many.Refused BadSize)) ≡ 0 → Accepted x
   by-tests true true e f (loaded.Good m) g n = by-lent m (eqb-true _ _ e) (eqb-true _ _ f) g _ refl n
   by-tests true true e f (loaded.Refused why) g n = absurd (not-zero why n)
   by-tests true false e f l g n = absurd (omega arith)
   by-tests false r e f l g n = absurd (omega arith)
 
-  pub was-served : (y : RunLeft) → Promised x y → y .number ≡ 0 → Served x
+  pub was-accepted : (y : RunLeft) → Promised x y → y .number ≡ 0 → Accepted x
   unfolding runCall
-  was-served y p n = by-tests _ _ refl refl _ refl (sym (p .number) ∙ n)
+  was-accepted y p n = by-tests _ _ refl refl _ refl (sym (p .number) ∙ n)
 
 -- ---- what it leaves, and what its report tells
 
-module _ {x : RunLent} (s : Served x) where
+module _ {x : RunLent} (s : Accepted x) where
   -- the world that it opens, and the run made there
   abbrev pub world : World
   world = worldBy x (s .machine)
@@ -101,52 +101,50 @@ module _ {x : RunLent} (s : Served x) where
   pub record LeftBy (y : RunLeft) : Type 0 where
     pub number : y .number ≡ 0
     pub image : y .image ≡ imageOf (ran .world .machine)
-    pub memory : y .memory ≡ ran .world .memory
-    pub out : y .out ≡ outputOver (ran .world) (x .out)
-    pub ledger : y .ledger ≡ ledgerOver (ran .world) (x .ledger) (x .used)
+    pub back : y .back ≡ returned (x .lent) serves (ran .world)
     pub reason : reasonTold (y .report) ≡ numberOf MostFirst (bytesOf MostFirst 2 (reasonNumber (ran .reason)))
     pub steps : stepsTold (y .report) ≡ ran .steps
     pub taken : takenTold (y .report) ≡ takenSince world (ran .world)
     pub made : madeTold (y .report) ≡ length (ran .world .output)
-    pub used : usedTold (y .report) ≡ x .used + length (ran .world .records)
+    pub used : usedTold (y .report) ≡ x .lent .used + length (ran .world .records)
 
   -- what is left of the room, and of the ledger's
-  pub room-left : ran .world .room + length (ran .world .output) ≡ length (x .out) / 2
+  pub room-left : ran .world .room + length (ran .world .output) ≡ length (x .lent .out) / 2
   room-left =
       let passed = run-tells (x .budget) world .passed in
       ap (λ (beats : List ℕ). ran .world .room + length beats) (passed .output) ∙ passed .room
 
-  pub records-left : ran .world .left + length (ran .world .records) ≡ capacity (length (x .ledger)) - x .used
+  pub records-left : ran .world .left + length (ran .world .records) ≡ capacity (length (x .lent .ledger)) - x .lent .used
   records-left =
       let passed = run-tells (x .budget) world .passed in
       ap (λ (records : List Entry). ran .world .left + length records) (passed .records) ∙ passed .left
 
   -- so the number of records used stays one of 32 bits
-  pub used-bits : x .used < 2 ^ 32 → x .used + length (ran .world .records) < 2 ^ 32
-  used-bits u = omega (arith, records-left, capacity-le (length (x .ledger)) .1)
+  pub used-bits : x .lent .used < 2 ^ 32 → x .lent .used + length (ran .world .records) < 2 ^ 32
+  used-bits u = omega (arith, records-left, capacity-le (length (x .lent .ledger)) .1)
 
   abbrev told : Ran
-  told = ranAs (x .used) world ran
+  told = ranAs (x .lent .used) world ran
 
   done : runAs x (s .size) (s .report-size) (s .loads) ≡ many.Done told
-  done = ap (λ (l : Lent). runAnswer (x .used) l world (x .budget)) (s .served)
+  done = ap (λ (s : Served). runAnswer (x .lent) s world (x .budget)) (s .served)
 
   module _ (y : RunLeft) (p : Promised x y) where
     -- by the machine's method
-    abbrev Makes : Lent → RunAnswer → Type 0
-    Makes l a = Runs l (s .machine) (x .memory) (x .beats) (x .out) (x .ledger) (x .used) (x .budget) a (y .memory) (y .out) (y .ledger)
+    abbrev Makes : Served → RunAnswer → Type 0
+    Makes served a = Runs served (s .machine) (x .lent) (x .budget) a (y .back)
 
-    makes : Makes (lentBy x (s .machine)) (many.Done told)
-    makes = subst (Makes (lentBy x (s .machine))) done (has-run x (s .size) (s .report-size) (s .loads) y p)
+    makes : Makes (servedBy x (s .machine)) (many.Done told)
+    makes = subst (Makes (servedBy x (s .machine))) done (has-run x (s .size) (s .report-size) (s .loads) y p)
 
     -- the machine after it is met in use
-    pub met-after : AllBytes (x .memory) → AllBytes (x .beats) → Met (ran .world .machine)
+    pub met-after : AllBytes (x .lent .window) → AllBytes (x .lent .beats) → Met (ran .world .machine)
     met-after g b = met.ran (met.loaded (was-loaded (sym (s .loads)))) g b makes
 
-    pub left-by : x .used < 2 ^ 32 → x .budget < 2 ^ 32 → LeftBy y
+    pub left-by : x .lent .used < 2 ^ 32 → x .budget < 2 ^ 32 → LeftBy y
     left-by u b =
         let call = runs-as x (s .size) (s .report-size) (s .loads) ∙ done in
-        let lent = subst (λ (l : Lent). Makes l (many.Done told)) (s .served) makes in
+        let ran-so = subst (λ (a : Served). Makes a (many.Done told)) (s .served) makes in
         let report : y .report ≡ reportOver (many.Done told) (x .report) = p .report-after ∙ ap (λ (a : RunAnswer). reportOver a (x .report)) call in
         let tells = run-tells (x .budget) world in
         let passed = tells .passed in
@@ -157,12 +155,10 @@ module _ {x : RunLent} (s : Served x) where
         record {
           number = p .number ∙ ap runNumber call;
           image = p .image-after ∙ ap (λ (a : RunAnswer). ranOver a (x .image)) call;
-          memory = lent .window-after;
-          out = lent .out-after;
-          ledger = lent .ledger-after;
+          back = ran-so .back;
           reason = ap reasonTold report;
           steps = ap stepsTold report ∙ number-bytes MostFirst 4 (ran .steps) ∙ mod-eq-of-lt steps-lt;
           taken = ap takenTold report ∙ number-bytes MostFirst 4 (takenSince world (ran .world)) ∙ mod-eq-of-lt taken-lt;
           made = ap madeTold report ∙ number-bytes MostFirst 4 (length (ran .world .output)) ∙ mod-eq-of-lt made-lt;
-          used = ap usedTold report ∙ number-bytes MostFirst 4 (x .used + length (ran .world .records)) ∙ mod-eq-of-lt (used-bits u);
+          used = ap usedTold report ∙ number-bytes MostFirst 4 (x .lent .used + length (ran .world .records)) ∙ mod-eq-of-lt (used-bits u);
         }

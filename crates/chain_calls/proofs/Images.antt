@@ -88,9 +88,10 @@ module _ {xs ys : List ℕ} {offset v r : ℕ} (b : LoadsBack xs) (bits : v < 2 
       subst LoadsBack (sym (w .image-after ∙ ap (λ (x : WroteRegister). writtenOver x xs) a)) b
 
 -- a run over one, done or refused
-module _ {x : RunLent} {y : RunLeft} (b : LoadsBack (x .image)) (window : AllBytes (x .memory)) (beats : AllBytes (x .beats)) (p : Promised x y) where
+module _ {x : RunLent} {y : RunLeft} (b : LoadsBack (x .image)) (window : AllBytes (x .lent .window)) (beats : AllBytes (x .lent .beats))
+    (p : Promised x y) where
   abbrev call : RunAnswer
-  call = runCall (x .image) (x .memory) (x .beats) (x .out) (x .ledger) (x .used) (x .budget) (x .report)
+  call = runCall (x .image) (x .lent) (x .budget) (x .report)
 
   size : length (x .image) ≡ 44
   size = ap length (b .image) ∙ length-image (fieldsOf (b .machine))
@@ -101,8 +102,8 @@ module _ {x : RunLent} {y : RunLeft} (b : LoadsBack (x .image)) (window : AllByt
   module _ (report-size : length (x .report) ≡ 18) where
     run-back : (a : RunAnswer) → runAs x size report-size (b .loads) ≡ a → LoadsBack (y .image)
     run-back (many.Done r) e =
-        let h : HasRun (b .machine) (x .memory) (x .beats) (x .out) (x .ledger) (x .used) (x .budget) (many.Done r) (y .memory) (y .out) (y .ledger) =
-        subst (λ (a : RunAnswer). HasRun (b .machine) (x .memory) (x .beats) (x .out) (x .ledger) (x .used) (x .budget) a (y .memory) (y .out) (y .ledger)) e
+        let h : HasRun (b .machine) (x .lent) (x .budget) (many.Done r) (y .back) =
+        subst (λ (a : RunAnswer). HasRun (b .machine) (x .lent) (x .budget) a (y .back)) e
         (has-run x size report-size (b .loads) y p) in
         loads-back (met.ran (b .met) window beats h)
         (p .image-after ∙ ap (λ (a : RunAnswer). ranOver a (x .image)) (runs-as x size report-size (b .loads) ∙ e))

@@ -20,7 +20,7 @@ use Rattle.machine.specs.Saved.{fieldsOf}
 use Rattle.machine.specs.Registers.{controlWritten}
 use Rattle.machine.specs.Step.{restStep, fetched, fetchStep, sourceOf, destinationOf, onward, copyStep, beatFor, sendStep, writtenControl, writtenBack, completed, writeBackStep, step}
 use Rattle.ledger.specs.Records.{capacity, isLedger}
-use Rattle.machine.specs.Run.{run, even}
+use Rattle.machine.specs.Run.{back, run, even}
 use Rattle.chain.specs.Chain.{Given, machineFor, worldFor, Premises}
 use Rattle.chain.specs.Known.{known, three}
 use Rattle.chain.proofs.Instances.{known-run-1}
@@ -67,7 +67,7 @@ pub in-bytes : (g : Given) → Premises g → g .used < 2 ^ 32 → InBytes (lent
 in-bytes g h u =
     record {
       image = image-bytes (fieldsOf (machineFor g));
-      memory = are-all-bytes (g .memory) (h .bytes);
+      window = are-all-bytes (g .memory) (h .bytes);
       beats = beat-bytes (g .beats);
       out = zero-bytes (2 * g .room);
       ledger = zero-bytes (12 * (g .used + g .left));
@@ -87,7 +87,7 @@ three-lent = well-lent three refl (omega arith) (omega arith)
 -- ---- known run 1
 
 -- by computation over the step rules
-known-ends : (imageOf (run 100 (worldFor known) .world .machine) ≡ knownLeft .image) × (run 100 (worldFor known) .world .memory ≡ knownLeft .memory)
+known-ends : (imageOf (run 100 (worldFor known) .world .machine) ≡ knownLeft .image) × (run 100 (worldFor known) .world .memory ≡ knownLeft .back .window)
 unfolding image bytesFor inWindow putAt descriptorAt controlWritten restStep fetched fetchStep sourceOf destinationOf onward copyStep beatFor sendStep writtenControl writtenBack counted completed writeBackStep step run
 known-ends = (refl, refl)
 
@@ -99,5 +99,5 @@ known-run-1-in-c created pointed started left c =
     let f = chain-of-calls (lends known) created pointed started left 1 c known-lent (known-run-1 .meets) (omega arith) in
     let n = none-refused (lends known) created pointed started left 1 c known-lent (known-run-1 .meets) in
     let image = run-image 1 known-lent (known-run-1 .meets) p ∙ known-ends .0 in
-    let memory = run-memory 1 known-lent (known-run-1 .meets) p ∙ known-ends .1 in
-    (n, λ i. record { number = n .run i; image = image i; memory = memory i; out = f .output i; ledger = f .ledger i; report = f .report i })
+    let window = run-memory 1 known-lent (known-run-1 .meets) p ∙ known-ends .1 in
+    (n, λ i. record { number = n .run i; image = image i; back = back (window i) (f .output i) (f .ledger i); report = f .report i })

@@ -14,7 +14,7 @@ use Rattle.machine.specs.declared.RunAnswer.{RunAnswer}
 use Rattle.machine.specs.declared.LoadedMachine.the-variants.{Good}
 use Rattle.machine.specs.Saved.{fieldsOf, WasLoaded}
 use Rattle.ledger.specs.Records.{capacity}
-use Rattle.machine.specs.Run.{Lent, serves, run, worldOf, runAnswer}
+use Rattle.machine.specs.Run.{Served, serves, run, worldOf, runAnswer}
 use Rattle.machine.proofs.Answers.{was-loaded}
 use Rattle.machine.proofs.RunLaws.{run-tells}
 use Rattle.met.proofs.RoundTrip.{loaded-typed, loads-exactly}
@@ -31,7 +31,7 @@ use Rattle.chain_calls.proofs.Instances.{in-bytes, known-lent, three-le
 -- ---- the promise can be kept
 
 pub honest-keeps : HonestKeeps
-honest-keeps x b = record { number = refl; image-after = refl; window-after = refl; out-after = refl; ledger-after = refl; report-after = refl }
+honest-keeps x b = record { number = refl; image-after = refl; back = refl; report-after = refl }
 
 -- ---- what a model that keeps it makes of known run 1, and of the chain of three
 
@@ -71,7 +71,7 @@ fixed-fails f e k =
 pub never-moving-fails : NeverMovingFails
 unfolding descriptorAt bytesFor capacity
 never-moving-fails f n k =
-    let landed : getD (f (lentTo known) .memory) 128 0 ≡ 0x11 = landed-nth (known-found f k .outcome) 0 (omega arith) refl in
+    let landed : getD (f (lentTo known) .back .window) 128 0 ≡ 0x11 = landed-nth (known-found f k .outcome) 0 (omega arith) refl in
     let z : _≡_ {A = ℕ} 0x11 0 = sym landed ∙ ap (λ (m : List ℕ). getD m 128 0) (n (lentTo known)) in
     omega arith
 
@@ -79,7 +79,7 @@ never-moving-fails f n k =
 pub marker-fails : MarkerFails
 unfolding descriptorAt bytesFor capacity
 marker-fails f o k =
-    let landed : getD (f (lentTo three) .memory) 131 0 ≡ 0x55 = landed-nth (three-found f k .outcome) 4 (omega arith) refl in
+    let landed : getD (f (lentTo three) .back .window) 131 0 ≡ 0x55 = landed-nth (three-found f k .outcome) 4 (omega arith) refl in
     let kept = o (lends three) 3 three-lent (chain-of-three .meets) 131
     (λ e. omega arith, (λ e. omega arith, (λ e. omega arith, tt)))
     (λ j a e. omega arith, (λ j a e. omega arith, (λ j a e. omega arith, tt))) in
@@ -89,14 +89,14 @@ marker-fails f o k =
 -- the report's steps are the applications of the step rule, which are not more than the budget
 pub made-up-fails : MadeUpFails
 made-up-fails f u k =
-    let x = u .lent in
-    let w = worldOf (u .machine) (x .memory) (x .beats) (x .out) (x .ledger) (x .used) in
+    let x = u .given in
+    let w = worldOf (u .machine) (x .lent) in
     let l : WasLoaded (x .image) (Good (u .machine)) = was-loaded (sym (u .loads)) in
     let size : length (x .image) ≡ 44 =
     ap length (loads-exactly (x .image) (u .machine) (u .bytes .image) (loaded-typed l) .0 l .1) ∙ length-image (fieldsOf (u .machine)) in
-    let answer : runCall (x .image) (x .memory) (x .beats) (x .out) (x .ledger) (x .used) (x .budget) (x .report) ≡ runAnswer (x .used) serves w (x .budget) =
-    runs-as x size (u .report-size) (u .loads) ∙ ap (λ (s : Lent). runAnswer (x .used) s w (x .budget)) (u .not-refused) in
-    let told : stepsTold (f x .report) ≡ stepsTold (reportOver (runAnswer (x .used) serves w (x .budget)) (x .report)) =
+    let answer : runCall (x .image) (x .lent) (x .budget) (x .report) ≡ runAnswer (x .lent) serves w (x .budget) =
+    runs-as x size (u .report-size) (u .loads) ∙ ap (λ (s : Served). runAnswer (x .lent) s w (x .budget)) (u .not-refused) in
+    let told : stepsTold (f x .report) ≡ stepsTold (reportOver (runAnswer (x .lent) serves w (x .budget)) (x .report)) =
     ap stepsTold (k x (u .bytes) .report-after ∙ ap (λ (a : RunAnswer). reportOver a (x .report)) answer) in
     let steps = run (x .budget) w .steps in
     let fits : steps < 4294967296 = omega (arith, run-tells (x .budget) w .within, u .bytes .budget) in

@@ -22,7 +22,7 @@ use Rattle.machine.specs.declared.registers.WroteRegister.the-variants as wrote
 use Rattle.machine.specs.State.{withPointer, fresh}
 use Rattle.machine.specs.Saved.{fieldsOf, loadOf}
 use Rattle.machine.specs.Registers.{controlWritten, writeOf, wroteNumber}
-use Rattle.machine.specs.Run.{Lent, run, reasonNumber, lentOf, worldOf, ranAs, runAnswer, runNumber, HasRun}
+use Rattle.machine.specs.Run.{Served, run, reasonNumber, servedOf, worldOf, ranAs, runAnswer, runNumber, HasRun}
 use Rattle.machine.proofs.Answers.{was-written, run-number}
 use Rattle.met.specs.Met.{Met}
 use Rattle.met.specs.Met as met
@@ -33,7 +33,8 @@ use Rattle.chain.specs.Calls.{Finished}
 use Rattle.chain.specs.Calls as methods
 use Rattle.chain.proofs.Theorem.{chain-at-every-step}
 use Rattle.chain.proofs.OfRun.{pointer-done, control-done, served, ends-as, finishes, few-done}
-use Rattle.sgdma.specs.Calls.{imageOf, createNumber, ifDone, writtenIn, writtenOver, RegisterWritten, runIn, runCall, windowIn, outIn, ledgerIn, ranOver, reportOver}
+use Rattle.answers.specs.Answers.{reportWidths, reportBytes}
+use Rattle.sgdma.specs.Calls.{imageOf, createNumber, ifDone, writtenIn, writtenOver, RegisterWritten, runIn, runCall, returnedIn, ranOver, reportOver}
 use Rattle.sgdma.proofs.Opened.{sizes-right}
 use Rattle.chain_calls.specs.InC.{RunLent, RunLeft, Promised, Lends, WellLent, givenIn, runLent, Called, Found, FoundAtEveryStep}
 use Rattle.chain_calls.specs.Theorems.{NoneRefused, ChainOfCalls, ChainOfCallsAtEveryStep}
@@ -59,25 +60,20 @@ written-over {xs} {ys} {m} {n} {offset} {v} e d w =
 -- a run over an image that loads is the machine's run
 module _ (x : RunLent) {m : Machine} (size : length (x .image) ≡ 44) (report-size : length (x .report) ≡ 18) (e : loadOf (x .image) ≡ Good m) where
   abbrev pub runAs : RunAnswer
-  runAs = runAnswer (x .used) (lentOf m (x .memory) (x .beats) (x .out) (x .ledger) (x .used)) (worldOf m (x .memory) (x .beats) (x .out) (x .ledger) (x .used)) (x .budget)
+  runAs = runAnswer (x .lent) (servedOf m (x .lent)) (worldOf m (x .lent)) (x .budget)
 
-  pub runs-as : runCall (x .image) (x .memory) (x .beats) (x .out) (x .ledger) (x .used) (x .budget) (x .report) ≡ runAs
+  pub runs-as : runCall (x .image) (x .lent) (x .budget) (x .report) ≡ runAs
   unfolding runCall
   runs-as =
       sizes-right _ _ 18 (x .image) (x .report) size report-size
-      ∙ ap (λ (y : LoadedMachine). runIn y (x .memory) (x .beats) (x .out) (x .ledger) (x .used) (x .budget)) e
+      ∙ ap (λ (y : LoadedMachine). runIn y (x .lent) (x .budget)) e
 
-  pub has-run : (y : RunLeft) → Promised x y → HasRun m (x .memory) (x .beats) (x .out) (x .ledger) (x .used) (x .budget) runAs (y .memory) (y .out) (y .ledger)
+  pub has-run : (y : RunLeft) → Promised x y → HasRun m (x .lent) (x .budget) runAs (y .back)
   has-run y p =
       record {
         answer = refl;
-        number = run-number (x .used) (lentOf m (x .memory) (x .beats) (x .out) (x .ledger) (x .used)) _ (x .budget);
-        window-after = p .window-after ∙ sizes-right _ _ 18 (x .image) (x .report) size report-size
-            ∙ ap (λ (y : LoadedMachine). windowIn y (x .memory) (x .beats) (x .out) (x .ledger) (x .used) (x .budget)) e;
-        out-after = p .out-after ∙ sizes-right _ _ 18 (x .image) (x .report) size report-size
-            ∙ ap (λ (y : LoadedMachine). outIn y (x .memory) (x .beats) (x .out) (x .ledger) (x .used) (x .budget)) e;
-        ledger-after = p .ledger-after ∙ sizes-right _ _ 18 (x .image) (x .report) size report-size
-            ∙ ap (λ (y : LoadedMachine). ledgerIn y (x .memory) (x .beats) (x .out) (x .ledger) (x .used) (x .budget)) e;
+        number = run-number (x .lent) (servedOf m (x .lent)) _ (x .budget);
+        back = p .back ∙ sizes-right _ _ 18 (x .image) (x .report) size report-size ∙ ap (λ (y : LoadedMachine). returnedIn y (x .lent) (x .budget)) e;
       }
 
 -- ---- the machine between the calls
@@ -133,10 +129,10 @@ module _ {l : Lends} {left : RunLeft} (k : ℕ) (w : WellLent l) (h : Premises (
   loaded = loads-as (met2 w)
 
   abbrev answer : RunAnswer
-  answer = runAnswer (l .used) (lentOf (machineFor g) (l .memory) (l .beats) (l .out) (l .ledger) (l .used)) (worldFor g) (l .budget)
+  answer = runAnswer (l .lent) (servedOf (machineFor g) (l .lent)) (worldFor g) (l .budget)
 
   -- the same by the methods
-  abbrev by-methods : methods.Called (l .window) (l .pointer) (l .control) (l .memory) (l .beats) (l .out) (l .ledger) (l .used) (l .budget) answer (left .memory) (left .out) (left .ledger)
+  abbrev by-methods : methods.Called (l .window) (l .pointer) (l .control) (l .lent) (l .budget) answer (left .back)
   by-methods =
       record {
         m0 = m0 w;
@@ -152,41 +148,41 @@ module _ {l : Lends} {left : RunLeft} (k : ℕ) (w : WellLent l) (h : Premises (
       }
 
   abbrev ran : Ran
-  ran = ranAs (l .used) (worldFor g) (run (l .budget) (worldFor g))
+  ran = ranAs (l .lent .used) (worldFor g) (run (l .budget) (worldFor g))
 
   -- whatever the budget it is not refused
   done : answer ≡ many.Done ran
-  done = ap (λ (x : Lent). runAnswer (l .used) x (worldFor g) (l .budget)) (served k by-methods h)
+  done = ap (λ (x : Served). runAnswer (l .lent) x (worldFor g) (l .budget)) (served k by-methods h)
 
-  called : runCall (imageOf (machineFor g)) (l .memory) (l .beats) (l .out) (l .ledger) (l .used) (l .budget) (l .report) ≡ many.Done ran
+  called : runCall (imageOf (machineFor g)) (l .lent) (l .budget) (l .report) ≡ many.Done ran
   called = runs-as (runLent l (imageOf (machineFor g))) (length-image (fieldsOf (machineFor g))) (w .report-size) loaded ∙ done
 
   pub run-not-refused : left .number ≡ 0
   run-not-refused = p .number ∙ ap runNumber called
 
   -- what it leaves is what the step rule makes of the machine and the window, and the report tells of it
-  pub run-memory : left .memory ≡ run (l .budget) (worldFor g) .world .memory
+  pub run-memory : left .back .window ≡ run (l .budget) (worldFor g) .world .memory
   run-memory = ends-as k by-methods h
 
   pub run-image : left .image ≡ imageOf (ran .machine)
   run-image = p .image-after ∙ ap (λ (a : RunAnswer). ranOver a (imageOf (machineFor g))) called
 
   run-report : left .report
-      ≡ rowBytes MostFirst (2 ∷ 4 ∷ 4 ∷ 4 ∷ 4 ∷ []) (reasonNumber (ran .reason) ∷ ran .steps ∷ ran .taken ∷ ran .made ∷ ran .used ∷ [])
+      ≡ reportBytes (reasonNumber (ran .reason)) (ran .steps) (ran .taken) (ran .made) (ran .used)
   run-report = p .report-after ∙ ap (λ (a : RunAnswer). reportOver a (l .report)) called
 
   run-loads : loadOf (left .image) ≡ Good (ran .machine)
   run-loads =
       let r = by-methods .ran in
-      let made : HasRun (machineFor g) (l .memory) (l .beats) (l .out) (l .ledger) (l .used) (l .budget) (many.Done ran) (left .memory) (left .out) (left .ledger) =
-      record { answer = sym done; number = ap runNumber (sym done) ∙ r .number; window-after = r .window-after; out-after = r .out-after; ledger-after = r .ledger-after } in
-      ap loadOf run-image ∙ loads-as (met.ran (met2 w) (are-all-bytes (l .memory) (h .bytes)) (w .beat-bytes) made)
+      let made : HasRun (machineFor g) (l .lent) (l .budget) (many.Done ran) (left .back) =
+      record { answer = sym done; number = ap runNumber (sym done) ∙ r .number; back = r .back } in
+      ap loadOf run-image ∙ loads-as (met.ran (met2 w) (are-all-bytes (l .lent .window) (h .bytes)) (w .beat-bytes) made)
 
   pub run-finds : 2 + cost (shares g) ≤ l .budget → Found g l left
   run-finds b =
-      let f : Finished g answer (left .memory) (l .out) (left .out) (l .ledger) (left .ledger) = finishes k by-methods h b in
+      let f : Finished g (l .lent) answer (left .back) = finishes k by-methods h b in
       let same : many.Done (f .told) ≡ many.Done ran = sym (f .answer) ∙ done in
-      let o : Outcome g ran (left .memory) = subst (λ (r : Ran). Outcome g r (left .memory)) (cc) (f .outcome) in
+      let o : Outcome g ran (left .back .window) = subst (λ (r : Ran). Outcome g r (left .back .window)) (cc) (f .outcome) in
       let reason : reasonNumber (ran .reason) ≡ 1 = ap reasonNumber (o .reason) in
       let row : _≡_ {A = List ℕ} (reasonNumber (ran .reason) ∷ ran .steps ∷ ran .taken ∷ ran .made ∷ ran .used ∷ []) (1 ∷ (2 + cost (shares g)) ∷ given (shares g) ∷ 0 ∷ (g .used + g .k) ∷ []) =
       cc (o .steps, o .taken, o .made, o .used) in
@@ -194,7 +190,7 @@ module _ {l : Lends} {left : RunLeft} (k : ℕ) (w : WellLent l) (h : Premises (
         told = ran;
         is-run = refl;
         outcome = o;
-        report = run-report ∙ ap (rowBytes MostFirst (2 ∷ 4 ∷ 4 ∷ 4 ∷ 4 ∷ [])) row;
+        report = run-report ∙ ap (rowBytes MostFirst reportWidths) row;
         image = run-image;
         loads = run-loads;
         output = f .output;
@@ -205,12 +201,12 @@ module _ {l : Lends} {left : RunLeft} (k : ℕ) (w : WellLent l) (h : Premises (
   run-finds-at-every-step =
       record { first-few = few-done k by-methods h; image = run-image; loads = run-loads; spent = spent }
     where
-      spent : l .budget < 2 + cost (shares g) → take 6 (left .report) ≡ rowBytes MostFirst (2 ∷ 4 ∷ []) (6 ∷ l .budget ∷ [])
+      spent : l .budget < 2 + cost (shares g) → take 6 (left .report) ≡ rowBytes MostFirst (take 2 reportWidths) (6 ∷ l .budget ∷ [])
       spent b =
           let s = chain-at-every-step g h .spent (l .budget) b in
           let reason : reasonNumber (ran .reason) ≡ 6 = ap reasonNumber (s .1) in
           let row : _≡_ {A = List ℕ} (reasonNumber (ran .reason) ∷ ran .steps ∷ []) (6 ∷ l .budget ∷ []) = cc (s .0) in
-          ap (take 6) run-report ∙ ap (rowBytes MostFirst (2 ∷ 4 ∷ [])) row
+          ap (take 6) run-report ∙ ap (rowBytes MostFirst (take 2 reportWidths)) row
 
 -- ---- the calls
 

@@ -26,7 +26,7 @@ use Rattle.machine.specs.declared.LoadedMachine.the-variants as loaded
 use Rattle.machine.specs.Saved.{keeps, machineOf, loadedAs, loadOf}
 use Rattle.machine.specs.Registers.{readOf, writeOf, readNumber, wroteNumber, lineNumber}
 use Rattle.ledger.specs.Records.{isLedger}
-use Rattle.machine.specs.Run.{serves, refused, even, lentOf, runNumber, lentNumber}
+use Rattle.machine.specs.Run.{serves, refused, even, servedOf, runNumber, servedNumber}
 use Rattle.machine.proofs.Answers.{was-loaded, was-register, was-written, was-line, run-number}
 use Rattle.met.proofs.RoundTrip.{loaded-keeps}
 use Rattle.sgdma.specs.Calls.{isSize, registerOf, readCall, writtenIn, lineIn, lineCall, runIn, runCall, descriptorCall}
@@ -126,28 +126,30 @@ line-in-order xs value r value' p =
 
 -- ---- a run
 
-lent-number : (even kept right : Bool)
-    → lentNumber (cond even (cond kept (cond right serves (refused OtherWindow)) (refused BadLedger)) (refused OddStream))
+served-number : (even kept right : Bool)
+    → servedNumber (cond even (cond kept (cond right serves (refused OtherWindow)) (refused BadLedger)) (refused OddStream))
     ≡ cond (not even) 9 (cond (not kept) 19 (cond (not right) 4 0))
-lent-number true true true = refl
-lent-number true true false = refl
-lent-number true false right = refl
-lent-number false kept right = refl
+served-number true true true = refl
+served-number true true false = refl
+served-number true false right = refl
+served-number false kept right = refl
 
 pub run-in-order : RunInOrder
-unfolding runCall lentOf
-run-in-order xs window beats out ledger used budget report r xs' window' out' ledger' report' p =
+unfolding runCall servedOf
+run-in-order xs l budget report r xs' b report' p =
     record {
       number = p .number ∙ chosen runNumber (sized xs && isSize 18 report) _ _
-          ∙ opened-with xs (λ l. runNumber (runIn l window beats out ledger used budget)) (λ why. refl) (isSize 18 report) known;
+          ∙ opened-with xs (λ m. runNumber (runIn m l budget)) (λ why. refl) (isSize 18 report) known;
       in-order = refl;
     }
   where
-    known : sized xs ≡ true → keepsRules (fields xs) ≡ true → runNumber (runIn (loaded.Good (machine xs)) window beats out ledger used budget)
-        ≡ cond (not (even beats && even out)) 9 (cond (not (isLedger (length ledger) used)) 19 (cond (not (eqb (length window) (fields xs .window))) 4 0))
+    known : sized xs ≡ true → keepsRules (fields xs) ≡ true → runNumber (runIn (loaded.Good (machine xs)) l budget)
+        ≡ cond (not (even (l .beats) && even (l .out))) 9
+        (cond (not (isLedger (length (l .ledger)) (l .used))) 19 (cond (not (eqb (length (l .window)) (fields xs .window))) 4 0))
     known s k =
-        run-number used (lentOf (machine xs) window beats out ledger used) _ budget
-        ∙ rw (keeps-loaded xs s k) (lent-number (even beats && even out) (isLedger (length ledger) used) (eqb (length window) (fields xs .window)))
+        run-number l (servedOf (machine xs) l) _ budget
+        ∙ rw (keeps-loaded xs s k)
+        (served-number (even (l .beats) && even (l .out)) (isLedger (length (l .ledger)) (l .used)) (eqb (length (l .window)) (fields xs .window)))
 
 -- ---- descriptors
 

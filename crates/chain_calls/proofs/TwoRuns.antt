@@ -24,7 +24,7 @@ use Rattle.flow.proofs.Streams.{length-beats, length-beat-bytes}
 use Rattle.machine.specs.declared.Machine.{Machine}
 use Rattle.machine.specs.Saved.{fieldsOf, keeps}
 use Rattle.machine.specs.Step.{World, laid, noted}
-use Rattle.machine.specs.Run.{Report, run, reasonNumber, serves, even, lentOf, takenSince, outputOver, ledgerOver}
+use Rattle.machine.specs.Run.{Report, run, reasonNumber, Lent, back, serves, even, servedOf, takenSince, outputOver, ledgerOver}
 use Rattle.machine.specs.Laws.{Passed, onTop}
 use Rattle.machine.proofs.Streams.{beat-bytes-append}
 use Rattle.machine.proofs.RunLaws.{run-add, run-tells, run-input}
@@ -38,7 +38,7 @@ use Rattle.chain_calls.specs.TwoRuns.{madeTold, lentNext, lentWith}
 use Rattle.chain_calls.specs.Theorems.{TwoRunsAdd}
 use Rattle.chain_calls.proofs.OfCalls.{loads-as}
 use Rattle.chain_calls.proofs.Behind.{behind, reportBehind, run-behind}
-use Rattle.chain_calls.proofs.Done.{lentBy, Served, was-served, world, ran, LeftBy, room-left, records-left, used-bits, met-after, left-by}
+use Rattle.chain_calls.proofs.Done.{servedBy, Accepted, was-accepted, world, ran, LeftBy, room-left, records-left, used-bits, met-after, left-by}
 
 -- ---- what is lent, in two goes
 
@@ -58,12 +58,12 @@ even-from n xs h =
     rw same
 
 -- what a call is lent serves as what another is
-serves-as : (x y : RunLent) (m n : Machine) → keeps n ≡ keeps m → even (y .beats) ≡ even (x .beats) → even (y .out) ≡ even (x .out)
-    → isLedger (length (y .ledger)) (y .used) ≡ isLedger (length (x .ledger)) (x .used) → length (y .memory) ≡ length (x .memory)
+serves-as : (l d : Lent) (m n : Machine) → keeps n ≡ keeps m → even (d .beats) ≡ even (l .beats) → even (d .out) ≡ even (l .out)
+    → isLedger (length (d .ledger)) (d .used) ≡ isLedger (length (l .ledger)) (l .used) → length (d .window) ≡ length (l .window)
     → n .window .length ≡ m .window .length
-    → lentBy y n ≡ lentBy x m
-unfolding lentOf
-serves-as x y m n k b o l w s = rw (k, b, o, l, w, s)
+    → servedOf n d ≡ servedOf m l
+unfolding servedOf
+serves-as l d m n k b o e w s = rw (k, b, o, e, w, s)
 
 -- a run takes beats and makes none
 input-le : (n : ℕ) (w : World) → length (run n w .world .input) ≤ length (w .input)
@@ -86,7 +86,7 @@ ledger-join ledger used es fs h =
 
 -- ---- the second call
 
-module _ {x : RunLent} (s : Served x) (g : InBytes x) (first : RunLeft) (p : Promised x first) (b : ℕ) (report : List ℕ) (size : length report ≡ 18) where
+module _ {x : RunLent} (s : Accepted x) (g : InBytes x) (first : RunLeft) (p : Promised x first) (b : ℕ) (report : List ℕ) (size : length report ≡ 18) where
   -- where the first stopped, and the beats that it took
   abbrev v : World
   v = ran s .world
@@ -102,33 +102,37 @@ module _ {x : RunLent} (s : Served x) (g : InBytes x) (first : RunLeft) (p : Pro
   next =
       record {
         image = imageOf (v .machine);
-        memory = v .memory;
-        beats = drop (2 * took) (x .beats);
-        out = drop (2 * length (v .output)) (x .out);
-        ledger = ledgerOver v (x .ledger) (x .used);
-        used = x .used + length (v .records);
+        lent = record {
+          window = v .memory;
+          beats = drop (2 * took) (x .lent .beats);
+          out = drop (2 * length (v .output)) (x .lent .out);
+          ledger = ledgerOver v (x .lent .ledger) (x .lent .used);
+          used = x .lent .used + length (v .records);
+        };
         budget = b;
         report = report;
       }
 
-  out-next : drop (2 * madeTold (first .report)) (first .out) ≡ next .out
+  out-next : drop (2 * madeTold (first .report)) (first .back .out) ≡ next .lent .out
   out-next =
-      ap (λ (n : ℕ). drop (2 * n) (first .out)) (left .made) ∙ ap (drop (2 * length (v .output))) (left .out)
+      (λ i. drop (2 * left .made i) (left .back i .out))
       ∙ drop-at (beatBytes (v .output)) _ _ (length-beat-bytes (v .output))
 
-  made-first : take (2 * madeTold (first .report)) (first .out) ≡ beatBytes (v .output)
+  made-first : take (2 * madeTold (first .report)) (first .back .out) ≡ beatBytes (v .output)
   made-first =
-      ap (λ (n : ℕ). take (2 * n) (first .out)) (left .made) ∙ ap (take (2 * length (v .output))) (left .out)
+      (λ i. take (2 * left .made i) (left .back i .out))
       ∙ take-at (beatBytes (v .output)) _ _ (length-beat-bytes (v .output))
 
   is-next : lentNext x first b report ≡ next
   is-next = λ i. record {
     image = left .image i;
-    memory = left .memory i;
-    beats = drop (2 * left .taken i) (x .beats);
-    out = out-next i;
-    ledger = left .ledger i;
-    used = left .used i;
+    lent = record {
+      window = left .back i .window;
+      beats = drop (2 * left .taken i) (x .lent .beats);
+      out = out-next i;
+      ledger = left .back i .ledger;
+      used = left .used i;
+    };
     budget = b;
     report = report;
   }
@@ -136,90 +140,92 @@ module _ {x : RunLent} (s : Served x) (g : InBytes x) (first : RunLeft) (p : Pro
   passed : Passed (ran s .steps) (world s) v
   passed = run-tells (x .budget) (world s) .passed
 
-  took-le : took ≤ length (x .beats) / 2
-  took-le = omega (arith, length-beats (x .beats))
+  took-le : took ≤ length (x .lent .beats) / 2
+  took-le = omega (arith, length-beats (x .lent .beats))
 
   -- what serves the first is a machine that keeps the rules, its window, and no fewer records than are used
-  good : (keeps (s .machine) ≡ true) × (length (x .memory) ≡ s .machine .window .length) × (x .used ≤ length (x .ledger) / 12)
-  unfolding lentOf
-  good = serves-good (keeps (s .machine)) (s .machine) (x .memory) (x .beats) (x .out) (x .ledger) (x .used) (s .served)
+  good : (keeps (s .machine) ≡ true) × (length (x .lent .window) ≡ s .machine .window .length) × (x .lent .used ≤ length (x .lent .ledger) / 12)
+  unfolding servedOf
+  good = serves-good (keeps (s .machine)) (s .machine) (x .lent) (s .served)
 
-  records-fit : 12 * x .used + length (ledgerBytes (v .records)) ≤ length (x .ledger)
-  records-fit = omega (arith, length-ledger (v .records), records-left s, capacity-le (length (x .ledger)) .0, good .2)
+  records-fit : 12 * x .lent .used + length (ledgerBytes (v .records)) ≤ length (x .lent .ledger)
+  records-fit = omega (arith, length-ledger (v .records), records-left s, capacity-le (length (x .lent .ledger)) .0, good .2)
 
-  length-next : length (next .ledger) ≡ length (x .ledger)
-  length-next = length-put (x .ledger) (12 * x .used) (ledgerBytes (v .records)) records-fit
+  length-next : length (next .lent .ledger) ≡ length (x .lent .ledger)
+  length-next = length-put (x .lent .ledger) (12 * x .lent .used) (ledgerBytes (v .records)) records-fit
 
-  is-ledger : isLedger (length (next .ledger)) (next .used) ≡ isLedger (length (x .ledger)) (x .used)
+  is-ledger : isLedger (length (next .lent .ledger)) (next .lent .used) ≡ isLedger (length (x .lent .ledger)) (x .lent .used)
   is-ledger =
-      let fits : next .used ≤ length (x .ledger) / 12 = omega (arith, length-ledger (v .records), records-fit) in
-      rw (length-next, le-leb (next .used) (length (x .ledger) / 12) fits, le-leb (x .used) (length (x .ledger) / 12) (good .2))
+      let fits : next .lent .used ≤ length (x .lent .ledger) / 12 = omega (arith, length-ledger (v .records), records-fit) in
+      rw (length-next, le-leb (next .lent .used) (length (x .lent .ledger) / 12) fits, le-leb (x .lent .used) (length (x .lent .ledger) / 12) (good .2))
 
   met-next : Met (v .machine)
-  met-next = met-after s first p (g .memory) (g .beats)
+  met-next = met-after s first p (g .window) (g .beats)
 
-  serves-next : lentBy next (v .machine) ≡ serves
+  serves-next : servedBy next (v .machine) ≡ serves
   serves-next =
-      serves-as x next (s .machine) (v .machine) (met-keeps _ met-next ∙ sym (good .0)) (even-from took (x .beats) took-le)
-      (even-from (length (v .output)) (x .out) (omega (arith, room-left s))) is-ledger (passed .memory) (ap (λ (w : Window). w .length) (passed .window))
+      serves-as (x .lent) (next .lent) (s .machine) (v .machine) (met-keeps _ met-next ∙ sym (good .0)) (even-from took (x .lent .beats) took-le)
+      (even-from (length (v .output)) (x .lent .out) (omega (arith, room-left s))) is-ledger (passed .memory) (ap (λ (w : Window). w .length) (passed .window))
       ∙ s .served
 
-  abbrev served-next : Served next
-  served-next =
+  abbrev accepted-next : Accepted next
+  accepted-next =
       record { machine = v .machine; size = length-image (fieldsOf (v .machine)); report-size = size; loads = loads-as met-next; served = serves-next }
 
   -- it opens the world where the first stopped, but for what was made before
-  opens : v ≡ behind (v .output) (v .records) (world served-next)
+  opens : v ≡ behind (v .output) (v .records) (world accepted-next)
   opens =
-      let input = run-input (x .budget) (world s) ∙ sym (beats-from took (x .beats)) in
-      let room : v .room ≡ length (next .out) / 2 = simp length-drop (omega (arith, room-left s)) in
-      let left : v .left ≡ capacity (length (next .ledger)) - next .used = rw length-next (omega (arith, records-left s)) in
+      let input = run-input (x .budget) (world s) ∙ sym (beats-from took (x .lent .beats)) in
+      let room : v .room ≡ length (next .lent .out) / 2 = simp length-drop (omega (arith, room-left s)) in
+      let left : v .left ≡ capacity (length (next .lent .ledger)) - next .lent .used = rw length-next (omega (arith, records-left s)) in
       let output = sym (append-nil (v .output)) in
       let records = sym (append-nil (v .records)) in
-      λ i. noted (laid (world served-next) (v .machine) (v .memory) (input i) (output i) (room i)) (records i) (left i)
+      λ i. noted (laid (world accepted-next) (v .machine) (v .memory) (input i) (output i) (room i)) (records i) (left i)
 
   -- so the one run makes what the second does, behind that
-  one-run : run (x .budget + b) (world s) ≡ onTop (ran s .steps) (reportBehind (v .output) (v .records) (ran served-next))
+  one-run : run (x .budget + b) (world s) ≡ onTop (ran s .steps) (reportBehind (v .output) (v .records) (ran accepted-next))
   one-run =
       run-add (x .budget) b (world s) ∙ ap (λ (w : World). onTop (ran s .steps) (run b w)) opens
-      ∙ ap (onTop (ran s .steps)) (run-behind (v .output) (v .records) b (world served-next))
+      ∙ ap (onTop (ran s .steps)) (run-behind (v .output) (v .records) b (world accepted-next))
 
-  taken-both : takenSince (world s) (ran served-next .world) ≡ took + takenSince (world served-next) (ran served-next .world)
+  taken-both : takenSince (world s) (ran accepted-next .world) ≡ took + takenSince (world accepted-next) (ran accepted-next .world)
   taken-both =
-      let between : length (world served-next .input) ≡ length (v .input) = ap (λ (w : World). length (w .input)) (sym opens) in
-      omega (arith, input-le (x .budget) (world s), input-le b (world served-next))
+      let between : length (world accepted-next .input) ≡ length (v .input) = ap (λ (w : World). length (w .input)) (sym opens) in
+      omega (arith, input-le (x .budget) (world s), input-le b (world accepted-next))
 
 -- ---- the theorem
 
--- with another budget the same is served
-abbrev served-with : {x : RunLent} → Served x → (budget : ℕ) → Served (lentWith x budget)
-served-with s budget = record { machine = s .machine; size = s .size; report-size = s .report-size; loads = s .loads; served = s .served }
+-- with another budget the same is accepted
+abbrev accepted-with : {x : RunLent} → Accepted x → (budget : ℕ) → Accepted (lentWith x budget)
+accepted-with s budget = record { machine = s .machine; size = s .size; report-size = s .report-size; loads = s .loads; served = s .served }
 
 pub two-runs-add : TwoRunsAdd
 two-runs-add x b report first second one g bits size p n q o =
-    let s = was-served x first p n in
-    let next = served-next s g first p b report size in
+    let s = was-accepted x first p n in
+    let next = accepted-next s g first p b report size in
     let v = ran s .world in
     let u = ran next .world in
     let made = one-run s g first p b report size in
     let before = left s g first p b report size in
     let after = left-by next second (subst (λ (z : RunLent). Promised z second) (is-next s g first p b report size) q) (used-bits s (g .used)) (omega arith) in
-    let all = left-by (served-with s (x .budget + b)) one o (g .used) bits in
+    let all = left-by (accepted-with s (x .budget + b)) one o (g .used) bits in
     record {
       second-done = after .number;
       one-done = all .number;
       image = all .image ∙ ap (λ (r : Report). imageOf (r .world .machine)) made ∙ sym (after .image);
-      memory = all .memory ∙ ap (λ (r : Report). r .world .memory) made ∙ sym (after .memory);
-      ledger = all .ledger ∙ ap (λ (r : Report). ledgerOver (r .world) (x .ledger) (x .used)) made
-          ∙ ledger-join (x .ledger) (x .used) (v .records) (u .records) (records-fit s g first p b report size) ∙ sym (after .ledger);
-      out = all .out ∙ ap (λ (r : Report). outputOver (r .world) (x .out)) made ∙ out-join (v .output) (u .output) (x .out)
-          ∙ sym (ap₂ _++_ (made-first s g first p b report size) (after .out));
+      window = (λ i. all .back i .window) ∙ ap (λ (r : Report). r .world .memory) made ∙ (λ i. sym (after .back) i .window);
+      ledger = (λ i. all .back i .ledger) ∙ ap (λ (r : Report). ledgerOver (r .world) (x .lent .ledger) (x .lent .used)) made
+          ∙ ledger-join (x .lent .ledger) (x .lent .used) (v .records) (u .records) (records-fit s g first p b report size)
+          ∙ (λ i. sym (after .back) i .ledger);
+      out = (λ i. all .back i .out) ∙ ap (λ (r : Report). outputOver (r .world) (x .lent .out)) made ∙ out-join (v .output) (u .output) (x .lent .out)
+          ∙ sym (ap₂ _++_ (made-first s g first p b report size) (λ i. after .back i .out));
       reason = all .reason ∙ ap (λ (r : Report). numberOf MostFirst (bytesOf MostFirst 2 (reasonNumber (r .reason)))) made ∙ sym (after .reason);
       steps = all .steps ∙ ap (λ (r : Report). r .steps) made ∙ sym (ap₂ _+_ (before .steps) (after .steps));
       taken = all .taken ∙ ap (λ (r : Report). takenSince (world s) (r .world)) made ∙ taken-both s g first p b report size
           ∙ sym (ap₂ _+_ (before .taken) (after .taken));
       made = all .made ∙ ap (λ (r : Report). length (r .world .output)) made ∙ length-append (v .output) (u .output)
           ∙ sym (ap₂ _+_ (before .made) (after .made));
-      used = all .used ∙ ap (λ (r : Report). x .used + length (r .world .records)) made ∙ ap (λ (k : ℕ). x .used + k) (length-append (v .records) (u .records))
-          ∙ sym (add-assoc (x .used) (length (v .records)) (length (u .records))) ∙ sym (after .used);
+      used = all .used ∙ ap (λ (r : Report). x .lent .used + length (r .world .records)) made
+          ∙ ap (λ (k : ℕ). x .lent .used + k) (length-append (v .records) (u .records))
+          ∙ sym (add-assoc (x .lent .used) (length (v .records)) (length (u .records))) ∙ sym (after .used);
     }

@@ -27,8 +27,8 @@ use Rattle.machine.specs.declared.RunAnswer.the-variants as ran
 use Rattle.machine.specs.Saved.{loadOf}
 use Rattle.machine.specs.Step.{World}
 use Rattle.machine.specs.Registers.{readNumber, wroteNumber, lineNumber}
-use Rattle.machine.specs.Run.{Lent, serves, refused, lentOf, worldOf, runAnswer, windowAfter, outAfter, ledgerAfter, runNumber}
-use Rattle.sgdma.specs.Calls.{createNumber, readCall, valueOver, writtenIn, writtenOver, lineCall, lineOver, isSize, runIn, runCall, ranOver, reportOver, windowIn, outIn, ledgerIn, descriptorCall, answerOver}
+use Rattle.machine.specs.Run.{Lent, asLent, Served, serves, refused, servedOf, worldOf, returned, runAnswer, runNumber}
+use Rattle.sgdma.specs.Calls.{createNumber, readCall, valueOver, writtenIn, writtenOver, lineCall, lineOver, isSize, runIn, runCall, ranOver, reportOver, returnedIn, descriptorCall, answerOver}
 use Rattle.chain_calls.specs.Theorems.{CreateUnchanged, ReadUnchanged, WriteUnchanged, LineUnchanged, RunUnchanged, BuildUnchanged, DescriptorUnchanged}
 
 -- the number given back is that of the answer, so the answer is a refusal too
@@ -61,20 +61,18 @@ run-stays : (a : RunAnswer) (xs report : List ℕ) → runNumber a ≢ 0 → (ra
 run-stays (ran.Done r) xs report h = absurd (h refl)
 run-stays (ran.Refused why) xs report h = (refl, refl)
 
--- window and output, by whether what is lent serves
-lent-stays : (l : Lent) (w v : World) (budget : ℕ) (window out ledger : List ℕ) (used : ℕ) → runNumber (runAnswer used l w budget) ≢ 0
-    → (windowAfter l v window ≡ window) × (outAfter l v out ≡ out) × (ledgerAfter l v ledger used ≡ ledger)
-lent-stays serves w v budget window out ledger used h = absurd (h refl)
-lent-stays (refused why) w v budget window out ledger used h = (refl, refl, refl)
+-- window, output and ledger, by whether what is lent serves
+lent-stays : (l : Lent) (served : Served) (w v : World) (budget : ℕ) → runNumber (runAnswer l served w budget) ≢ 0 → returned l served v ≡ asLent l
+lent-stays l serves w v budget h = absurd (h refl)
+lent-stays l (refused why) w v budget h = refl
 
 -- and by what was loaded
-module _ (window beats out ledger : List ℕ) (used budget : ℕ) where
-  slices-stay : (right : Bool) (l : LoadedMachine) → runNumber (cond right (runIn l window beats out ledger used budget) (ran.Refused BadSize)) ≢ 0
-      → (cond right (windowIn l window beats out ledger used budget) window ≡ window) × (cond right (outIn l window beats out ledger used budget) out ≡ out)
-      × (cond right (ledgerIn l window beats out ledger used budget) ledger ≡ ledger)
-  slices-stay true (loaded.Good m) h = lent-stays (lentOf m window beats out ledger used) (worldOf m window beats out ledger used) _ budget window out ledger used h
-  slices-stay true (loaded.Refused why) h = (refl, refl, refl)
-  slices-stay false l h = (refl, refl, refl)
+module _ (l : Lent) (budget : ℕ) where
+  slices-stay : (right : Bool) (m : LoadedMachine) → runNumber (cond right (runIn m l budget) (ran.Refused BadSize)) ≢ 0
+      → cond right (returnedIn m l budget) (asLent l) ≡ asLent l
+  slices-stay true (loaded.Good m) h = lent-stays l (servedOf m l) (worldOf m l) _ budget h
+  slices-stay true (loaded.Refused why) h = refl
+  slices-stay false m h = refl
 
 -- ---- the calls
 
@@ -93,11 +91,11 @@ line-unchanged xs value r value' c h = c .value-after ∙ line-stays (lineCall x
 
 pub run-unchanged : RunUnchanged
 unfolding runCall
-run-unchanged xs window beats out ledger used budget report r xs' window' out' ledger' report' c h =
+run-unchanged xs l budget report r xs' b report' c h =
     let n = answer-refused (c .number) h in
-    let a = run-stays (runCall xs window beats out ledger used budget report) xs report n in
-    let s = slices-stay window beats out ledger used budget (sized xs && isSize 18 report) (loadOf xs) n in
-    (c .image-after ∙ a .0, c .window-after ∙ s .0, c .out-after ∙ s .1, c .ledger-after ∙ s .2, c .report-after ∙ a .1)
+    let a = run-stays (runCall xs l budget report) xs report n in
+    let s = slices-stay l budget (sized xs && isSize 18 report) (loadOf xs) n in
+    (c .image-after ∙ a .0, c .back ∙ s, c .report-after ∙ a .1)
 
 pub build-unchanged : BuildUnchanged
 build-unchanged window base a j r window' c h =

@@ -21,7 +21,7 @@ pub data InUse : List ℕ → Type 0 where
   created : {xs ys : List ℕ} {mode base length : ℕ} → Created xs mode base length 0 ys → InUse ys
   loaded : {xs : List ℕ} {m : Machine} → AllBytes xs → loadOf xs ≡ Good m → InUse xs
   written : {xs ys : List ℕ} {offset v r : ℕ} → InUse xs → v < 2 ^ 32 → RegisterWritten xs offset v r ys → InUse ys
-  ran : {x : RunLent} {y : RunLeft} → InUse (x .image) → AllBytes (x .memory) → AllBytes (x .beats) → Promised x y → InUse (y .image)
+  ran : {x : RunLent} {y : RunLeft} → InUse (x .image) → AllBytes (x .lent .window) → AllBytes (x .lent .beats) → Promised x y → InUse (y .image)
 
 -- it is the image of a machine met in use, and loads back as it: so no call refuses it with 8
 pub record LoadsBack (xs : List ℕ) : Type 0 where

@@ -16,21 +16,18 @@ use Rattle.bus.specs.Window.{keepsLimits}
 use Rattle.machine.specs.declared.Ran.{Ran}
 use Rattle.machine.specs.declared.LoadedMachine.the-variants.{Good}
 use Rattle.machine.specs.Saved.{loadOf}
-use Rattle.machine.specs.Run.{run, even, ranAs}
+use Rattle.machine.specs.Run.{run, Lent, Returned, even, ranAs}
 use Rattle.chain.specs.Chain.{Given, worldFor, shares, recordsOf, cost, given, FirstFew, Outcome}
 use Rattle.chain.specs.Calls.{givenBy}
+use Rattle.answers.specs.Answers.{reportWidths, reportBytes}
 use Rattle.sgdma.specs.Calls.{imageOf, Created, RegisterWritten, RunMade}
 
 -- ---- one call of sgdma_run
 
--- what it is lent, and the budget
+-- what it is lent: the image, what the machine's run is lent, and the report; and the budget
 pub record RunLent : Type 0 where
   pub image : List ℕ
-  pub memory : List ℕ
-  pub beats : List ℕ
-  pub out : List ℕ
-  pub ledger : List ℕ
-  pub used : ℕ
+  pub lent : Lent
   pub budget : ℕ
   pub report : List ℕ
 
@@ -38,15 +35,12 @@ pub record RunLent : Type 0 where
 pub record RunLeft : Type 0 where
   pub number : ℕ
   pub image : List ℕ
-  pub memory : List ℕ
-  pub out : List ℕ
-  pub ledger : List ℕ
+  pub back : Returned
   pub report : List ℕ
 
 -- what it promises of them
 abbrev pub Promised : RunLent → RunLeft → Type 0
-Promised x y =
-    RunMade (x .image) (x .memory) (x .beats) (x .out) (x .ledger) (x .used) (x .budget) (x .report) (y .number) (y .image) (y .memory) (y .out) (y .ledger) (y .report)
+Promised x y = RunMade (x .image) (x .lent) (x .budget) (x .report) (y .number) (y .image) (y .back) (y .report)
 
 -- ---- what the caller lends
 
@@ -56,11 +50,7 @@ pub record Lends : Type 0 where
   pub window : Window
   pub pointer : ℕ
   pub control : ℕ
-  pub memory : List ℕ
-  pub beats : List ℕ
-  pub out : List ℕ
-  pub ledger : List ℕ
-  pub used : ℕ
+  pub lent : Lent
   pub budget : ℕ
   pub report : List ℕ
 
@@ -69,24 +59,23 @@ pub record WellLent (l : Lends) : Type 0 where
   -- the sizes that the header asks for: 44 bytes for the image, 18 for the report, whole beats in and out, whole records
   pub image-size : length (l .image) ≡ 44
   pub report-size : length (l .report) ≡ 18
-  pub even-beats : even (l .beats) ≡ true
-  pub even-out : even (l .out) ≡ true
-  pub is-ledger : isLedger (length (l .ledger)) (l .used) ≡ true
+  pub even-beats : even (l .lent .beats) ≡ true
+  pub even-out : even (l .lent .out) ≡ true
+  pub is-ledger : isLedger (length (l .lent .ledger)) (l .lent .used) ≡ true
   -- a window within the limits
   pub limits : keepsLimits (l .window .base) (l .window .length) ≡ true
   -- as the types in C have it: beats are bytes, a register is 32 bits
-  pub beat-bytes : AllBytes (l .beats)
+  pub beat-bytes : AllBytes (l .lent .beats)
   pub pointer-bits : l .pointer < 2 ^ 32
   pub control-bits : l .control < 2 ^ 32
 
 -- what the chain theorem is told of it, for a chain of k
 abbrev pub givenIn : Lends → (k : ℕ) → Given
-givenIn l k = givenBy (l .window) (l .pointer) (l .control) k (l .memory) (l .beats) (l .out) (l .ledger) (l .used)
+givenIn l k = givenBy (l .window) (l .pointer) (l .control) k (l .lent)
 
 -- what the run is lent of it, with this image
 abbrev pub runLent : Lends → (image : List ℕ) → RunLent
-runLent l image =
-    record { image = image; memory = l .memory; beats = l .beats; out = l .out; ledger = l .ledger; used = l .used; budget = l .budget; report = l .report }
+runLent l image = record { image = image; lent = l .lent; budget = l .budget; report = l .report }
 
 -- ---- the calls
 
@@ -114,24 +103,24 @@ pub record AllDone (created pointed started : ℕ) (left : RunLeft) : Type 0 whe
 pub record Found (g : Given) (l : Lends) (left : RunLeft) : Type 0 where
   -- what the run tells, and the outcome of demand 3 in the window's bytes
   pub told : Ran
-  pub is-run : told ≡ ranAs (l .used) (worldFor g) (run (l .budget) (worldFor g))
-  pub outcome : Outcome g told (left .memory)
+  pub is-run : told ≡ ranAs (l .lent .used) (worldFor g) (run (l .budget) (worldFor g))
+  pub outcome : Outcome g told (left .back .window)
   -- the report: reason 1, Ended; 2 steps and for each of the k its bytes and 2 more; the beats given, all taken; none made; k records more used
   pub report : left .report
-      ≡ rowBytes MostFirst (2 ∷ 4 ∷ 4 ∷ 4 ∷ 4 ∷ []) (1 ∷ (2 + cost (shares g)) ∷ given (shares g) ∷ 0 ∷ (g .used + g .k) ∷ [])
+      ≡ reportBytes 1 (2 + cost (shares g)) (given (shares g)) 0 (g .used + g .k)
   -- the image is that of the machine after the run, and loads back as it
   pub image : left .image ≡ imageOf (told .machine)
   pub loads : loadOf (left .image) ≡ Good (told .machine)
   -- the lent output is as it was
-  pub output : left .out ≡ l .out
+  pub output : left .back .out ≡ l .lent .out
   -- the records of the k stand behind those used, and no other byte of the ledger differs
-  pub ledger : left .ledger ≡ put (l .ledger) (12 * l .used) (ledgerBytes (recordsOf (shares g)))
+  pub ledger : left .back .ledger ≡ put (l .lent .ledger) (12 * l .lent .used) (ledgerBytes (recordsOf (shares g)))
 
 -- with any budget: after every step
 pub record FoundAtEveryStep (g : Given) (l : Lends) (left : RunLeft) : Type 0 where
-  pub first-few : FirstFew (l .window) (l .memory) (shares g) (left .memory)
+  pub first-few : FirstFew (l .window) (l .lent .window) (shares g) (left .back .window)
   -- the image is that of the machine after so many steps of the run, and loads back as it
   pub image : left .image ≡ imageOf (run (l .budget) (worldFor g) .world .machine)
   pub loads : loadOf (left .image) ≡ Good (run (l .budget) (worldFor g) .world .machine)
   -- one that is not enough is spent: the report begins with reason 6, Budget, and as many steps
-  pub spent : l .budget < 2 + cost (shares g) → take 6 (left .report) ≡ rowBytes MostFirst (2 ∷ 4 ∷ []) (6 ∷ l .budget ∷ [])
+  pub spent : l .budget < 2 + cost (shares g) → take 6 (left .report) ≡ rowBytes MostFirst (take 2 reportWidths) (6 ∷ l .budget ∷ [])

@@ -4,6 +4,7 @@ use Prim.Native.Nat.{_+_, _*_}
 use mathlib.Core.List.{[], _∷_, _++_}
 use lib.ListN.{take, replicate}
 use Rattle.flow.specs.Beats.{beatBytes}
+use Rattle.machine.specs.Run.{lent}
 use Rattle.chain.specs.Chain.{Given, machineFor}
 use Rattle.chain.specs.Known.{known}
 use Rattle.sgdma.specs.Calls.{imageOf}
@@ -18,11 +19,7 @@ lends g =
       window = g .window;
       pointer = g .pointer;
       control = g .control;
-      memory = g .memory;
-      beats = beatBytes (g .beats);
-      out = replicate (2 * g .room) 0;
-      ledger = replicate (12 * (g .used + g .left)) 0;
-      used = g .used;
+      lent = lent (g .memory) (beatBytes (g .beats)) (replicate (2 * g .room) 0) (replicate (12 * (g .used + g .left)) 0) (g .used);
       budget = 100;
       report = replicate 18 0;
     }
@@ -46,13 +43,15 @@ knownLeft =
           0x00 ∷ 0x00 ∷ 0x10 ∷ 0x00 ∷  -- base 4096
           0x00 ∷ 0x00 ∷ 0x01 ∷ 0x00 ∷  -- window length 256
           replicate 24 0;
-      memory = take 28 (known .memory) ++ 0x04 ∷ 0x00 ∷ 0x00 ∷ 0x00 ∷ replicate 96 0 ++ 0x11 ∷ 0x22 ∷ 0x33 ∷ 0x44 ∷ replicate 124 0;
-      out = [];
-      ledger =
-          0x00 ∷ 0x00 ∷ 0x00 ∷ 0x00 ∷  -- run
-          0x00 ∷ 0x00 ∷ 0x10 ∷ 0x00 ∷  -- descriptor 4096
-          0x00 ∷ 0x04 ∷ 0x00 ∷ 0x00 ∷  -- actual, status, EOP
-          [];
+      back = record {
+        window = take 28 (known .memory) ++ 0x04 ∷ 0x00 ∷ 0x00 ∷ 0x00 ∷ replicate 96 0 ++ 0x11 ∷ 0x22 ∷ 0x33 ∷ 0x44 ∷ replicate 124 0;
+        out = [];
+        ledger =
+            0x00 ∷ 0x00 ∷ 0x00 ∷ 0x00 ∷  -- run
+            0x00 ∷ 0x00 ∷ 0x10 ∷ 0x00 ∷  -- descriptor 4096
+            0x00 ∷ 0x04 ∷ 0x00 ∷ 0x00 ∷  -- actual, status, EOP
+            [];
+      };
       report =
           0x00 ∷ 0x01 ∷  -- Ended
           0x00 ∷ 0x00 ∷ 0x00 ∷ 0x08 ∷  -- steps

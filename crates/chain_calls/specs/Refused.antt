@@ -15,7 +15,7 @@ use Rattle.image.specs.Layout.{fields}
 use Rattle.image.specs.Rules.{keepsRules}
 use Rattle.image.specs.Promise.{sized}
 use Rattle.ledger.specs.Records.{isLedger}
-use Rattle.machine.specs.Run.{even}
+use Rattle.machine.specs.Run.{Lent, even}
 use Rattle.sgdma.specs.Calls.{isSize}
 
 -- a refusal's number, and whether it applies
@@ -107,9 +107,9 @@ writeTests xs offset = badSize (sized xs) ∷ badImage xs ∷ noRegister offset 
 abbrev pub lineTests : (xs value : List ℕ) → List Test
 lineTests xs value = badSize (sized xs && isSize 4 value) ∷ badImage xs ∷ []
 
-abbrev pub runTests : (xs window beats out ledger : List ℕ) (used : ℕ) (report : List ℕ) → List Test
-runTests xs window beats out ledger used report =
-    badSize (sized xs && isSize 18 report) ∷ badImage xs ∷ oddStream beats out ∷ badLedger ledger used ∷ otherWindow xs window ∷ []
+abbrev pub runTests : (xs : List ℕ) → Lent → (report : List ℕ) → List Test
+runTests xs l report =
+    badSize (sized xs && isSize 18 report) ∷ badImage xs ∷ oddStream (l .beats) (l .out) ∷ badLedger (l .ledger) (l .used) ∷ otherWindow xs (l .window) ∷ []
 
 abbrev pub buildTests : (window : List ℕ) (base a : ℕ) → List Test
 buildTests window base a = badWindow base (length window) ∷ misaligned a ∷ outside base (length window) a ∷ []

@@ -5,12 +5,14 @@ use mathlib.Core.Path.{_≡_}
 use mathlib.Core.List.{List}
 use lib.ListN.{length}
 use Rattle.descriptor.specs.declared.Job.{Job}
+use Rattle.machine.specs.Run.{Lent, Returned, asLent}
 use Rattle.chain.specs.Chain.{shares, cost, Premises}
 use Rattle.chain.specs.Known.{known}
 use Rattle.sgdma.specs.Calls.{Created, RegisterRead, RegisterWritten, LineRead, RunMade, DescriptorBuilt, DescriptorRead}
 use Rattle.chain_calls.specs.InC.{RunLent, RunLeft, Promised, Lends, WellLent, givenIn, Called, AllDone, Found, FoundAtEveryStep}
 use Rattle.chain_calls.specs.Known.{lends, knownLeft}
-use Rattle.chain_calls.specs.Refused.{FirstThatApplies, WhereRefused, createTests, readTests, writeTests, lineTests, runTests, buildTests, descriptorTests}
+use Rattle.chain_calls.specs.Refused.{FirstThatApplies, WhereRefused}
+use Rattle.chain_calls.specs.Refused.{createTests, readTests, writeTests, lineTests, runTests, buildTests, descriptorTests}
 use Rattle.chain_calls.specs.TwoRuns.{lentNext, lentWith, DoTheSame}
 use Rattle.chain_calls.specs.Images.{InUse, LoadsBack}
 use Rattle.chain_calls.specs.Useless.{Model, InBytes, Keeps, honest, RefusesEverything, OneFixedAnswer, NeverMoves, OnlyMarksTheOthers, MakesUpSteps}
@@ -39,9 +41,8 @@ LineInOrder = (xs value : List ℕ) (r : ℕ) (value' : List ℕ) → LineRead x
 
 -- sgdma_run does.
 abbrev pub RunInOrder : Type 0
-RunInOrder = (xs window beats out ledger : List ℕ) (used budget : ℕ) (report : List ℕ) (r : ℕ) (xs' window' out' ledger' report' : List ℕ)
-    → RunMade xs window beats out ledger used budget report r xs' window' out' ledger' report'
-    → FirstThatApplies (runTests xs window beats out ledger used report) r
+RunInOrder = (xs : List ℕ) (l : Lent) (budget : ℕ) (report : List ℕ) (r : ℕ) (xs' : List ℕ) (b : Returned) (report' : List ℕ)
+    → RunMade xs l budget report r xs' b report' → FirstThatApplies (runTests xs l report) r
 
 -- sgdma_build_descriptor does.
 abbrev pub BuildInOrder : Type 0
@@ -74,9 +75,8 @@ LineUnchanged = (xs value : List ℕ) (r : ℕ) (value' : List ℕ) → LineRead
 
 -- sgdma_run leaves image, window, output, ledger and report.
 abbrev pub RunUnchanged : Type 0
-RunUnchanged = (xs window beats out ledger : List ℕ) (used budget : ℕ) (report : List ℕ) (r : ℕ) (xs' window' out' ledger' report' : List ℕ)
-    → RunMade xs window beats out ledger used budget report r xs' window' out' ledger' report'
-    → WhereRefused r ((xs' ≡ xs) × (window' ≡ window) × (out' ≡ out) × (ledger' ≡ ledger) × (report' ≡ report))
+RunUnchanged = (xs : List ℕ) (l : Lent) (budget : ℕ) (report : List ℕ) (r : ℕ) (xs' : List ℕ) (b : Returned) (report' : List ℕ)
+    → RunMade xs l budget report r xs' b report' → WhereRefused r ((xs' ≡ xs) × (b ≡ asLent l) × (report' ≡ report))
 
 -- sgdma_build_descriptor leaves the window.
 abbrev pub BuildUnchanged : Type 0

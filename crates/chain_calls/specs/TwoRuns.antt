@@ -34,19 +34,20 @@ abbrev pub lentNext : RunLent → RunLeft → (budget : ℕ) (report : List ℕ)
 lentNext x left budget report =
     record {
       image = left .image;
-      memory = left .memory;
-      beats = drop (2 * takenTold (left .report)) (x .beats);
-      out = drop (2 * madeTold (left .report)) (left .out);
-      ledger = left .ledger;
-      used = usedTold (left .report);
+      lent = record {
+        window = left .back .window;
+        beats = drop (2 * takenTold (left .report)) (x .lent .beats);
+        out = drop (2 * madeTold (left .report)) (left .back .out);
+        ledger = left .back .ledger;
+        used = usedTold (left .report);
+      };
       budget = budget;
       report = report;
     }
 
 -- the same is lent with another budget
 abbrev pub lentWith : RunLent → (budget : ℕ) → RunLent
-lentWith x budget =
-    record { image = x .image; memory = x .memory; beats = x .beats; out = x .out; ledger = x .ledger; used = x .used; budget = budget; report = x .report }
+lentWith x budget = record { image = x .image; lent = x .lent; budget = budget; report = x .report }
 
 -- what is left after the two, and after the one
 pub record DoTheSame (first second one : RunLeft) : Type 0 where
@@ -55,10 +56,10 @@ pub record DoTheSame (first second one : RunLeft) : Type 0 where
   pub one-done : one .number ≡ 0
   -- image, window and ledger are the same
   pub image : one .image ≡ second .image
-  pub memory : one .memory ≡ second .memory
-  pub ledger : one .ledger ≡ second .ledger
+  pub window : one .back .window ≡ second .back .window
+  pub ledger : one .back .ledger ≡ second .back .ledger
   -- the output too: the beats that the first made, and behind them what the second left of the room
-  pub out : one .out ≡ take (2 * madeTold (first .report)) (first .out) ++ second .out
+  pub out : one .back .out ≡ take (2 * madeTold (first .report)) (first .back .out) ++ second .back .out
   -- the report tells the reason and the records used that the second's tells, and the steps and beats of both
   pub reason : reasonTold (one .report) ≡ reasonTold (second .report)
   pub steps : stepsTold (one .report) ≡ stepsTold (first .report) + stepsTold (second .report)

@@ -14,9 +14,9 @@ use Rattle.image.specs.Promise.{sized}
 use Rattle.machine.specs.declared.Machine.{Machine}
 use Rattle.machine.specs.declared.LoadedMachine.the-variants.{Good}
 use Rattle.machine.specs.Saved.{loadOf}
-use Rattle.machine.specs.Run.{run, serves, lentOf, worldOf, runNumber}
+use Rattle.machine.specs.Run.{run, asLent, serves, servedOf, worldOf, runNumber}
 use Rattle.chain.specs.Chain.{All, machineFor, links, Share, shares, Sent, sentByAll, Premises}
-use Rattle.sgdma.specs.Calls.{imageOf, isSize, runCall, ranOver, reportOver, windowIn, outIn, ledgerIn}
+use Rattle.sgdma.specs.Calls.{imageOf, isSize, runCall, ranOver, reportOver, returnedIn}
 use Rattle.chain_calls.specs.InC.{RunLent, RunLeft, Promised, Lends, WellLent, givenIn, runLent}
 
 -- a model: what it leaves of whatever it is lent
@@ -26,11 +26,11 @@ Model = RunLent → RunLeft
 -- what a caller in C can lend
 pub record InBytes (x : RunLent) : Type 0 where
   pub image : AllBytes (x .image)
-  pub memory : AllBytes (x .memory)
-  pub beats : AllBytes (x .beats)
-  pub out : AllBytes (x .out)
-  pub ledger : AllBytes (x .ledger)
-  pub used : x .used < 2 ^ 32
+  pub window : AllBytes (x .lent .window)
+  pub beats : AllBytes (x .lent .beats)
+  pub out : AllBytes (x .lent .out)
+  pub ledger : AllBytes (x .lent .ledger)
+  pub used : x .lent .used < 2 ^ 32
   pub budget : x .budget < 2 ^ 32
   pub report : AllBytes (x .report)
 
@@ -41,14 +41,11 @@ Keeps f = (x : RunLent) → InBytes x → Promised x (f x)
 -- the one that does what the promise says, and so keeps it
 abbrev pub honest : Model
 honest x =
-    let answer = runCall (x .image) (x .memory) (x .beats) (x .out) (x .ledger) (x .used) (x .budget) (x .report) in
-    let sizes = sized (x .image) && isSize 18 (x .report) in
+    let answer = runCall (x .image) (x .lent) (x .budget) (x .report) in
     record {
       number = runNumber answer;
       image = ranOver answer (x .image);
-      memory = cond sizes (windowIn (loadOf (x .image)) (x .memory) (x .beats) (x .out) (x .ledger) (x .used) (x .budget)) (x .memory);
-      out = cond sizes (outIn (loadOf (x .image)) (x .memory) (x .beats) (x .out) (x .ledger) (x .used) (x .budget)) (x .out);
-      ledger = cond sizes (ledgerIn (loadOf (x .image)) (x .memory) (x .beats) (x .out) (x .ledger) (x .used) (x .budget)) (x .ledger);
+      back = cond (sized (x .image) && isSize 18 (x .report)) (returnedIn (loadOf (x .image)) (x .lent) (x .budget)) (asLent (x .lent));
       report = reportOver answer (x .report);
     }
 
@@ -66,7 +63,7 @@ OneFixedAnswer f = (x y : RunLent) → f x .number ≡ 0 → f y .number ≡ 0 �
 -- ---- "the one that never moves"
 
 abbrev pub NeverMoves : Model → Type 0
-NeverMoves f = (x : RunLent) → f x .memory ≡ x .memory
+NeverMoves f = (x : RunLent) → f x .back .window ≡ x .lent .window
 
 -- ---- "the one that does the first descriptor honestly and only marks the others"
 
@@ -79,7 +76,7 @@ abbrev pub OnlyMarksTheOthers : Model → Type 0
 OnlyMarksTheOthers f = (l : Lends) (k : ℕ) → WellLent l → Premises (givenIn l k) → (place : ℕ)
     → All (λ s. s .to ≢ l .window .base + place) (sentByFirst (shares (givenIn l k)))
     → All (λ d. (j : ℕ) → j < 4 → l .window .base + place ≢ d .at + (28 + j)) (links (givenIn l k))
-    → getD (f (runLent l (imageOf (machineFor (givenIn l k)))) .memory) place 0 ≡ getD (l .memory) place 0
+    → getD (f (runLent l (imageOf (machineFor (givenIn l k)))) .back .window) place 0 ≡ getD (l .lent .window) place 0
 
 -- ---- "A made-up step count"
 
@@ -89,10 +86,10 @@ stepsTold report = numberOf MostFirst (part report 2 4)
 
 -- of some run that is not refused it tells another number than that of the applications of the step rule
 pub record MakesUpSteps (f : Model) : Type 0 where
-  pub lent : RunLent
-  pub bytes : InBytes lent
+  pub given : RunLent
+  pub bytes : InBytes given
   pub machine : Machine
-  pub loads : loadOf (lent .image) ≡ Good machine
-  pub report-size : length (lent .report) ≡ 18
-  pub not-refused : lentOf machine (lent .memory) (lent .beats) (lent .out) (lent .ledger) (lent .used) ≡ serves
-  pub made-up : stepsTold (f lent .report) ≢ run (lent .budget) (worldOf machine (lent .memory) (lent .beats) (lent .out) (lent .ledger) (lent .used)) .steps
+  pub loads : loadOf (given .image) ≡ Good machine
+  pub report-size : length (given .report) ≡ 18
+  pub not-refused : servedOf machine (given .lent) ≡ serves
+  pub made-up : stepsTold (f given .report) ≢ run (given .budget) (worldOf machine (given .lent)) .steps

@@ -2,19 +2,19 @@
 -- Assumes nothing.
 use Prim.Native.Nat.{ℕ, _+_, _*_, _%_, _^_, _<_, _≤_}
 use mathlib.Core.Path.{_≡_, refl, sym, ap, subst, _∙_}
-use mathlib.Core.List.{List, [], _∷_, _++_, map, append-nil}
-use native.Mathlib.Nat.{zero-add, mul-one, add-zero, div-one, mod-eq-of-lt}
+use mathlib.Core.List.{List, [], _∷_, _++_, map}
+use native.Mathlib.Nat.{mul-one, add-zero, div-one, mod-eq-of-lt}
 use native.Mathlib.Omega.{arith}
-use lib.ListN.{length, drop, length-drop, drop-of-length-le}
+use lib.ListN.{length, drop, length-drop}
 use lib.Seq.{drop-drop, length-take-le}
 use lib.Dec.{lit≤}
 use Rattle.words.specs.declared.Order.the-variants.{MostFirst}
 use Rattle.words.specs.Numbers.{join, split, recode, bytes, Fit}
 use Rattle.words.specs.Orders.{wordBytes}
-use Rattle.words.specs.Slices.{part, putAt, numberAt, AllBytes}
+use Rattle.words.specs.Slices.{part, numberAt, AllBytes}
 use Rattle.words.proofs.Recode.{join-lt}
 use Rattle.words.proofs.Bytes.{drop-bytes}
-use Rattle.words.proofs.Slices.{number-in, put-in}
+use Rattle.words.proofs.Slices.{number-in}
 use Rattle.words.proofs.Groups.{recodes, Even, joins, Alike, parts, fours, recode-groups, fits-of, recodes-words, parts-all, parts-fit}
 use Rattle.image.specs.declared.Fields.{Fields}
 use Rattle.image.specs.Layout.{values, widths, fieldsOf, image, fields}
@@ -53,11 +53,6 @@ cut-words : (fs : List (List ℕ)) (xs : List ℕ) (at : ℕ) → at + 4 * lengt
 cut-words [] xs at h = refl
 cut-words (f ∷ fs) xs at h =
     rw (word-join xs at (omega arith), drop-drop 4 at xs, cut-words fs xs (at + 4) (omega arith))
-
--- what is put over a whole slice is all that is left in it
-pub put-all : (xs ys : List ℕ) → length ys ≡ length xs → putAt xs 0 ys ≡ ys
-put-all xs ys l =
-    put-in xs 0 ys (omega arith) ∙ rw (zero-add (length ys), drop-of-length-le xs {i = length ys} (omega arith)) (append-nil ys)
 
 -- ---- the layout in words
 

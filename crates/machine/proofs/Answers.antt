@@ -28,7 +28,7 @@ use Rattle.machine.specs.Saved.{fieldsOf, keeps, loadedAs, loadOf, saved
 use Rattle.machine.specs.Registers.{writtenTo, writeOf, lineOf, lineNumber, registerNumber, WasWritten, WasLine}
 use Rattle.machine.specs.Registers as registers
 use Rattle.machine.specs.Step.{World, Answer, taken, stopped}
-use Rattle.machine.specs.Run.{Lent, serves, refused, steppedAs, runAnswer, stepNumber, runNumber, lentNumber}
+use Rattle.machine.specs.Run.{Lent, Served, serves, refused, steppedAs, runAnswer, stepNumber, runNumber, servedNumber}
 
 -- a test of two flags, by what they tell
 pub both : {a b c d t : Bool} → a ≡ c → b ≡ d → (a && b) ≡ t → (c && d) ≡ t
@@ -112,6 +112,6 @@ pub stepped-number : (used : ℕ) (w : World) (a : Answer) → stepNumber (stepp
 stepped-number used w (taken v) = refl
 stepped-number used w (stopped r) = refl
 
-pub run-number : (used : ℕ) (lent : Lent) (w : World) (budget : ℕ) → runNumber (runAnswer used lent w budget) ≡ lentNumber lent
-run-number used serves w budget = refl
-run-number used (refused why) w budget = refl
+pub run-number : (l : Lent) (served : Served) (w : World) (budget : ℕ) → runNumber (runAnswer l served w budget) ≡ servedNumber served
+run-number l serves w budget = refl
+run-number l (refused why) w budget = refl

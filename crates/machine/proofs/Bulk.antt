@@ -33,7 +33,7 @@ use Rattle.machine.specs.declared.steps.Reached.{Reached}
 use Rattle.machine.specs.declared.bursts.Reach.{Reach}
 use Rattle.machine.specs.declared.runs.Advanced.{Advanced}
 use Rattle.machine.specs.Step.{World, taken, became, received, step, whole, sourceOf, destinationOf, onward, beatFor}
-use Rattle.machine.specs.Run.{worldOf}
+use Rattle.machine.specs.Run.{lent, worldOf}
 use Rattle.machine.specs.Turns.{worldAt, midway, progress, Within, steps, Went, Turned, Advances, movedBy, Moving, Bursts, Reaches, Unmarked}
 use Rattle.machine.proofs.Places.{inside, place, fits}
 use Rattle.machine.proofs.Streams.{none-made}
@@ -266,7 +266,7 @@ module _ {m : Machine} {window beats : List ℕ} {took : ℕ} {out : List ℕ} {
     (g : Went (λ (w : World). steps n w) m window beats took out made r window' out') (none : n ≡ 0) where
   -- whatever world stands around it
   abbrev around : World
-  around = worldOf m window beats out [] 0
+  around = worldOf m (lent window beats out [] 0)
 
   same-world : midway around m window beats took out made ≡ worldAt around (r .machine) window' beats (r .taken) (g .new) (length out / 2 - r .made)
   unfolding steps

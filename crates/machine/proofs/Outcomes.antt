@@ -26,7 +26,8 @@ use Rattle.machine.specs.declared.RunAnswer.{RunAnswer}
 use Rattle.machine.specs.declared.steps.Wait.the-variants.{Go, Stop}
 use Rattle.machine.specs.Saved.{keeps}
 use Rattle.machine.specs.Step.{World, Answer, taken, stopped, noted, step}
-use Rattle.machine.specs.Run.{Lent, serves, refused, even, lentIf, lentOf, worldOf, outputOver, ledgerOver, steppedAs, worldAfter, stepAnswer, windowAfter, outAfter, ledgerAfter, stepNumber, lentNumber, Stepped, Runs, readyOf}
+use Rattle.machine.specs.Run.{Lent, Returned, back, asLent, Served, serves, refused, even, servedIf, servedOf, worldOf, outputOver, returned}
+use Rattle.machine.specs.Run.{steppedAs, worldAfter, stepAnswer, stepNumber, servedNumber, Stepped, RunsIf, readyOf}
 use Rattle.machine.specs.Turns.{worldAt, midway, waitOf, Within, Logs, Turned, Ready}
 use Rattle.machine.specs.Theorems.{ResumedRuns}
 use Rattle.machine.proofs.Answers.{stepped-number}
@@ -44,23 +45,23 @@ serves-by true false l c e = absurd (let z : _≡_ {A = ℕ} 0 1 = cc in omega a
 serves-by false b l c e = absurd (let z : _≡_ {A = ℕ} 0 1 = cc in omega arith)
 
 -- what serves is a good machine and its window
-pub serves-good : (good : Bool) (m : Machine) (window beats out ledger : List ℕ) (used : ℕ) → lentIf good m window beats out ledger used ≡ serves
-    → (good ≡ true) × (length window ≡ m .window .length) × (used ≤ length ledger / 12)
-serves-good good m window beats out ledger used e =
-    let all = serves-by good (even beats && even out) (isLedger (length ledger) used) (eqb (length window) (m .window .length)) e in
-    (all .0, eqb-true _ _ (all .1), leb-true _ _ (and-right (eqb (length ledger % 12) 0) _ (all .2)))
+pub serves-good : (good : Bool) (m : Machine) (l : Lent) → servedIf good m l ≡ serves
+    → (good ≡ true) × (length (l .window) ≡ m .window .length) × (l .used ≤ length (l .ledger) / 12)
+serves-good good m l e =
+    let all = serves-by good (even (l .beats) && even (l .out)) (isLedger (length (l .ledger)) (l .used)) (eqb (length (l .window)) (m .window .length)) e in
+    (all .0, eqb-true _ _ (all .1), leb-true _ _ (and-right (eqb (length (l .ledger) % 12) 0) _ (all .2)))
 
 -- a good machine that is served is ready, if the good ones are
-pub good-ready : (good : Bool) (m : Machine) (window beats out ledger : List ℕ) (used : ℕ) → (good ≡ true → Ready m (m .window .length))
-    → lentIf good m window beats out ledger used ≡ serves → Ready m (length window)
-good-ready good m window beats out ledger used h e =
-    let s = serves-good good m window beats out ledger used e in
+pub good-ready : (good : Bool) (m : Machine) (l : Lent) → (good ≡ true → Ready m (m .window .length))
+    → servedIf good m l ≡ serves → Ready m (length (l .window))
+good-ready good m l h e =
+    let s = serves-good good m l e in
     subst⁻¹ (λ (n : ℕ). Ready m n) (s .1) (h (s .0))
 
 -- as are those that keep the rules
-pub serves-ready : (m : Machine) (window beats out ledger : List ℕ) (used : ℕ) → lentOf m window beats out ledger used ≡ serves → Ready m (length window)
-unfolding lentOf
-serves-ready m window beats out ledger used e = good-ready (keeps m) m window beats out ledger used (λ k. keeps-ready m (m .window .length) k refl) e
+pub serves-ready : (m : Machine) (l : Lent) → servedOf m l ≡ serves → Ready m (length (l .window))
+unfolding servedOf
+serves-ready m l e = good-ready (keeps m) m l (λ k. keeps-ready m (m .window .length) k refl) e
 
 -- ---- where it stands
 
@@ -78,66 +79,58 @@ wait-stopped (stopped q) e = cc
 
 -- ---- a step
 
-module _ {m : Machine} {window beats out ledger : List ℕ} {used : ℕ} where
-  pub step-refused : {why : Refusal} → lentOf m window beats out ledger used ≡ refused why → Stepped m window beats out ledger used (one.Refused why) window out ledger
+module _ {m : Machine} {l : Lent} where
+  pub step-refused : {why : Refusal} → servedOf m l ≡ refused why → Stepped m l (one.Refused why) (asLent l)
   step-refused e =
-      let w = worldOf m window beats out ledger used in
+      let w = worldOf m l in
       record {
-        answer = sym (ap (λ (l : Lent). stepAnswer used l w) e);
-        number = sym (ap lentNumber e);
-        window-after = sym (ap (λ (l : Lent). windowAfter l (worldAfter w (step w)) window) e);
-        out-after = sym (ap (λ (l : Lent). outAfter l (worldAfter w (step w)) out) e);
-        ledger-after = sym (ap (λ (l : Lent). ledgerAfter l (worldAfter w (step w)) ledger used) e);
+        answer = sym (ap (λ (x : Served). stepAnswer l x w) e);
+        number = sym (ap servedNumber e);
+        back = sym (ap (λ (x : Served). returned l x (worldAfter w (step w))) e);
       }
 
-  module _ (e : lentOf m window beats out ledger used ≡ serves) where
+  module _ (e : servedOf m l ≡ serves) where
     -- the promise, where the step's answer is known
-    served : {r : StepAnswer} {window' out' ledger' : List ℕ} (a : Answer) → step (worldOf m window beats out ledger used) ≡ a
-        → r ≡ steppedAs used (worldOf m window beats out ledger used) a → window' ≡ worldAfter (worldOf m window beats out ledger used) a .memory
-        → out' ≡ outputOver (worldAfter (worldOf m window beats out ledger used) a) out
-        → ledger' ≡ ledgerOver (worldAfter (worldOf m window beats out ledger used) a) ledger used → Stepped m window beats out ledger used r window' out' ledger'
-    served a s p q o k =
-        let w = worldOf m window beats out ledger used in
+    known : {r : StepAnswer} {b : Returned} (a : Answer) → step (worldOf m l) ≡ a → r ≡ steppedAs (l .used) (worldOf m l) a
+        → b ≡ returned l serves (worldAfter (worldOf m l) a) → Stepped m l r b
+    known a s p q =
+        let w = worldOf m l in
         record {
-          answer = p ∙ sym (ap (λ (l : Lent). stepAnswer used l w) e ∙ ap (λ (x : Answer). steppedAs used w x) s);
-          number = ap stepNumber p ∙ stepped-number used w a ∙ sym (ap lentNumber e);
-          window-after = q
-              ∙ sym (ap (λ (l : Lent). windowAfter l (worldAfter w (step w)) window) e ∙ ap (λ (x : Answer). worldAfter w x .memory) s);
-          out-after = o
-              ∙ sym (ap (λ (l : Lent). outAfter l (worldAfter w (step w)) out) e ∙ ap (λ (x : Answer). outputOver (worldAfter w x) out) s);
-          ledger-after = k
-              ∙ sym (ap (λ (l : Lent). ledgerAfter l (worldAfter w (step w)) ledger used) e ∙ ap (λ (x : Answer). ledgerOver (worldAfter w x) ledger used) s);
+          answer = p ∙ sym (ap (λ (x : Served). stepAnswer l x w) e ∙ ap (λ (x : Answer). steppedAs (l .used) w x) s);
+          number = ap stepNumber p ∙ stepped-number (l .used) w a ∙ sym (ap servedNumber e);
+          back = q
+              ∙ sym (ap (λ (x : Served). returned l x (worldAfter w (step w))) e ∙ ap (λ (x : Answer). returned l serves (worldAfter w x)) s);
         }
 
-    pub step-stopped : {r : Reason} → step (worldOf m window beats out ledger used) ≡ stopped r → Stepped m window beats out ledger used (one.Stopped r) window out ledger
-    step-stopped s = served (stopped _) s refl refl refl (none-made ledger (12 * used))
+    pub step-stopped : {r : Reason} → step (worldOf m l) ≡ stopped r → Stepped m l (one.Stopped r) (asLent l)
+    step-stopped s = known (stopped _) s refl (λ x. back (l .window) (l .out) (none-made (l .ledger) (12 * l .used) x))
 
-    pub step-taken : {r : Reached} {used' : ℕ} {window' out' ledger' : List ℕ} → waitOf (step (worldOf m window beats out ledger used)) ≡ Go
-        → Within beats out (r .taken) (r .made) → Logs m ledger used used' ledger'
-        → Turned step m window beats 0 out 0 r window' out'
-        → Stepped m window beats out ledger used (one.Taken (record { machine = r .machine; taken = r .taken; made = r .made; used = used' })) window' out' ledger'
-    step-taken {r} {used'} {window'} {out'} can h l g =
-        let w = worldOf m window beats out ledger used in
-        let whole = sub-zero (length out / 2) in
-        let here = midway w m window beats 0 out 0 in
-        let first : here ≡ w = ap (λ (n : ℕ). worldAt w m window beats 0 [] n) whole in
+    pub step-taken : {r : Reached} {used' : ℕ} {window' out' ledger' : List ℕ} → waitOf (step (worldOf m l)) ≡ Go
+        → Within (l .beats) (l .out) (r .taken) (r .made) → Logs m (l .ledger) (l .used) used' ledger'
+        → Turned step m (l .window) (l .beats) 0 (l .out) 0 r window' out'
+        → Stepped m l (one.Taken (record { machine = r .machine; taken = r .taken; made = r .made; used = used' })) (back window' out' ledger')
+    step-taken {r} {used'} {window'} {out'} can h k g =
+        let w = worldOf m l in
+        let whole = sub-zero (length (l .out) / 2) in
+        let here = midway w m (l .window) (l .beats) 0 (l .out) 0 in
+        let first : here ≡ w = ap (λ (n : ℕ). worldAt w m (l .window) (l .beats) 0 [] n) whole in
         let goes : waitOf (step here) ≡ Go = ap (λ (x : World). waitOf (step x)) first ∙ can in
-        let v = worldAt (noted w (l .new) (capacity (length ledger) - used')) (r .machine) window' beats (r .taken) (g .new) (length out / 2 - r .made) in
-        let took : length (beatsIn beats) - length (drop (r .taken) (beatsIn beats)) ≡ r .taken = took-since beats (r .taken) (h .taken-in) in
+        let room = length (l .out) / 2 - r .made in
+        let v = worldAt (noted w (k .new) (capacity (length (l .ledger)) - used')) (r .machine) window' (l .beats) (r .taken) (g .new) room in
+        let took : length (beatsIn (l .beats)) - length (drop (r .taken) (beatsIn (l .beats))) ≡ r .taken = took-since (l .beats) (r .taken) (h .taken-in) in
         let made : r .made ≡ length (g .new) = g .counted ∙ zero-add (length (g .new)) in
         let there : step w ≡ taken v = ap step (sym first) ∙ g .goes w goes
-        ∙ ap (λ (x : World). taken (worldAt x (r .machine) window' beats (r .taken) (g .new) (length out / 2 - r .made))) (l .logs w refl can) in
-        served (taken v) there (rw (took, ← made, ← l .counted)) refl (g .wrote ∙ over out (g .new)) (l .wrote)
+        ∙ ap (λ (x : World). taken (worldAt x (r .machine) window' (l .beats) (r .taken) (g .new) room)) (k .logs w refl can) in
+        let out : out' ≡ outputOver v (l .out) = g .wrote ∙ over (l .out) (g .new) in
+        known (taken v) there (rw (took, ← made, ← k .counted)) (λ x. back window' (out x) (k .wrote x))
 
 -- ---- a run by another test for the same good machines
 
-pub runs-as : (good good' : Bool) → good ≡ good' → {m : Machine} {window beats out ledger window' out' ledger' : List ℕ} {used : ℕ} {budget : ℕ} {r : RunAnswer}
-    → Runs (lentIf good m window beats out ledger used) m window beats out ledger used budget r window' out' ledger'
-    → Runs (lentIf good' m window beats out ledger used) m window beats out ledger used budget r window' out' ledger'
-runs-as good good' e {m} {window} {beats} {out} {ledger} {window'} {out'} {ledger'} {used} {budget} {r} h =
-    subst (λ (b : Bool). Runs (lentIf b m window beats out ledger used) m window beats out ledger used budget r window' out' ledger') e h
+pub runs-as : (good good' : Bool) → good ≡ good' → {m : Machine} {l : Lent} {budget : ℕ} {r : RunAnswer} {b : Returned}
+    → RunsIf good m l budget r b → RunsIf good' m l budget r b
+runs-as good good' e {m} {l} {budget} {r} {b} h = subst (λ (t : Bool). RunsIf t m l budget r b) e h
 
 -- one that keeps the rules is resumed as it is run
 pub resumed-runs : ResumedRuns
-unfolding lentOf
-resumed-runs m window beats out ledger used budget r window' out' ledger' k h = runs-as (readyOf m) (keeps m) (keeps-tested m k ∙ sym k) h
+unfolding servedOf
+resumed-runs m l budget r b k h = runs-as (readyOf m) (keeps m) (keeps-tested m k ∙ sym k) h

@@ -61,31 +61,57 @@ reasonNumber LedgerFull = 7
 
 -- ---- what is lent
 
--- the lent slices serve the machine, or the first refusal that applies
-pub data Lent : Type 0 where
-  serves : Lent
-  refused : Refusal → Lent
+-- what is lent to a step or a run: the window, the beats, the room for output, the ledger, and how many of its records were used before
+pub record Lent : Type 0 where
+  pub window : List ℕ
+  pub beats : List ℕ
+  pub out : List ℕ
+  pub ledger : List ℕ
+  pub used : ℕ
+
+abbrev pub lent : (window beats out ledger : List ℕ) (used : ℕ) → Lent
+lent window beats out ledger used = record { window = window; beats = beats; out = out; ledger = ledger; used = used }
+
+-- what comes back of it: all but the beats, which are only read
+pub record Returned : Type 0 where
+  pub window : List ℕ
+  pub out : List ℕ
+  pub ledger : List ℕ
+
+abbrev pub back : (window out ledger : List ℕ) → Returned
+back window out ledger = record { window = window; out = out; ledger = ledger }
+
+-- as it was lent
+abbrev pub asLent : Lent → Returned
+asLent l = back (l .window) (l .out) (l .ledger)
+
+-- what is lent serves the machine, or the first refusal that applies
+pub data Served : Type 0 where
+  serves : Served
+  refused : Refusal → Served
 
 abbrev pub even : List ℕ → Bool
 even xs = eqb (length xs % 2) 0
 
 -- 8 where the machine is not good; 9 where beats, in or out, have an odd number of bytes; 19 where the ledger is not whole records,
 -- or fewer than are said to be used; 4 where the window's length is not the machine's
-abbrev pub lentIf : (good : Bool) → Machine → (window beats out ledger : List ℕ) (used : ℕ) → Lent
-lentIf good m window beats out ledger used =
+abbrev pub servedIf : (good : Bool) → Machine → Lent → Served
+servedIf good m l =
     cond good
-    (cond (even beats && even out)
-    (cond (isLedger (length ledger) used) (cond (eqb (length window) (m .window .length)) serves (refused OtherWindow)) (refused BadLedger))
+    (cond (even (l .beats) && even (l .out))
+    (cond (isLedger (length (l .ledger)) (l .used))
+    (cond (eqb (length (l .window)) (m .window .length)) serves (refused OtherWindow))
+    (refused BadLedger))
     (refused OddStream))
     (refused BadImage)
 
 -- good is a machine that keeps the rules
-unfoldable pub lentOf : Machine → (window beats out ledger : List ℕ) (used : ℕ) → Lent
-lentOf m window beats out ledger used = lentIf (keeps m) m window beats out ledger used
+unfoldable pub servedOf : Machine → Lent → Served
+servedOf m l = servedIf (keeps m) m l
 
 -- the world that a machine and what it is lent make
-abbrev pub worldOf : Machine → (window beats out ledger : List ℕ) (used : ℕ) → World
-worldOf m window beats out ledger used = opened m window (beatsIn beats) (length out / 2) (capacity (length ledger) - used)
+abbrev pub worldOf : Machine → Lent → World
+worldOf m l = opened m (l .window) (beatsIn (l .beats)) (length (l .out) / 2) (capacity (length (l .ledger)) - l .used)
 
 -- beats taken since w
 abbrev pub takenSince : World → World → ℕ
@@ -98,6 +124,11 @@ outputOver v out = beatBytes (v .output) ++ drop (2 * length (v .output)) out
 -- the lent ledger after it: the records made stand behind those used, "and bytes past them stay"
 abbrev pub ledgerOver : World → List ℕ → (used : ℕ) → List ℕ
 ledgerOver v ledger used = put ledger (12 * used) (ledgerBytes (v .records))
+
+-- what comes back of what was lent, after a step or a run that ended in v; refused, nothing changed
+abbrev pub returned : Lent → Served → World → Returned
+returned l serves v = back (v .memory) (outputOver v (l .out)) (ledgerOver v (l .ledger) (l .used))
+returned l (refused why) v = asLent l
 
 -- ---- a step. used is how many records were used before it
 
@@ -113,9 +144,9 @@ abbrev pub worldAfter : World → Answer → World
 worldAfter w (taken v) = v
 worldAfter w (stopped r) = w
 
-abbrev pub stepAnswer : (used : ℕ) → Lent → World → StepAnswer
-stepAnswer used serves w = steppedAs used w (step w)
-stepAnswer used (refused why) w = one.Refused why
+abbrev pub stepAnswer : Lent → Served → World → StepAnswer
+stepAnswer l serves w = steppedAs (l .used) w (step w)
+stepAnswer l (refused why) w = one.Refused why
 
 -- ---- a run
 
@@ -130,22 +161,9 @@ ranAs used w r =
       used = used + length (r .world .records);
     }
 
-abbrev pub runAnswer : (used : ℕ) → Lent → World → (budget : ℕ) → RunAnswer
-runAnswer used serves w budget = many.Done (ranAs used w (run budget w))
-runAnswer used (refused why) w budget = many.Refused why
-
--- the lent bytes after a step or a run that ended in v; refused, nothing changed
-abbrev pub windowAfter : Lent → World → List ℕ → List ℕ
-windowAfter serves v window = v .memory
-windowAfter (refused why) v window = window
-
-abbrev pub outAfter : Lent → World → List ℕ → List ℕ
-outAfter serves v out = outputOver v out
-outAfter (refused why) v out = out
-
-abbrev pub ledgerAfter : Lent → World → List ℕ → (used : ℕ) → List ℕ
-ledgerAfter serves v ledger used = ledgerOver v ledger used
-ledgerAfter (refused why) v ledger used = ledger
+abbrev pub runAnswer : Lent → Served → World → (budget : ℕ) → RunAnswer
+runAnswer l serves w budget = many.Done (ranAs (l .used) w (run budget w))
+runAnswer l (refused why) w budget = many.Refused why
 
 -- the paper's number of each answer
 abbrev pub stepNumber : StepAnswer → ℕ
@@ -158,31 +176,30 @@ runNumber (many.Done r) = 0
 runNumber (many.Refused why) = refusalNumber why
 
 -- and of what is lent: a step or a run is refused for that alone
-abbrev pub lentNumber : Lent → ℕ
-lentNumber serves = 0
-lentNumber (refused why) = refusalNumber why
+abbrev pub servedNumber : Served → ℕ
+servedNumber serves = 0
+servedNumber (refused why) = refusalNumber why
 
 -- ---- the promises
 
-pub record Stepped (m : Machine) (window beats out ledger : List ℕ) (used : ℕ) (r : StepAnswer) (window' out' ledger' : List ℕ) : Type 0 where
-  pub answer : r ≡ stepAnswer used (lentOf m window beats out ledger used) (worldOf m window beats out ledger used)
-  pub number : stepNumber r ≡ lentNumber (lentOf m window beats out ledger used)
-  pub window-after : window'
-      ≡ windowAfter (lentOf m window beats out ledger used) (worldAfter (worldOf m window beats out ledger used) (step (worldOf m window beats out ledger used))) window
-  pub out-after : out' ≡ outAfter (lentOf m window beats out ledger used) (worldAfter (worldOf m window beats out ledger used) (step (worldOf m window beats out ledger used))) out
-  pub ledger-after : ledger' ≡ ledgerAfter (lentOf m window beats out ledger used) (worldAfter (worldOf m window beats out ledger used) (step (worldOf m window beats out ledger used))) ledger used
+pub record Stepped (m : Machine) (l : Lent) (r : StepAnswer) (b : Returned) : Type 0 where
+  pub answer : r ≡ stepAnswer l (servedOf m l) (worldOf m l)
+  pub number : stepNumber r ≡ servedNumber (servedOf m l)
+  pub back : b ≡ returned l (servedOf m l) (worldAfter (worldOf m l) (step (worldOf m l)))
 
 -- a run, by whether what is lent serves
-pub record Runs (lent : Lent) (m : Machine) (window beats out ledger : List ℕ) (used : ℕ) (budget : ℕ) (r : RunAnswer) (window' out' ledger' : List ℕ) : Type 0 where
-  pub answer : r ≡ runAnswer used lent (worldOf m window beats out ledger used) budget
-  pub number : runNumber r ≡ lentNumber lent
-  pub window-after : window' ≡ windowAfter lent (run budget (worldOf m window beats out ledger used) .world) window
-  pub out-after : out' ≡ outAfter lent (run budget (worldOf m window beats out ledger used) .world) out
-  pub ledger-after : ledger' ≡ ledgerAfter lent (run budget (worldOf m window beats out ledger used) .world) ledger used
+pub record Runs (served : Served) (m : Machine) (l : Lent) (budget : ℕ) (r : RunAnswer) (b : Returned) : Type 0 where
+  pub answer : r ≡ runAnswer l served (worldOf m l) budget
+  pub number : runNumber r ≡ servedNumber served
+  pub back : b ≡ returned l served (run budget (worldOf m l) .world)
+
+-- by whether the machine is good
+abbrev pub RunsIf : (good : Bool) → Machine → Lent → (budget : ℕ) → RunAnswer → Returned → Type 0
+RunsIf good m l budget r b = Runs (servedIf good m l) m l budget r b
 
 -- run
-abbrev pub HasRun : Machine → (window beats out ledger : List ℕ) (used : ℕ) (budget : ℕ) → RunAnswer → (window' out' ledger' : List ℕ) → Type 0
-HasRun m window beats out ledger used budget r window' out' ledger' = Runs (lentOf m window beats out ledger used) m window beats out ledger used budget r window' out' ledger'
+abbrev pub HasRun : Machine → Lent → (budget : ℕ) → RunAnswer → Returned → Type 0
+HasRun m l budget r b = Runs (servedOf m l) m l budget r b
 
 -- what a step needs of a machine: in Move a byte is left to move and no EOP was seen, and the descriptor in hand is in the window.
 -- One that keeps the rules has it
@@ -199,16 +216,13 @@ unfoldable pub readyOf : Machine → Bool
 readyOf m = readyIn m (m .phase)
 
 -- resume: good is a machine that has what a step needs
-abbrev pub Resumed : Machine → (window beats out ledger : List ℕ) (used : ℕ) (budget : ℕ) → RunAnswer → (window' out' ledger' : List ℕ) → Type 0
-Resumed m window beats out ledger used budget r window' out' ledger' = Runs (lentIf (readyOf m) m window beats out ledger used) m window beats out ledger used budget r window' out' ledger'
+abbrev pub Resumed : Machine → Lent → (budget : ℕ) → RunAnswer → Returned → Type 0
+Resumed m l budget r b = RunsIf (readyOf m) m l budget r b
 
-pub stepped-unique : {m : Machine} {window beats out ledger w1 o1 l1 w2 o2 l2 : List ℕ} {used : ℕ} {r s : StepAnswer}
-    → Stepped m window beats out ledger used r w1 o1 l1 → Stepped m window beats out ledger used s w2 o2 l2 → (r ≡ s) × (w1 ≡ w2) × (o1 ≡ o2) × (l1 ≡ l2)
-stepped-unique p q =
-    (p .answer ∙ sym (q .answer), p .window-after ∙ sym (q .window-after), p .out-after ∙ sym (q .out-after), p .ledger-after ∙ sym (q .ledger-after))
+pub stepped-unique : {m : Machine} {l : Lent} {r s : StepAnswer} {b d : Returned} → Stepped m l r b → Stepped m l s d → (r ≡ s) × (b ≡ d)
+stepped-unique p q = (p .answer ∙ sym (q .answer), p .back ∙ sym (q .back))
 
 -- of both
-pub run-unique : {lent : Lent} {m : Machine} {window beats out ledger w1 o1 l1 w2 o2 l2 : List ℕ} {used : ℕ} {budget : ℕ} {r s : RunAnswer}
-    → Runs lent m window beats out ledger used budget r w1 o1 l1 → Runs lent m window beats out ledger used budget s w2 o2 l2 → (r ≡ s) × (w1 ≡ w2) × (o1 ≡ o2) × (l1 ≡ l2)
-run-unique p q =
-    (p .answer ∙ sym (q .answer), p .window-after ∙ sym (q .window-after), p .out-after ∙ sym (q .out-after), p .ledger-after ∙ sym (q .ledger-after))
+pub run-unique : {served : Served} {m : Machine} {l : Lent} {budget : ℕ} {r s : RunAnswer} {b d : Returned}
+    → Runs served m l budget r b → Runs served m l budget s d → (r ≡ s) × (b ≡ d)
+run-unique p q = (p .answer ∙ sym (q .answer), p .back ∙ sym (q .back))

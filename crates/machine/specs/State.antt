@@ -1,4 +1,4 @@
--- The phases by number, and the machine with one part changed.
+-- The phases by number, the codes of the faults, and the machine with one part changed.
 -- Assumes nothing.
 use Prim.Native.Nat.{ℕ}
 use mathlib.Core.Bool.{Bool, false, _||_}
@@ -19,6 +19,23 @@ phaseNumber (WriteBack k) = 3
 phaseNumber Ended = 4
 phaseNumber Halted = 5
 phaseNumber (Faulted f) = 6
+
+-- ---- the codes of the faults
+
+abbrev pub misaligned : ℕ
+misaligned = 10
+
+abbrev pub descriptorOutside : ℕ
+descriptorOutside = 11
+
+abbrev pub noLength : ℕ
+noLength = 12
+
+abbrev pub sourceOutside : ℕ
+sourceOutside = 13
+
+abbrev pub destinationOutside : ℕ
+destinationOutside = 14
 
 -- ---- the machine with one part changed
 

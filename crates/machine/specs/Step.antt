@@ -25,7 +25,7 @@ use Rattle.machine.specs.declared.Phase.{Phase}
 use Rattle.machine.specs.declared.Phase.the-variants.{Rest, Fetch, Move, WriteBack, Ended, Halted, Faulted}
 use Rattle.machine.specs.declared.Reason.{Reason}
 use Rattle.machine.specs.declared.Reason.the-variants as reason
-use Rattle.machine.specs.State.{remade, withStatus, withPointer, withPhase, withBusy, pend, rested}
+use Rattle.machine.specs.State.{misaligned, descriptorOutside, noLength, sourceOutside, destinationOutside, remade, withStatus, withPointer, withPhase, withBusy, pend, rested}
 
 -- the world of a step: the machine; the window's bytes; the beats not yet taken; the beats made, and the room for more;
 -- the records made, and the room for more
@@ -130,7 +130,7 @@ fetched w d =
     let m = w .machine in
     let a = w .machine .pointer .0 in
     cond (owned (d .control .0))
-    (cond (wantsLength (m .mode) && eqb (d .length) 0) (faulted w 12 a)
+    (cond (wantsLength (m .mode) && eqb (d .length) 0) (faulted w noLength a)
     (taken (became w (withPhase (Move (begun a d)) (withPointer (d .next) m)))))
     (taken (became w (ended m)))
 
@@ -142,8 +142,8 @@ fetchStep w =
     let a = w .machine .pointer .0 in
     cond (run (m .control))
     (cond (eqb (a % 4) 0)
-    (cond (inWindow (m .window) a 32) (fetched w (descriptorAt (w .memory) (placeOf (m .window) a))) (faulted w 11 a))
-    (faulted w 10 a))
+    (cond (inWindow (m .window) a 32) (fetched w (descriptorAt (w .memory) (placeOf (m .window) a))) (faulted w descriptorOutside a))
+    (faulted w misaligned a))
     (taken (became w (rested m)))
 
 -- ---- Move
@@ -188,8 +188,8 @@ copyStep w k =
     (cond (inWindow (m .window) (destinationOf k) 1)
     (taken (stored w (onward m (withByte 0 false k))
     (set (w .memory) (placeOf (m .window) (destinationOf k)) (getD (w .memory) (placeOf (m .window) (sourceOf k)) 0))))
-    (faulted w 14 (destinationOf k % 2 ^ 32)))
-    (faulted w 13 (sourceOf k % 2 ^ 32))
+    (faulted w destinationOutside (destinationOf k % 2 ^ 32)))
+    (faulted w sourceOutside (sourceOf k % 2 ^ 32))
 
 -- SOP on byte 0 if WRITE_FIXED, EOP on byte L-1 if GENERATE_EOP
 unfoldable pub beatFor : Work → ℕ → ℕ
@@ -205,7 +205,7 @@ sendTo w k (suc left) =
 
 -- mode 1: 13, then no room, no step
 unfoldable pub sendStep : World → Work → Answer
-sendStep w k = cond (inWindow (w .machine .window) (sourceOf k) 1) (sendTo w k (w .room)) (faulted w 13 (sourceOf k % 2 ^ 32))
+sendStep w k = cond (inWindow (w .machine .window) (sourceOf k) 1) (sendTo w k (w .room)) (faulted w sourceOutside (sourceOf k % 2 ^ 32))
 
 -- mode 2: no beat, no step; then 14, beat not taken; otherwise the byte is moved and counted, with an error or without
 abbrev pub receiveFrom : World → Work → (input : List ℕ) → Answer
@@ -214,7 +214,7 @@ receiveFrom w k (b ∷ bs) =
     let m = w .machine in
     cond (inWindow (m .window) (destinationOf k) 1)
     (taken (received w (onward m (withByte (beatError b) (beatEop b) k)) (set (w .memory) (placeOf (m .window) (destinationOf k)) (beatData b)) bs))
-    (faulted w 14 (destinationOf k % 2 ^ 32))
+    (faulted w destinationOutside (destinationOf k % 2 ^ 32))
 
 abbrev pub moveStep : Mode → World → Work → Answer
 moveStep MemoryToMemory w k = copyStep w k

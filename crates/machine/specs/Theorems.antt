@@ -16,7 +16,7 @@ use Rattle.machine.specs.declared.Reason.the-variants.{Budget}
 use Rattle.machine.specs.declared.RunAnswer.{RunAnswer}
 use Rattle.machine.specs.Saved.{keeps}
 use Rattle.machine.specs.Step.{World, taken, became, stored, received, sent, sourceOf, destinationOf, onward, step}
-use Rattle.machine.specs.Run.{run, HasRun, Resumed}
+use Rattle.machine.specs.Run.{run, Lent, Returned, HasRun, Resumed}
 use Rattle.machine.specs.Turns.{steps, movedBy, Moving, Row, Unmarked}
 use Rattle.machine.specs.Laws.{Passed, sparesIn, Tells, onTop}
 
@@ -38,9 +38,8 @@ BudgetOnly = (budget : ℕ) (w : World) → run budget w .reason ≡ Budget
 
 -- A machine that keeps the rules is resumed as it is run.
 abbrev pub ResumedRuns : Type 0
-ResumedRuns = (m : Machine) (window beats out ledger : List ℕ) (used budget : ℕ) (r : RunAnswer) (window' out' ledger' : List ℕ)
-    → keeps m ≡ true → Resumed m window beats out ledger used budget r window' out' ledger'
-    → HasRun m window beats out ledger used budget r window' out' ledger'
+ResumedRuns = (m : Machine) (l : Lent) (budget : ℕ) (r : RunAnswer) (b : Returned)
+    → keeps m ≡ true → Resumed m l budget r b → HasRun m l budget r b
 
 -- ---- steps
 

@@ -24,11 +24,11 @@ use Rattle.machine.specs.declared.bursts.Reach.{Reach}
 use Rattle.machine.specs.declared.runs.Advanced.{Advanced}
 use Rattle.machine.specs.declared.steps.Wait.{Wait}
 use Rattle.machine.specs.declared.steps.Wait.the-variants.{Go, Stop}
-use Rattle.machine.specs.declared.steps.Lent as code
-use Rattle.machine.specs.declared.steps.Lent.the-variants as lent
+use Rattle.machine.specs.declared.steps.Served as code
+use Rattle.machine.specs.declared.steps.Served.the-variants as served
 use Rattle.machine.specs.State.{withPhase, withBusy}
 use Rattle.machine.specs.Step.{World, Answer, taken, stopped, laid, became, stored, noted, entryFor, backTo, step, whole, onward, beatFor}
-use Rattle.machine.specs.Run.{Lent, serves, refused}
+use Rattle.machine.specs.Run.{Served, serves, refused}
 
 -- ---- worlds
 
@@ -81,9 +81,9 @@ pub record Goes (rule : World → Answer) (m : Machine) (window beats : List ℕ
 
 -- ---- what is lent
 
-abbrev pub lentAs : code.Lent → Lent
-lentAs lent.Serves = serves
-lentAs (lent.Refused why) = refused why
+abbrev pub servedAs : code.Served → Served
+servedAs served.Serves = serves
+servedAs (served.Refused why) = refused why
 
 -- no more beats are taken than there are, or made than there is room for
 pub record Within (beats out : List ℕ) (took made : ℕ) : Type 0 where
@@ -222,7 +222,8 @@ pub record Moving (mode : Mode) (window : Window) (k : Work) (most : ℕ) (m : M
   pub left : k .moved + most ≤ whole m k
 
 -- n bytes, moved at once: of every such machine they are n steps
-abbrev pub Bursts : Mode → Window → Work → (most n errors : ℕ) (window beats : List ℕ) (took : ℕ) (out : List ℕ) (made took' made' : ℕ) (window' out' : List ℕ) → Type 0
+abbrev pub Bursts : Mode → Window → Work → (most n errors : ℕ) (window beats : List ℕ) (took : ℕ) (out : List ℕ)
+    (made took' made' : ℕ) (window' out' : List ℕ) → Type 0
 Bursts mode place k most n errors window beats took out made took' made' window' out' =
     (m : Machine) → Moving mode place k most m
     → Went (λ (w : World). steps n w) m window beats took out made (progress (onward m (movedBy k n errors)) took' made') window' out'

@@ -6,6 +6,9 @@ pub mod runs;
 pub mod saved;
 pub mod steps;
 
+ghost use Rattle.words.specs.Promise.{Gives};
+ghost use Rattle.machine.specs.State.{phaseNumber};
+ghost use Rattle.machine.specs.Run.{reasonNumber};
 use bus::Refusal;
 use bus::Window;
 use descriptor::DescControl;
@@ -32,6 +35,18 @@ pub struct Fault {
     pub address: u32,
 }
 
+impl Fault {
+    pub const MISALIGNED: u8 = 10;
+
+    pub const DESCRIPTOR_OUTSIDE: u8 = 11;
+
+    pub const NO_LENGTH: u8 = 12;
+
+    pub const SOURCE_OUTSIDE: u8 = 13;
+
+    pub const DESTINATION_OUTSIDE: u8 = 14;
+}
+
 // What a phase keeps stands in the phase; numbered 0 to 6.
 pub enum Phase {
     Rest,
@@ -41,6 +56,23 @@ pub enum Phase {
     Ended,
     Halted,
     Faulted(Fault),
+}
+
+impl Phase {
+    // Its number in an image.
+    pub(crate) fn number(self) -> u8
+        ensures { λ r. ⌜ Gives (phaseNumber self) r ⌝ }
+    {
+        match self {
+            Phase::Rest => 0,
+            Phase::Fetch => 1,
+            Phase::Move(_) => 2,
+            Phase::WriteBack(_) => 3,
+            Phase::Ended => 4,
+            Phase::Halted => 5,
+            Phase::Faulted(_) => 6,
+        }
+    }
 }
 
 // Its parts are private, so that each machine comes from `fresh`, `load` or a call on a machine, and keeps the image rules.
@@ -65,6 +97,24 @@ pub enum Reason {
     OutputFull,
     Budget,
     LedgerFull,
+}
+
+impl Reason {
+    // The paper's number.
+    pub fn number(self) -> u16
+        ensures { λ r. ⌜ Gives (reasonNumber self) r ⌝ }
+    {
+        match self {
+            Reason::Rest => 0,
+            Reason::Ended => 1,
+            Reason::Halted => 2,
+            Reason::Faulted => 3,
+            Reason::NeedsInput => 4,
+            Reason::OutputFull => 5,
+            Reason::Budget => 6,
+            Reason::LedgerFull => 7,
+        }
+    }
 }
 
 // The machine after a step, with the beats that the step took and made, and the records used then.

@@ -5,7 +5,7 @@ ghost use Prim.Native.Nat.{_+_, _≤_, _<_};
 ghost use lib.ListN.{length};
 ghost use Rattle.machine.specs.declared.Phase.the-variants.{Move};
 ghost use Rattle.machine.specs.Step.{World, whole as wholeOf, onward as onwardOf, step as stepOf};
-ghost use Rattle.machine.specs.Run.{lentIf, Runs, HasRun, Resumed};
+ghost use Rattle.machine.specs.Run.{lent, back, RunsIf, HasRun, Resumed};
 ghost use Rattle.machine.specs.Turns.{Goes, Within, Ready, Advances, Turns, logged, movedBy};
 use crate::Machine;
 use crate::Phase;
@@ -14,7 +14,7 @@ use crate::Reason;
 use crate::RunAnswer;
 use crate::Work;
 use crate::bursts::least;
-use crate::steps::Lent;
+use crate::steps::Served;
 use crate::steps::Wait;
 use crate::steps::asked;
 use ledger::has_room;
@@ -160,10 +160,12 @@ impl Machine {
         budget: u32,
     ) -> RunAnswer
         requires { ⌜ (good ≡ true → Ready self (self .window .length)) ⌝ }
-        ensures { λ r. ⌜ Runs (lentIf good self (now (window .entry)) (now (beats .entry)) (now (out .entry)) (now (ledger .entry)) used) self (now (window .entry)) (now (beats .entry)) (now (out .entry)) (now (ledger .entry)) used budget r (now (window .exit)) (now (out .exit)) (now (ledger .exit)) ⌝ }
+        ensures { λ r. ⌜
+            RunsIf good self (lent (now (window .entry)) (now (beats .entry)) (now (out .entry)) (now (ledger .entry)) used)
+            budget r (back (now (window .exit)) (now (out .exit)) (now (ledger .exit))) ⌝ }
     {
-        let lent = self.served(good, window, beats, out, ledger, used);
-        if let Lent::Refused(why) = lent {
+        let answer = self.served(good, window, beats, out, ledger, used);
+        if let Served::Refused(why) = answer {
             return RunAnswer::Refused(why);
         }
         let mut machine = self;
@@ -209,7 +211,9 @@ impl Machine {
         used: u32,
         budget: u32,
     ) -> RunAnswer
-        ensures { λ r. ⌜ HasRun self (now (window .entry)) (now (beats .entry)) (now (out .entry)) (now (ledger .entry)) used budget r (now (window .exit)) (now (out .exit)) (now (ledger .exit)) ⌝ }
+        ensures { λ r. ⌜
+            HasRun self (lent (now (window .entry)) (now (beats .entry)) (now (out .entry)) (now (ledger .entry)) used)
+            budget r (back (now (window .exit)) (now (out .exit)) (now (ledger .exit))) ⌝ }
     {
         self.run_if(self.keeps(), window, beats, out, ledger, used, budget)
     }
@@ -224,7 +228,9 @@ impl Machine {
         used: u32,
         budget: u32,
     ) -> RunAnswer
-        ensures { λ r. ⌜ Resumed self (now (window .entry)) (now (beats .entry)) (now (out .entry)) (now (ledger .entry)) used budget r (now (window .exit)) (now (out .exit)) (now (ledger .exit)) ⌝ }
+        ensures { λ r. ⌜
+            Resumed self (lent (now (window .entry)) (now (beats .entry)) (now (out .entry)) (now (ledger .entry)) used)
+            budget r (back (now (window .exit)) (now (out .exit)) (now (ledger .exit))) ⌝ }
     {
         self.run_if(self.ready(), window, beats, out, ledger, used, budget)
     }

@@ -4,7 +4,6 @@ ghost use mathlib.Core.Path.{_≡_};
 ghost use Rattle.bus.specs.Window.{keepsLimits};
 ghost use Rattle.regs.specs.Modes.{modeOf};
 ghost use Rattle.machine.specs.declared.LoadedMachine.the-variants.{Good};
-ghost use Rattle.machine.specs.State.{phaseNumber};
 ghost use Rattle.machine.specs.Saved.{inHand, faultIn, fieldsOf, keeps as keepsOf, workOf, phaseOf, machineOf, savedAs, WasLoaded, WasSaved, WasPut};
 use crate::Fault;
 use crate::LoadedMachine;
@@ -40,20 +39,6 @@ const NO_FAULT: Fault = Fault {
     code: 0,
     address: 0,
 };
-
-fn phase_number(phase: Phase) -> u8
-    ensures { λ r. ⌜ r ≡ phaseNumber phase ⌝ }
-{
-    match phase {
-        Phase::Rest => 0,
-        Phase::Fetch => 1,
-        Phase::Move(_) => 2,
-        Phase::WriteBack(_) => 3,
-        Phase::Ended => 4,
-        Phase::Halted => 5,
-        Phase::Faulted(_) => 6,
-    }
-}
 
 // The descriptor in hand, or zeros.
 fn in_hand(phase: Phase) -> Work
@@ -174,7 +159,7 @@ impl Machine {
         Fields {
             edition: 1,
             mode: mode.number(),
-            phase: phase_number(phase),
+            phase: phase.number(),
             armed: has(control, Control::SW_RESET),
             pending: self.pending,
             fault: fault.code,

@@ -11,11 +11,12 @@ ghost use Rattle.bus.specs.Window.{inWindow};
 ghost use Rattle.image.specs.Rules.{asked as askedOf};
 ghost use Rattle.regs.specs.Modes.{modeNumber};
 ghost use Rattle.machine.specs.State.{withPhase, withPointer};
-ghost use Rattle.machine.specs.Step.{World, stored, wantsLength, begun as begunOf, ended as endedOf, byteAddress, sourceOf, destinationOf, withByte, onward as onwardOf, beatFor, writtenControl, writtenBack, afterBack, completed as completedOf};
+ghost use Rattle.machine.specs.Step.{World, stored, wantsLength, begun as begunOf, ended as endedOf, byteAddress, sourceOf, destinationOf};
+ghost use Rattle.machine.specs.Step.{withByte, onward as onwardOf, beatFor, writtenControl, writtenBack, afterBack, completed as completedOf};
 ghost use Rattle.machine.specs.Step.{fetched as fetchedOf, fetchStep, copyStep, sendStep, receiveFrom, moveStep, step as stepOf};
-ghost use Rattle.machine.specs.Run.{lentIf, lentOf, readyOf, Stepped};
+ghost use Rattle.machine.specs.Run.{lent, back, servedIf, servedOf, readyOf, Stepped};
 ghost use Rattle.machine.specs.declared.Phase.the-variants.{Move, WriteBack};
-ghost use Rattle.machine.specs.Turns.{progress, inFault, Waits, Goes, lentAs, Within, Still, Went, Turned, Logs, Backs, Ready};
+ghost use Rattle.machine.specs.Turns.{progress, inFault, Waits, Goes, servedAs, Within, Still, Went, Turned, Logs, Backs, Ready};
 use crate::Fault;
 use crate::Machine;
 use crate::Phase;
@@ -56,7 +57,7 @@ pub(crate) struct Reached {
 }
 
 // Whether what is lent serves the machine, or the first refusal that applies.
-pub(crate) enum Lent {
+pub(crate) enum Served {
     Serves,
     Refused(Refusal),
 }
@@ -294,7 +295,7 @@ impl Machine {
         let empty = wants_length(mode) & (d.length == 0);
         if control.has(DescControl::OWNED_BY_HW) {
             if empty {
-                self.faulted(12, self.pointer.0)
+                self.faulted(Fault::NO_LENGTH, self.pointer.0)
             } else {
                 self.begun(d)
             }
@@ -312,11 +313,11 @@ impl Machine {
             if pointer % 4 == 0 {
                 let found = self.window.locate(BusAddress(pointer as u64), 32);
                 match found {
-                    Located::Outside => self.faulted(11, pointer),
+                    Located::Outside => self.faulted(Fault::DESCRIPTOR_OUTSIDE, pointer),
                     Located::At(place) => self.fetched(descriptor::at(window, place)),
                 }
             } else {
-                self.faulted(10, pointer)
+                self.faulted(Fault::MISALIGNED, pointer)
             }
         } else {
             self.rested()
@@ -333,11 +334,11 @@ impl Machine {
         let b = k.write_address();
         let from = self.window.locate(a, 1);
         match from {
-            Located::Outside => self.missed(13, a),
+            Located::Outside => self.missed(Fault::SOURCE_OUTSIDE, a),
             Located::At(p) => {
                 let to = self.window.locate(b, 1);
                 match to {
-                    Located::Outside => self.missed(14, b),
+                    Located::Outside => self.missed(Fault::DESTINATION_OUTSIDE, b),
                     Located::At(q) => {
                         let i = p.index();
                         let j = q.index();
@@ -356,12 +357,14 @@ impl Machine {
         requires { ⌜ made ≤ length (now out) / 2 ⌝ }
         requires { ⌜ (inWindow (self .window) (sourceOf k) 1 ≡ true → made < length (now out) / 2) ⌝ }
         ensures { λ r. ⌜ (r .taken ≡ taken) × (r .made ≤ length (now (out .entry)) / 2) ⌝ }
-        ensures { λ r. ⌜ ((beats : List ℕ) → Went (λ (w : World). sendStep w k) self (now (window .entry)) beats taken (now (out .entry)) made r (now (window .entry)) (now (out .exit))) ⌝ }
+        ensures { λ r. ⌜
+            ((beats : List ℕ) → Went (λ (w : World). sendStep w k) self (now (window .entry)) beats taken (now (out .entry)) made
+            r (now (window .entry)) (now (out .exit))) ⌝ }
     {
         let a = k.read_address();
         let found = self.window.locate(a, 1);
         match found {
-            Located::Outside => self.missed(13, a).at(taken, made),
+            Located::Outside => self.missed(Fault::SOURCE_OUTSIDE, a).at(taken, made),
             Located::At(place) => {
                 let at = place.index();
                 k.put_beat(window[at], out, made);
@@ -383,13 +386,15 @@ impl Machine {
         requires { ⌜ k .moved < 65535 ⌝ }
         requires { ⌜ next < length (now beats) / 2 ⌝ }
         ensures { λ r. ⌜ (r .taken ≤ length (now (beats .entry)) / 2) × (r .made ≡ made) ⌝ }
-        ensures { λ r. ⌜ ((out : List ℕ) → Went (λ (w : World). receiveFrom w k (w .input)) self (now (window .entry)) (now (beats .entry)) next out made r (now (window .exit)) out) ⌝ }
+        ensures { λ r. ⌜
+            ((out : List ℕ) → Went (λ (w : World). receiveFrom w k (w .input)) self (now (window .entry)) (now (beats .entry)) next out made
+            r (now (window .exit)) out) ⌝ }
     {
         let a = k.write_address();
         let past = next + 1;
         let found = self.window.locate(a, 1);
         match found {
-            Located::Outside => self.missed(14, a).at(next, made),
+            Located::Outside => self.missed(Fault::DESTINATION_OUTSIDE, a).at(next, made),
             Located::At(place) => {
                 let at = place.index();
                 let beat = Beat::of(get_u16(Order::MostFirst, beats, 2 * next));
@@ -552,7 +557,9 @@ impl Machine {
         requires { ⌜ Within (now beats) (now out) taken made ⌝ }
         requires { ⌜ Goes (λ (w : World). moveStep (self .mode) w k) self (now window) (now beats) taken (now out) made ⌝ }
         ensures { λ r. ⌜ Within (now (beats .entry)) (now (out .entry)) (r .taken) (r .made) ⌝ }
-        ensures { λ r. ⌜ Went (λ (w : World). moveStep (self .mode) w k) self (now (window .entry)) (now (beats .entry)) taken (now (out .entry)) made r (now (window .exit)) (now (out .exit)) ⌝ }
+        ensures { λ r. ⌜
+            Went (λ (w : World). moveStep (self .mode) w k) self (now (window .entry)) (now (beats .entry)) taken (now (out .entry)) made
+            r (now (window .exit)) (now (out .exit)) ⌝ }
     {
         let mode = self.mode;
         match mode {
@@ -575,7 +582,9 @@ impl Machine {
         requires { ⌜ Within (now beats) (now out) taken made ⌝ }
         requires { ⌜ Goes stepOf self (now window) (now beats) taken (now out) made ⌝ }
         ensures { λ r. ⌜ Within (now (beats .entry)) (now (out .entry)) (r .taken) (r .made) ⌝ }
-        ensures { λ r. ⌜ Turned stepOf self (now (window .entry)) (now (beats .entry)) taken (now (out .entry)) made r (now (window .exit)) (now (out .exit)) ⌝ }
+        ensures { λ r. ⌜
+            Turned stepOf self (now (window .entry)) (now (beats .entry)) taken (now (out .entry)) made
+            r (now (window .exit)) (now (out .exit)) ⌝ }
     {
         let phase = self.phase;
         match phase {
@@ -599,28 +608,30 @@ impl Machine {
         out: &[u8],
         ledger: &[u8],
         used: u32,
-    ) -> Lent
-        ensures { λ r. ⌜ lentAs r ≡ lentIf good self (now (window .entry)) (now (beats .entry)) (now (out .entry)) (now (ledger .entry)) used ⌝ }
+    ) -> Served
+        ensures { λ r. ⌜
+            servedAs r ≡ servedIf good self (lent (now (window .entry)) (now (beats .entry)) (now (out .entry)) (now (ledger .entry)) used) ⌝ }
     {
         if !good {
-            return Lent::Refused(Refusal::BadImage);
+            return Served::Refused(Refusal::BadImage);
         }
         let even = (beats.len() % 2 == 0) & (out.len() % 2 == 0);
         if !even {
-            return Lent::Refused(Refusal::OddStream);
+            return Served::Refused(Refusal::OddStream);
         }
         if !ledger::serves(ledger, used) {
-            return Lent::Refused(Refusal::BadLedger);
+            return Served::Refused(Refusal::BadLedger);
         }
         if window.len() != self.window.size() as usize {
-            return Lent::Refused(Refusal::OtherWindow);
+            return Served::Refused(Refusal::OtherWindow);
         }
-        Lent::Serves
+        Served::Serves
     }
 
     // Good is one that keeps the rules.
-    fn checked(self, window: &[u8], beats: &[u8], out: &[u8], ledger: &[u8], used: u32) -> Lent
-        ensures { λ r. ⌜ lentAs r ≡ lentOf self (now (window .entry)) (now (beats .entry)) (now (out .entry)) (now (ledger .entry)) used ⌝ }
+    fn checked(self, window: &[u8], beats: &[u8], out: &[u8], ledger: &[u8], used: u32) -> Served
+        ensures { λ r. ⌜
+            servedAs r ≡ servedOf self (lent (now (window .entry)) (now (beats .entry)) (now (out .entry)) (now (ledger .entry)) used) ⌝ }
     {
         self.served(self.keeps(), window, beats, out, ledger, used)
     }
@@ -634,10 +645,12 @@ impl Machine {
         ledger: &mut [u8],
         used: u32,
     ) -> StepAnswer
-        ensures { λ r. ⌜ Stepped self (now (window .entry)) (now (beats .entry)) (now (out .entry)) (now (ledger .entry)) used r (now (window .exit)) (now (out .exit)) (now (ledger .exit)) ⌝ }
+        ensures { λ r. ⌜
+            Stepped self (lent (now (window .entry)) (now (beats .entry)) (now (out .entry)) (now (ledger .entry)) used)
+            r (back (now (window .exit)) (now (out .exit)) (now (ledger .exit))) ⌝ }
     {
-        let lent = self.checked(window, beats, out, ledger, used);
-        if let Lent::Refused(why) = lent {
+        let answer = self.checked(window, beats, out, ledger, used);
+        if let Served::Refused(why) = answer {
             return StepAnswer::Refused(why);
         }
         let wait = self.wait(

@@ -20,7 +20,7 @@ use Rattle.machine.specs.declared.RunAnswer.{RunAnswer}
 use Rattle.machine.specs.declared.RunAnswer.the-variants as many
 use Rattle.machine.specs.Saved.{keeps}
 use Rattle.machine.specs.Step.{World, Answer, taken, stopped, step}
-use Rattle.machine.specs.Run.{Lent, serves, refused, even, lentOf, worldOf, steppedAs, stepAnswer, runAnswer, Stepped, HasRun}
+use Rattle.machine.specs.Run.{Lent, Returned, Served, serves, refused, even, servedOf, worldOf, steppedAs, stepAnswer, runAnswer, Stepped, HasRun}
 use Rattle.met.specs.Sound.{Sound, AllBeats, SoundWorld}
 use Rattle.met.specs.Met.{Met}
 use Rattle.met.specs.Met as met
@@ -38,20 +38,20 @@ beats-of (x ∷ []) g = tt
 beats-of (x ∷ y ∷ xs) g = (let a = g .0 in let b = g .1 .0 in omega arith, beats-of xs (g .1 .1))
 
 -- where what is lent serves, the world is sound
-abbrev IfServes : Type 0 → Lent → Type 0
+abbrev IfServes : Type 0 → Served → Type 0
 IfServes A serves = A
 IfServes A (refused why) = Unit {0}
 
-lent-sound : (m : Machine) (window beats out ledger : List ℕ) (used : ℕ) → Sound m → AllBytes window → AllBytes beats
-    → IfServes (SoundWorld (worldOf m window beats out ledger used)) (lentOf m window beats out ledger used)
-unfolding lentOf
-lent-sound m window beats out ledger used s g b =
-    let P = IfServes (SoundWorld (worldOf m window beats out ledger used)) in
+lent-sound : (m : Machine) (l : Lent) → Sound m → AllBytes (l .window) → AllBytes (l .beats)
+    → IfServes (SoundWorld (worldOf m l)) (servedOf m l)
+unfolding servedOf
+lent-sound m l s g b =
+    let P = IfServes (SoundWorld (worldOf m l)) in
     on P (keeps m)
-    (λ k. on P (even beats && even out)
-    (λ e. on P (isLedger (length ledger) used)
-    (λ d. on P (eqb (length window) (m .window .length))
-    (λ l. record { machine = s; size = eqb-true _ _ l; memory = g; input = beats-of beats b }) (λ l. tt))
+    (λ k. on P (even (l .beats) && even (l .out))
+    (λ e. on P (isLedger (length (l .ledger)) (l .used))
+    (λ d. on P (eqb (length (l .window)) (m .window .length))
+    (λ n. record { machine = s; size = eqb-true _ _ n; memory = g; input = beats-of (l .beats) b }) (λ n. tt))
     (λ d. tt))
     (λ e. tt))
     (λ k. tt)
@@ -67,27 +67,25 @@ abbrev SoundRun : RunAnswer → Type 0
 SoundRun (many.Done r) = Sound (r .machine)
 SoundRun (many.Refused why) = Unit {0}
 
-module _ (used : ℕ) (w : World) where
-  answer-sound : SoundWorld w → (a : Answer) → step w ≡ a → SoundStep (steppedAs used w a)
+module _ (l : Lent) (w : World) where
+  answer-sound : SoundWorld w → (a : Answer) → step w ≡ a → SoundStep (steppedAs (l .used) w a)
   answer-sound s (taken v) e = step-keeps w v s e .machine
   answer-sound s (stopped r) e = tt
 
-  step-sound : (l : Lent) → IfServes (SoundWorld w) l → SoundStep (stepAnswer used l w)
+  step-sound : (served : Served) → IfServes (SoundWorld w) served → SoundStep (stepAnswer l served w)
   step-sound serves s = answer-sound s (step w) refl
   step-sound (refused why) s = tt
 
-  run-sound : (l : Lent) → IfServes (SoundWorld w) l → (budget : ℕ) → SoundRun (runAnswer used l w budget)
+  run-sound : (served : Served) → IfServes (SoundWorld w) served → (budget : ℕ) → SoundRun (runAnswer l served w budget)
   run-sound serves s budget = run-keeps budget w s .machine
   run-sound (refused why) s budget = tt
 
-module _ {m : Machine} {window beats out ledger window' out' ledger' : List ℕ} {used : ℕ} (s : Sound m) (g : AllBytes window) (b : AllBytes beats) where
-  stepped-keeps : {p : Progress} → Stepped m window beats out ledger used (one.Taken p) window' out' ledger' → Sound (p .machine)
-  stepped-keeps h =
-      subst SoundStep (sym (h .answer)) (step-sound used (worldOf m window beats out ledger used) (lentOf m window beats out ledger used) (lent-sound m window beats out ledger used s g b))
+module _ {m : Machine} {l : Lent} {back : Returned} (s : Sound m) (g : AllBytes (l .window)) (b : AllBytes (l .beats)) where
+  stepped-keeps : {p : Progress} → Stepped m l (one.Taken p) back → Sound (p .machine)
+  stepped-keeps h = subst SoundStep (sym (h .answer)) (step-sound l (worldOf m l) (servedOf m l) (lent-sound m l s g b))
 
-  ran-keeps : {budget : ℕ} {r : Ran} → HasRun m window beats out ledger used budget (many.Done r) window' out' ledger' → Sound (r .machine)
-  ran-keeps {budget} h =
-      subst SoundRun (sym (h .answer)) (run-sound used (worldOf m window beats out ledger used) (lentOf m window beats out ledger used) (lent-sound m window beats out ledger used s g b) budget)
+  ran-keeps : {budget : ℕ} {r : Ran} → HasRun m l budget (many.Done r) back → Sound (r .machine)
+  ran-keeps {budget} h = subst SoundRun (sym (h .answer)) (run-sound l (worldOf m l) (servedOf m l) (lent-sound m l s g b) budget)
 
 -- ---- every machine met
 

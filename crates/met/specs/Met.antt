@@ -18,7 +18,7 @@ use Rattle.machine.specs.declared.RunAnswer.the-variants as many
 use Rattle.machine.specs.State as state
 use Rattle.machine.specs.Saved.{WasLoaded}
 use Rattle.machine.specs.Registers.{WasWritten}
-use Rattle.machine.specs.Run.{Stepped, HasRun}
+use Rattle.machine.specs.Run.{Lent, Returned, Stepped, HasRun}
 
 -- a machine is met if it is fresh over a window within the limits; or loaded from an image; or comes back from a register
 -- write, a step or a run to which a machine met was given. A value written is a number of 32 bits, and what is lent is bytes
@@ -26,7 +26,7 @@ pub data Met : Machine → Type 0 where
   fresh : (mode : Mode) (w : Window) → keepsLimits (w .base) (w .length) ≡ true → Met (state.fresh mode w)
   loaded : {xs : List ℕ} {m : Machine} → WasLoaded xs (Good m) → Met m
   written : {m n : Machine} {offset v : ℕ} → Met m → v < 2 ^ 32 → WasWritten m offset v (wrote.Done n) → Met n
-  stepped : {m : Machine} {window beats out ledger window' out' ledger' : List ℕ} {used : ℕ} {p : Progress}
-      → Met m → AllBytes window → AllBytes beats → Stepped m window beats out ledger used (one.Taken p) window' out' ledger' → Met (p .machine)
-  ran : {m : Machine} {window beats out ledger window' out' ledger' : List ℕ} {used : ℕ} {budget : ℕ} {r : Ran}
-      → Met m → AllBytes window → AllBytes beats → HasRun m window beats out ledger used budget (many.Done r) window' out' ledger' → Met (r .machine)
+  stepped : {m : Machine} {l : Lent} {p : Progress} {b : Returned}
+      → Met m → AllBytes (l .window) → AllBytes (l .beats) → Stepped m l (one.Taken p) b → Met (p .machine)
+  ran : {m : Machine} {l : Lent} {budget : ℕ} {r : Ran} {b : Returned}
+      → Met m → AllBytes (l .window) → AllBytes (l .beats) → HasRun m l budget (many.Done r) b → Met (r .machine)

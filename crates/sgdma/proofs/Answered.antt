@@ -3,14 +3,10 @@
 use Prim.Native.Nat.{ℕ}
 use mathlib.Core.Path.{_≡_, sym, ap, _∙_}
 use mathlib.Core.Bool.{Bool, cond}
-use mathlib.Core.List.{List}
+use mathlib.Core.List.{List, []}
 use lib.ListN.{length}
 use borrow.Author.Tests.{eq-eqb, ne-eqb}
-use Rattle.words.specs.declared.Order.the-variants.{MostFirst}
-use Rattle.words.specs.Orders.{bytesOf}
 use Rattle.words.specs.Promise.{Gives, Leaves}
-use Rattle.words.specs.Slices.{putAt}
-use Rattle.words.proofs.Orders.{length-bytes}
 use Rattle.bus.specs.declared.Refusal.{Refusal}
 use Rattle.bus.specs.declared.Refusal.the-variants.{BadSize, BadImage}
 use Rattle.descriptor.specs.declared.ReadDescriptor.{ReadDescriptor}
@@ -20,20 +16,20 @@ use Rattle.regs.specs.declared.ReadRegister.{ReadRegister}
 use Rattle.regs.specs.declared.ReadRegister.the-variants as register
 use Rattle.regs.specs.Control.{lineUp}
 use Rattle.regs.specs.Offsets.{registerAt}
-use Rattle.image.proofs.WordByWord.{put-all}
+use Rattle.answers.specs.Answers.{valueBytes, reportBytes, answerPut}
+use Rattle.answers.proofs.Filled.{is-put}
 use Rattle.machine.specs.declared.Machine.{Machine}
 use Rattle.machine.specs.declared.LoadedMachine.{LoadedMachine}
 use Rattle.machine.specs.declared.LoadedMachine.the-variants as loaded
+use Rattle.machine.specs.declared.Ran.{Ran}
+use Rattle.machine.specs.declared.RunAnswer.the-variants.{Done}
 use Rattle.machine.specs.declared.registers.Line.{Line}
 use Rattle.machine.specs.declared.registers.Line.the-variants as line
+use Rattle.machine.specs.Run.{reasonNumber}
 use Rattle.machine.specs.Saved.{loadOf}
 use Rattle.machine.specs.Registers.{readNumber, lineNumber}
-use Rattle.sgdma.specs.Calls.{registerOf, readCall, valueOver, RegisterRead, lineIn, lineCall, lineOver, LineRead, descriptorCall, answerOver, DescriptorRead}
+use Rattle.sgdma.specs.Calls.{registerOf, readCall, valueOver, RegisterRead, lineIn, lineCall, lineOver, LineRead, reportOver, descriptorCall, answerOver, DescriptorRead}
 use Rattle.sgdma.proofs.Opened.{first-wrong, second-wrong, sizes-right, not-loaded, register-loaded, line-loaded}
-
--- a value that fills the lent bytes
-pub value-put : (v : ℕ) (xs : List ℕ) → length xs ≡ 4 → putAt xs 0 (bytesOf MostFirst 4 v) ≡ bytesOf MostFirst 4 v
-value-put v xs l = put-all xs (bytesOf MostFirst 4 v) (length-bytes MostFirst 4 v ∙ sym l)
 
 -- ---- sgdma_read_register
 
@@ -86,10 +82,21 @@ module _ {xs value ys : List ℕ} {r : ℕ} where
           line-says (line.Refused BadImage) (sizes-right _ _ 4 xs value l k ∙ ap lineIn (not-loaded xs why l e)) p q
 
       pub line-answers : {m : Machine} {up : Bool} (b : Line) (v : ℕ) → loadOf xs ≡ loaded.Good m → Gives (lineUp (m .control) (m .pending)) up → cond up line.Up line.Down ≡ b
-          → r ≡ lineNumber b → bytesOf MostFirst 4 v ≡ lineOver b value → Leaves (putAt value 0 (bytesOf MostFirst 4 v)) ys → LineRead xs value r ys
+          → r ≡ lineNumber b → valueBytes v ≡ lineOver b value → Leaves (answerPut (valueBytes v) value) ys → LineRead xs value r ys
       unfolding lineCall
       line-answers b v e g f p o q =
-          line-says b (sizes-right _ _ 4 xs value l k ∙ ap lineIn e ∙ line-loaded xs e g ∙ f) p (q .lent ∙ value-put v value k ∙ o)
+          line-says b (sizes-right _ _ 4 xs value l k ∙ ap lineIn e ∙ line-loaded xs e g ∙ f) p (q .lent ∙ is-put (valueBytes v) value k ∙ o)
+
+-- ---- sgdma_run
+
+-- the report of a run, from what was put over it
+pub report-told : (r : Ran) (n : ℕ) (xs : List ℕ) {ys : List ℕ} → length xs ≡ 18 → n ≡ reasonNumber (r .reason)
+    → Leaves (answerPut (reportBytes n (r .steps) (r .taken) (r .made) (r .used)) xs) ys → Leaves (reportOver (Done r) []) ys
+report-told r n xs l e q =
+    record {
+      lent = q .lent ∙ is-put (reportBytes n (r .steps) (r .taken) (r .made) (r .used)) xs l
+          ∙ ap (λ (m : ℕ). reportBytes m (r .steps) (r .taken) (r .made) (r .used)) e;
+    }
 
 -- ---- sgdma_read_descriptor
 

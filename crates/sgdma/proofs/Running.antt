@@ -18,14 +18,14 @@ use Rattle.machine.specs.declared.LoadedMachine.{LoadedMachine}
 use Rattle.machine.specs.declared.LoadedMachine.the-variants.{Good, Refused}
 use Rattle.machine.specs.Saved.{keeps, loadOf}
 use Rattle.machine.specs.Step.{World}
-use Rattle.machine.specs.Run.{run, Lent, serves, refused, lentIf, worldOf, ranAs, runAnswer, runNumber, HasRun, readyOf, Resumed}
+use Rattle.machine.specs.Run.{run, Lent, Returned, asLent, Served, serves, refused, servedIf, worldOf, ranAs, runAnswer, runNumber, HasRun, readyOf, Resumed}
 use Rattle.machine.proofs.Answers.{was-loaded}
 use Rattle.machine.proofs.StepLaws.{took-since}
 use Rattle.machine.proofs.RunLaws.{run-tells}
 use Rattle.machine.proofs.Outcomes.{resumed-runs}
 use Rattle.met.specs.Met as met
 use Rattle.met.proofs.InUse.{met-keeps}
-use Rattle.sgdma.specs.Calls.{isSize, runIn, runCall, ranOver, reportOver, windowIn, outIn, ledgerIn, RunMade}
+use Rattle.sgdma.specs.Calls.{isSize, runIn, runCall, ranOver, reportOver, returnedIn, RunMade}
 use Rattle.sgdma.proofs.Opened.{first-wrong, second-wrong, sizes-right, not-loaded, keeps-loaded}
 
 -- ---- what a run's answer is known to be
@@ -38,82 +38,67 @@ counts used budget w e =
     let made : length (run budget w .world .output) ≡ length (p .made) = ap length (p .output) ∙ ap (λ (o : List ℕ). length (o ++ p .made)) e in
     (omega (arith, took-since p, t .within, p .moved), omega (arith, t .within, p .moved))
 
-done-is : (used : ℕ) (l : Lent) (w : World) (budget : ℕ) (r : Ran) → ran.Done r ≡ runAnswer used l w budget → r ≡ ranAs used w (run budget w)
-done-is used serves w budget r e = cc
-done-is used (refused why) w budget r e = absurd (let z : _≡_ {A = ℕ} 0 1 = cc in omega arith)
+done-is : (l : Lent) (served : Served) (w : World) (budget : ℕ) (r : Ran) → ran.Done r ≡ runAnswer l served w budget
+    → r ≡ ranAs (l .used) w (run budget w)
+done-is l serves w budget r e = cc
+done-is l (refused why) w budget r e = absurd (let z : _≡_ {A = ℕ} 0 1 = cc in omega arith)
 
-module _ {m : Machine} {window beats out ledger window' out' ledger' : List ℕ} {used budget : ℕ} {a : RunAnswer} {r : Ran}
-    (h : Resumed m window beats out ledger used budget a window' out' ledger') (e : a ≡ ran.Done r) where
+module _ {m : Machine} {l : Lent} {b : Returned} {budget : ℕ} {a : RunAnswer} {r : Ran} (h : Resumed m l budget a b) (e : a ≡ ran.Done r) where
   pub ran-fits : budget < 4294967296 → (r .taken < 4294967296) × (r .made < 4294967296)
-  ran-fits b =
-      let w = worldOf m window beats out ledger used in
-      let is : r ≡ ranAs used w (run budget w) = done-is used (lentIf (readyOf m) m window beats out ledger used) w budget r (sym e ∙ h .answer) in
-      let c = counts used budget w refl in
-      let taken : r .taken ≡ ranAs used w (run budget w) .taken = ap (λ (x : Ran). x .taken) is in
-      let made : r .made ≡ ranAs used w (run budget w) .made = ap (λ (x : Ran). x .made) is in
+  ran-fits k =
+      let w = worldOf m l in
+      let is : r ≡ ranAs (l .used) w (run budget w) = done-is l (servedIf (readyOf m) m l) w budget r (sym e ∙ h .answer) in
+      let c = counts (l .used) budget w refl in
+      let taken : r .taken ≡ ranAs (l .used) w (run budget w) .taken = ap (λ (x : Ran). x .taken) is in
+      let made : r .made ≡ ranAs (l .used) w (run budget w) .made = ap (λ (x : Ran). x .made) is in
       (omega (arith, c .0), omega (arith, c .1))
 
-  pub ran-keeps : (xs : List ℕ) → loadOf xs ≡ Good m → AllBytes window → AllBytes beats → keeps (r .machine) ≡ true
-  ran-keeps xs l g i =
-      let done : HasRun m window beats out ledger used budget (ran.Done r) window' out' ledger' =
-      subst (λ (x : RunAnswer). HasRun m window beats out ledger used budget x window' out' ledger') e
-      (resumed-runs m window beats out ledger used budget a window' out' ledger' (keeps-loaded xs l) h) in
-      met-keeps (r .machine) (met.ran (met.loaded (was-loaded (sym l))) g i done)
+  pub ran-keeps : (xs : List ℕ) → loadOf xs ≡ Good m → AllBytes (l .window) → AllBytes (l .beats) → keeps (r .machine) ≡ true
+  ran-keeps xs d g i =
+      let done : HasRun m l budget (ran.Done r) b =
+      subst (λ (x : RunAnswer). HasRun m l budget x b) e (resumed-runs m l budget a b (keeps-loaded xs d) h) in
+      met-keeps (r .machine) (met.ran (met.loaded (was-loaded (sym d))) g i done)
 
 -- ---- sgdma_run
 
-module _ {xs window beats out ledger report xs' window' out' ledger' report' : List ℕ} {used budget r : ℕ} where
-  -- the record, from the call's answer and what was left in the window and the output
-  made : {v o l : List ℕ} (a : RunAnswer) → runCall xs window beats out ledger used budget report ≡ a
-      → cond (sized xs && isSize 18 report) (windowIn (loadOf xs) window beats out ledger used budget) window ≡ v
-      → cond (sized xs && isSize 18 report) (outIn (loadOf xs) window beats out ledger used budget) out ≡ o
-      → cond (sized xs && isSize 18 report) (ledgerIn (loadOf xs) window beats out ledger used budget) ledger ≡ l
-      → r ≡ runNumber a → xs' ≡ ranOver a xs → window' ≡ v → out' ≡ o → ledger' ≡ l → report' ≡ reportOver a report
-      → RunMade xs window beats out ledger used budget report r xs' window' out' ledger' report'
-  made a e f g d p x w o m q =
+module _ {xs report xs' report' : List ℕ} {l : Lent} {b : Returned} {budget r : ℕ} where
+  -- the record, from the call's answer and what comes back
+  made : {d : Returned} (a : RunAnswer) → runCall xs l budget report ≡ a
+      → cond (sized xs && isSize 18 report) (returnedIn (loadOf xs) l budget) (asLent l) ≡ d
+      → r ≡ runNumber a → xs' ≡ ranOver a xs → b ≡ d → report' ≡ reportOver a report
+      → RunMade xs l budget report r xs' b report'
+  made a e f p x o q =
       record {
         number = p ∙ sym (ap runNumber e);
         image-after = x ∙ sym (ap (λ (b : RunAnswer). ranOver b xs) e);
-        window-after = w ∙ sym f;
-        out-after = o ∙ sym g;
-        ledger-after = m ∙ sym d;
+        back = o ∙ sym f;
         report-after = q ∙ sym (ap (λ (b : RunAnswer). reportOver b report) e);
       }
 
-  pub run-short : (length xs ≡ 44 → ⊥) → r ≡ 7 → xs' ≡ xs → window' ≡ window → out' ≡ out → ledger' ≡ ledger → report' ≡ report
-      → RunMade xs window beats out ledger used budget report r xs' window' out' ledger' report'
+  pub run-short : (length xs ≡ 44 → ⊥) → r ≡ 7 → xs' ≡ xs → b ≡ asLent l → report' ≡ report → RunMade xs l budget report r xs' b report'
   unfolding runCall
-  run-short h p x w o m q =
-      made (ran.Refused BadSize) (first-wrong _ _ 18 xs report h) (first-wrong _ _ 18 xs report h) (first-wrong _ _ 18 xs report h) (first-wrong _ _ 18 xs report h) p x w o m q
+  run-short h p x o q = made (ran.Refused BadSize) (first-wrong _ _ 18 xs report h) (first-wrong _ _ 18 xs report h) p x o q
 
-  module _ (l : length xs ≡ 44) where
-    pub report-short : (length report ≡ 18 → ⊥) → r ≡ 7 → xs' ≡ xs → window' ≡ window → out' ≡ out → ledger' ≡ ledger → report' ≡ report
-        → RunMade xs window beats out ledger used budget report r xs' window' out' ledger' report'
+  module _ (s : length xs ≡ 44) where
+    pub report-short : (length report ≡ 18 → ⊥) → r ≡ 7 → xs' ≡ xs → b ≡ asLent l → report' ≡ report → RunMade xs l budget report r xs' b report'
     unfolding runCall
-    report-short h p x w o m q =
-        made (ran.Refused BadSize) (second-wrong _ _ 18 xs report l h) (second-wrong _ _ 18 xs report l h) (second-wrong _ _ 18 xs report l h) (second-wrong _ _ 18 xs report l h) p x w o m q
+    report-short h p x o q = made (ran.Refused BadSize) (second-wrong _ _ 18 xs report s h) (second-wrong _ _ 18 xs report s h) p x o q
 
     module _ (k : length report ≡ 18) where
-      pub run-spoiled : {why : Refusal} → loadOf xs ≡ Refused why → r ≡ 8 → xs' ≡ xs → window' ≡ window → out' ≡ out → ledger' ≡ ledger → report' ≡ report
-          → RunMade xs window beats out ledger used budget report r xs' window' out' ledger' report'
+      pub run-spoiled : {why : Refusal} → loadOf xs ≡ Refused why → r ≡ 8 → xs' ≡ xs → b ≡ asLent l → report' ≡ report
+          → RunMade xs l budget report r xs' b report'
       unfolding runCall
-      run-spoiled {why} e p x w o d q =
-          let bad = not-loaded xs why l e in
+      run-spoiled {why} e p x o q =
+          let bad = not-loaded xs why s e in
           made (ran.Refused BadImage)
-          (sizes-right _ _ 18 xs report l k ∙ ap (λ (m : LoadedMachine). runIn m window beats out ledger used budget) bad)
-          (sizes-right _ _ 18 xs report l k ∙ ap (λ (m : LoadedMachine). windowIn m window beats out ledger used budget) bad)
-          (sizes-right _ _ 18 xs report l k ∙ ap (λ (m : LoadedMachine). outIn m window beats out ledger used budget) bad)
-          (sizes-right _ _ 18 xs report l k ∙ ap (λ (m : LoadedMachine). ledgerIn m window beats out ledger used budget) bad) p x w o d q
+          (sizes-right _ _ 18 xs report s k ∙ ap (λ (m : LoadedMachine). runIn m l budget) bad)
+          (sizes-right _ _ 18 xs report s k ∙ ap (λ (m : LoadedMachine). returnedIn m l budget) bad) p x o q
 
-      pub run-answers : {m : Machine} {a b : RunAnswer} {v u t : List ℕ} → loadOf xs ≡ Good m → Resumed m window beats out ledger used budget a v u t → a ≡ b
-          → r ≡ runNumber b → xs' ≡ ranOver b xs → window' ≡ v → out' ≡ u → ledger' ≡ t → report' ≡ reportOver b report
-          → RunMade xs window beats out ledger used budget report r xs' window' out' ledger' report'
+      pub run-answers : {m : Machine} {a c : RunAnswer} {d : Returned} → loadOf xs ≡ Good m → Resumed m l budget a d → a ≡ c
+          → r ≡ runNumber c → xs' ≡ ranOver c xs → b ≡ d → report' ≡ reportOver c report → RunMade xs l budget report r xs' b report'
       unfolding runCall
-      run-answers {m} {a} {b} {v} {u} {t} e resumed f p x w o d q =
-          let h : HasRun m window beats out ledger used budget a v u t =
-          resumed-runs m window beats out ledger used budget a v u t (keeps-loaded xs e) resumed in
-          made b
-          (sizes-right _ _ 18 xs report l k ∙ ap (λ (n : LoadedMachine). runIn n window beats out ledger used budget) e ∙ sym (h .answer) ∙ f)
-          (sizes-right _ _ 18 xs report l k ∙ ap (λ (n : LoadedMachine). windowIn n window beats out ledger used budget) e ∙ sym (h .window-after))
-          (sizes-right _ _ 18 xs report l k ∙ ap (λ (n : LoadedMachine). outIn n window beats out ledger used budget) e ∙ sym (h .out-after))
-          (sizes-right _ _ 18 xs report l k ∙ ap (λ (n : LoadedMachine). ledgerIn n window beats out ledger used budget) e ∙ sym (h .ledger-after)) p x w o d q
+      run-answers {m} {a} {c} {d} e resumed f p x o q =
+          let h : HasRun m l budget a d = resumed-runs m l budget a d (keeps-loaded xs e) resumed in
+          made c
+          (sizes-right _ _ 18 xs report s k ∙ ap (λ (n : LoadedMachine). runIn n l budget) e ∙ sym (h .answer) ∙ f)
+          (sizes-right _ _ 18 xs report s k ∙ ap (λ (n : LoadedMachine). returnedIn n l budget) e ∙ sym (h .back)) p x o q

@@ -4,11 +4,9 @@
 use Prim.Native.Nat.{ℕ}
 use mathlib.Core.Path.{_≡_, sym, _∙_}
 use mathlib.Core.Bool.{Bool, cond, _&&_}
-use mathlib.Core.List.{List, [], _∷_}
+use mathlib.Core.List.{List}
 use lib.Dec.{eqb, leb}
 use lib.ListN.{length}
-use Rattle.words.specs.declared.Order.the-variants.{MostFirst}
-use Rattle.words.specs.Orders.{bytesOf, rowBytes}
 use Rattle.bus.specs.declared.Refusal.the-variants.{BadMode, BadWindow, BadSize}
 use Rattle.bus.specs.Refusal.{refusalNumber}
 use Rattle.bus.specs.Window.{keepsLimits}
@@ -16,6 +14,7 @@ use Rattle.descriptor.specs.declared.Job.{Job}
 use Rattle.descriptor.specs.declared.ReadDescriptor.{ReadDescriptor}
 use Rattle.descriptor.specs.declared.ReadDescriptor.the-variants as descriptor
 use Rattle.descriptor.specs.Calls.{slotOf, found, built, withJob, builtNumber, readNumber as descriptorNumber}
+use Rattle.answers.specs.Answers.{valueBytes, reportBytes, descriptorBytes}
 use Rattle.regs.specs.declared.ReadRegister.{ReadRegister}
 use Rattle.regs.specs.declared.ReadRegister.the-variants as register
 use Rattle.regs.specs.Modes.{modeOf}
@@ -31,7 +30,7 @@ use Rattle.machine.specs.declared.registers.Line.the-variants as line
 use Rattle.machine.specs.declared.RunAnswer.{RunAnswer}
 use Rattle.machine.specs.declared.RunAnswer.the-variants as ran
 use Rattle.machine.specs.State.{fresh}
-use Rattle.machine.specs.Run.{run, reasonNumber, lentOf, worldOf, runAnswer, windowAfter, outAfter, ledgerAfter, runNumber}
+use Rattle.machine.specs.Run.{run, reasonNumber, Lent, Returned, asLent, servedOf, worldOf, returned, runAnswer, runNumber}
 use Rattle.machine.specs.Saved.{fieldsOf, loadOf}
 use Rattle.machine.specs.Registers.{readOf, writeOf, lineOf, readNumber, wroteNumber, lineNumber}
 
@@ -77,7 +76,7 @@ unfoldable pub readCall : (xs : List ℕ) (offset : ℕ) (value : List ℕ) → 
 readCall xs offset value = cond (sized xs && isSize 4 value) (registerOf (loadOf xs) offset) (register.Refused BadSize)
 
 abbrev pub valueOver : ReadRegister → List ℕ → List ℕ
-valueOver (register.Value v) value = bytesOf MostFirst 4 v
+valueOver (register.Value v) value = valueBytes v
 valueOver (register.Refused why) value = value
 
 pub record RegisterRead (xs : List ℕ) (offset : ℕ) (value : List ℕ) (r : ℕ) (value' : List ℕ) : Type 0 where
@@ -124,8 +123,8 @@ unfoldable pub lineCall : (xs value : List ℕ) → Line
 lineCall xs value = cond (sized xs && isSize 4 value) (lineIn (loadOf xs)) (line.Refused BadSize)
 
 abbrev pub lineOver : Line → List ℕ → List ℕ
-lineOver line.Up value = bytesOf MostFirst 4 1
-lineOver line.Down value = bytesOf MostFirst 4 0
+lineOver line.Up value = valueBytes 1
+lineOver line.Down value = valueBytes 0
 lineOver (line.Refused why) value = value
 
 pub record LineRead (xs value : List ℕ) (r : ℕ) (value' : List ℕ) : Type 0 where
@@ -142,60 +141,44 @@ line-read-unique xs value r s ys zs p q = (p .number ∙ sym (q .number), p .val
 
 -- ---- sgdma_run: 7, 8, 9, 19, 4
 
-abbrev pub runIn : LoadedMachine → (window beats out ledger : List ℕ) (used budget : ℕ) → RunAnswer
-runIn (loaded.Good m) window beats out ledger used budget = runAnswer used (lentOf m window beats out ledger used) (worldOf m window beats out ledger used) budget
-runIn (loaded.Refused why) window beats out ledger used budget = ran.Refused why
+abbrev pub runIn : LoadedMachine → Lent → (budget : ℕ) → RunAnswer
+runIn (loaded.Good m) l budget = runAnswer l (servedOf m l) (worldOf m l) budget
+runIn (loaded.Refused why) l budget = ran.Refused why
 
 -- both sizes are looked at before the image
-unfoldable pub runCall : (xs window beats out ledger : List ℕ) (used budget : ℕ) (report : List ℕ) → RunAnswer
-runCall xs window beats out ledger used budget report =
-    cond (sized xs && isSize 18 report) (runIn (loadOf xs) window beats out ledger used budget) (ran.Refused BadSize)
+unfoldable pub runCall : (xs : List ℕ) → Lent → (budget : ℕ) (report : List ℕ) → RunAnswer
+runCall xs l budget report = cond (sized xs && isSize 18 report) (runIn (loadOf xs) l budget) (ran.Refused BadSize)
 
 abbrev pub ranOver : RunAnswer → List ℕ → List ℕ
 ranOver (ran.Done r) xs = imageOf (r .machine)
 ranOver (ran.Refused why) xs = xs
 
--- reason 16, steps 32, taken 32, made 32, records used 32
 abbrev pub reportOver : RunAnswer → List ℕ → List ℕ
-reportOver (ran.Done r) report =
-    rowBytes MostFirst (2 ∷ 4 ∷ 4 ∷ 4 ∷ 4 ∷ []) (reasonNumber (r .reason) ∷ r .steps ∷ r .taken ∷ r .made ∷ r .used ∷ [])
+reportOver (ran.Done r) report = reportBytes (reasonNumber (r .reason)) (r .steps) (r .taken) (r .made) (r .used)
 reportOver (ran.Refused why) report = report
 
--- the window and the output after a run of what was loaded
-abbrev pub windowIn : LoadedMachine → (window beats out ledger : List ℕ) (used budget : ℕ) → List ℕ
-windowIn (loaded.Good m) window beats out ledger used budget = windowAfter (lentOf m window beats out ledger used) (run budget (worldOf m window beats out ledger used) .world) window
-windowIn (loaded.Refused why) window beats out ledger used budget = window
+-- what comes back of a run of what was loaded
+abbrev pub returnedIn : LoadedMachine → Lent → (budget : ℕ) → Returned
+returnedIn (loaded.Good m) l budget = returned l (servedOf m l) (run budget (worldOf m l) .world)
+returnedIn (loaded.Refused why) l budget = asLent l
 
-abbrev pub outIn : LoadedMachine → (window beats out ledger : List ℕ) (used budget : ℕ) → List ℕ
-outIn (loaded.Good m) window beats out ledger used budget = outAfter (lentOf m window beats out ledger used) (run budget (worldOf m window beats out ledger used) .world) out
-outIn (loaded.Refused why) window beats out ledger used budget = out
-
-abbrev pub ledgerIn : LoadedMachine → (window beats out ledger : List ℕ) (used budget : ℕ) → List ℕ
-ledgerIn (loaded.Good m) window beats out ledger used budget =
-    ledgerAfter (lentOf m window beats out ledger used) (run budget (worldOf m window beats out ledger used) .world) ledger used
-ledgerIn (loaded.Refused why) window beats out ledger used budget = ledger
-
-pub record RunMade (xs window beats out ledger : List ℕ) (used budget : ℕ) (report : List ℕ) (r : ℕ) (xs' window' out' ledger' report' : List ℕ) : Type 0 where
-  pub number : r ≡ runNumber (runCall xs window beats out ledger used budget report)
-  pub image-after : xs' ≡ ranOver (runCall xs window beats out ledger used budget report) xs
-  pub window-after : window' ≡ cond (sized xs && isSize 18 report) (windowIn (loadOf xs) window beats out ledger used budget) window
-  pub out-after : out' ≡ cond (sized xs && isSize 18 report) (outIn (loadOf xs) window beats out ledger used budget) out
-  pub ledger-after : ledger' ≡ cond (sized xs && isSize 18 report) (ledgerIn (loadOf xs) window beats out ledger used budget) ledger
-  pub report-after : report' ≡ reportOver (runCall xs window beats out ledger used budget report) report
+pub record RunMade (xs : List ℕ) (l : Lent) (budget : ℕ) (report : List ℕ) (r : ℕ) (xs' : List ℕ) (b : Returned) (report' : List ℕ) : Type 0 where
+  pub number : r ≡ runNumber (runCall xs l budget report)
+  pub image-after : xs' ≡ ranOver (runCall xs l budget report) xs
+  pub back : b ≡ cond (sized xs && isSize 18 report) (returnedIn (loadOf xs) l budget) (asLent l)
+  pub report-after : report' ≡ reportOver (runCall xs l budget report) report
 
 -- No second outcome of sgdma_run keeps its promise.
 abbrev pub RunMadeUnique : Type 0
-RunMadeUnique = (xs window beats out ledger : List ℕ) (used budget : ℕ) (report : List ℕ) (r s : ℕ) (x1 w1 o1 l1 p1 x2 w2 o2 l2 p2 : List ℕ)
-    → RunMade xs window beats out ledger used budget report r x1 w1 o1 l1 p1 → RunMade xs window beats out ledger used budget report s x2 w2 o2 l2 p2
-    → (r ≡ s) × (x1 ≡ x2) × (w1 ≡ w2) × (o1 ≡ o2) × (l1 ≡ l2) × (p1 ≡ p2)
+RunMadeUnique = (xs : List ℕ) (l : Lent) (budget : ℕ) (report : List ℕ) (r s : ℕ) (x1 : List ℕ) (b1 : Returned) (p1 x2 : List ℕ) (b2 : Returned)
+    (p2 : List ℕ)
+    → RunMade xs l budget report r x1 b1 p1 → RunMade xs l budget report s x2 b2 p2 → (r ≡ s) × (x1 ≡ x2) × (b1 ≡ b2) × (p1 ≡ p2)
 
 pub run-made-unique : RunMadeUnique
-run-made-unique xs window beats out ledger used budget report r s x1 w1 o1 l1 p1 x2 w2 o2 l2 p2 p q = (
+run-made-unique xs l budget report r s x1 b1 p1 x2 b2 p2 p q = (
   p .number ∙ sym (q .number),
   p .image-after ∙ sym (q .image-after),
-  p .window-after ∙ sym (q .window-after),
-  p .out-after ∙ sym (q .out-after),
-  p .ledger-after ∙ sym (q .ledger-after),
+  p .back ∙ sym (q .back),
   p .report-after ∙ sym (q .report-after),
 )
 
@@ -219,11 +202,8 @@ unfoldable pub descriptorCall : (window : List ℕ) (base a : ℕ) (answer : Lis
 descriptorCall window base a answer =
     cond (isSize 18 answer) (found window (slotOf (length window) base a)) (descriptor.Refused BadSize)
 
--- source 32, destination 32, next 32, length 16, actual 16, status 8, control 8
 abbrev pub answerOver : ReadDescriptor → List ℕ → List ℕ
-answerOver (descriptor.Good d) answer =
-    rowBytes MostFirst (4 ∷ 4 ∷ 4 ∷ 2 ∷ 2 ∷ 1 ∷ 1 ∷ [])
-    (d .source ∷ d .destination ∷ d .next ∷ d .length ∷ d .actual ∷ d .status ∷ d .control .0 ∷ [])
+answerOver (descriptor.Good d) answer = descriptorBytes d
 answerOver (descriptor.Refused why) answer = answer
 
 pub record DescriptorRead (window : List ℕ) (base a : ℕ) (answer : List ℕ) (r : ℕ) (answer' : List ℕ) : Type 0 where

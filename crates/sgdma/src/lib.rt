@@ -1,49 +1,41 @@
 // The calls of the C host. A slice passes as pointer and length; each call returns 0, or the number of its refusal, and then has
 // changed nothing.
-ghost use mathlib.Core.List.{[], _∷_};
+ghost use mathlib.Core.List.{[]};
 ghost use mathlib.Core.Path.{_≡_};
 ghost use Prim.Native.Nat.{_<_};
 ghost use lib.ListN.{length};
 ghost use mathlib.Core.Bool.{true};
-ghost use Rattle.words.specs.Orders.{rowBytes};
 ghost use Rattle.words.specs.Promise.{Leaves};
-ghost use Rattle.words.specs.declared.Order.the-variants.{MostFirst};
 ghost use Rattle.machine.specs.declared.RunAnswer.the-variants.{Done};
-ghost use Rattle.machine.specs.Run.{reasonNumber};
-ghost use Rattle.descriptor.specs.declared.ReadDescriptor.the-variants.{Good};
+ghost use Rattle.machine.specs.Run.{lent, back};
 ghost use Rattle.machine.specs.Saved.{keeps};
-ghost use Rattle.sgdma.specs.Calls.{imageOf, ranOver, reportOver, Created, RegisterWritten, RegisterRead, LineRead, RunMade, DescriptorBuilt, DescriptorRead, answerOver};
+ghost use Rattle.sgdma.specs.Calls.{imageOf, ranOver, reportOver};
+ghost use Rattle.sgdma.specs.Calls.{Created, RegisterWritten, RegisterRead, LineRead, RunMade, DescriptorBuilt, DescriptorRead};
+use answers::DESCRIPTOR;
+use answers::REPORT;
+use answers::VALUE;
+use answers::put_descriptor;
+use answers::put_report;
+use answers::put_value;
 use bus::BusAddress;
 use bus::CheckedWindow;
 use bus::Refusal;
 use bus::Window;
 use descriptor::BuiltDescriptor;
 use descriptor::DescControl;
-use descriptor::Descriptor;
 use descriptor::Job;
 use descriptor::ReadDescriptor;
 use machine::LoadedMachine;
 use machine::Machine;
 use machine::Ran;
-use machine::Reason;
 use machine::RunAnswer;
 use machine::registers::WroteRegister;
 use regs::CheckedMode;
 use regs::Mode;
 use regs::ReadRegister;
-use words::Order;
-use words::put_u16;
-use words::put_u32;
-use words::put_words;
 
-// The sizes of what is lent.
+// The size of an image.
 const IMAGE: usize = 44;
-
-const VALUE: usize = 4;
-
-const DESCRIPTOR: usize = 18;
-
-const REPORT: usize = 18;
 
 // Writes the image of a machine that keeps the rules, which is never refused.
 fn put_image(m: Machine, image: &mut [u8])
@@ -111,7 +103,7 @@ pub extern "C" fn sgdma_read_register(image: &[u8], offset: u32, value: &mut [u8
     match answer {
         ReadRegister::Refused(why) => why.number(),
         ReadRegister::Value(v) => {
-            put_u32(Order::MostFirst, value, 0, v);
+            put_value(value, v);
             0
         }
     }
@@ -132,37 +124,11 @@ pub extern "C" fn sgdma_line(image: &[u8], value: &mut [u8]) -> u32
         return Refusal::BadImage.number();
     };
     if m.up() {
-        put_u32(Order::MostFirst, value, 0, 1);
+        put_value(value, 1);
         return 0;
     }
-    put_u32(Order::MostFirst, value, 0, 0);
+    put_value(value, 0);
     0
-}
-
-// The paper's number of a reason.
-fn reason_number(reason: Reason) -> u16
-    ensures { λ r. ⌜ r ≡ reasonNumber reason ⌝ }
-{
-    match reason {
-        Reason::Rest => 0,
-        Reason::Ended => 1,
-        Reason::Halted => 2,
-        Reason::Faulted => 3,
-        Reason::NeedsInput => 4,
-        Reason::OutputFull => 5,
-        Reason::Budget => 6,
-        Reason::LedgerFull => 7,
-    }
-}
-
-// The 18 bytes of a run's report.
-fn put_report(report: &mut [u8], reason: u16, steps: u32, taken: u32, made: u32, used: u32)
-    requires { ⌜ length (now report) ≡ 18 ⌝ }
-    ensures { λ _. ⌜ Leaves (rowBytes MostFirst (2 ∷ 4 ∷ 4 ∷ 4 ∷ 4 ∷ []) (reason ∷ steps ∷ taken ∷ made ∷ used ∷ [])) (now (report .exit)) ⌝ }
-{
-    let counts = [steps, taken, made, used];
-    put_u16(Order::MostFirst, report, 0, reason);
-    put_words(Order::MostFirst, report, 2, &counts);
 }
 
 // The image and the report after a run.
@@ -177,7 +143,7 @@ fn put_run(r: Ran, image: &mut [u8], report: &mut [u8])
     let machine = r.machine;
     let taken = r.taken as u32;
     let made = r.made as u32;
-    let number = reason_number(reason);
+    let number = reason.number();
     put_report(report, number, r.steps, taken, made, r.used);
     put_image(machine, image);
 }
@@ -195,7 +161,10 @@ pub extern "C" fn sgdma_run(
     budget: u32,
     report: &mut [u8],
 ) -> u32
-    ensures { λ r. ⌜ RunMade (now (image .entry)) (now (window .entry)) (now (beats .entry)) (now (out .entry)) (now (ledger .entry)) used budget (now (report .entry)) r (now (image .exit)) (now (window .exit)) (now (out .exit)) (now (ledger .exit)) (now (report .exit)) ⌝ }
+    ensures { λ r. ⌜
+        RunMade (now (image .entry)) (lent (now (window .entry)) (now (beats .entry)) (now (out .entry)) (now (ledger .entry)) used)
+        budget (now (report .entry))
+        r (now (image .exit)) (back (now (window .exit)) (now (out .exit)) (now (ledger .exit))) (now (report .exit)) ⌝ }
 {
     if image.len() != IMAGE {
         return Refusal::BadSize.number();
@@ -228,7 +197,10 @@ pub extern "C" fn sgdma_build_descriptor(
     length: u16,
     control: u8,
 ) -> u32
-    ensures { λ r. ⌜ DescriptorBuilt (now (window .entry)) base address (record { source = source; destination = destination; next = next; length = length; control = record { 0 = control } }) r (now (window .exit)) ⌝ }
+    ensures { λ r. ⌜
+        DescriptorBuilt (now (window .entry)) base address
+        (record { source = source; destination = destination; next = next; length = length; control = record { 0 = control } })
+        r (now (window .exit)) ⌝ }
 {
     let job = Job {
         source,
@@ -242,18 +214,6 @@ pub extern "C" fn sgdma_build_descriptor(
         BuiltDescriptor::Done => 0,
         BuiltDescriptor::Refused(why) => why.number(),
     }
-}
-
-// The 18 bytes of a descriptor answer.
-fn put_descriptor(answer: &mut [u8], d: Descriptor)
-    requires { ⌜ length (now answer) ≡ 18 ⌝ }
-    ensures { λ _. ⌜ Leaves (answerOver (Good d) []) (now (answer .exit)) ⌝ }
-{
-    let counts = d.length as u32 * 0x1_0000 + d.actual as u32;
-    let words = [d.source, d.destination, d.next, counts];
-    let last = d.status as u16 * 256 + d.control.0 as u16;
-    put_words(Order::MostFirst, answer, 0, &words);
-    put_u16(Order::MostFirst, answer, 16, last);
 }
 
 // Reads a descriptor of the lent window that stands at `base` into the 18 bytes of `answer`.

@@ -25,7 +25,7 @@ use Rattle.machine.specs.declared.registers.WroteRegister.the-variants as wrote
 use Rattle.machine.specs.Saved.{keeps}
 use Rattle.machine.specs.Registers.{stored, released, controlWritten, writeOf}
 use Rattle.machine.specs.Step.{World}
-use Rattle.machine.specs.Run.{Lent, serves, refused, lentOf, worldOf, takenSince, run, ranAs, runAnswer, ledgerAfter, HasRun}
+use Rattle.machine.specs.Run.{Lent, Returned, Served, serves, refused, servedOf, worldOf, takenSince, run, returned, ranAs, runAnswer, HasRun}
 use Rattle.machine.proofs.Outcomes.{serves-good}
 use Rattle.machine.proofs.RunLaws.{run-tells}
 use Rattle.sums.specs.Sum.{held, lostIn, Session, begins, written, ran, Adds}
@@ -80,14 +80,14 @@ write-drops m offset v =
 
 -- ---- a run
 
-ran-serves : (l : Lent) (used : ℕ) (w : World) (budget : ℕ) (r : Ran) → many.Done r ≡ runAnswer used l w budget
-    → (l ≡ serves) × (r ≡ ranAs used w (run budget w))
-ran-serves serves used w budget r e = (refl, cc)
-ran-serves (refused why) used w budget r e = absurd (let z : _≡_ {A = ℕ} 0 1 = cc in omega arith)
+ran-serves : (given : Lent) (served : Served) (w : World) (budget : ℕ) (r : Ran) → many.Done r ≡ runAnswer given served w budget
+    → (served ≡ serves) × (r ≡ ranAs (given .used) w (run budget w))
+ran-serves given serves w budget r e = (refl, cc)
+ran-serves given (refused why) w budget r e = absurd (let z : _≡_ {A = ℕ} 0 1 = cc in omega arith)
 
-used-in : (m : Machine) (window beats out ledger : List ℕ) (used : ℕ) → lentOf m window beats out ledger used ≡ serves → used ≤ length ledger / 12
-unfolding lentOf
-used-in m window beats out ledger used e = serves-good (keeps m) m window beats out ledger used e .2
+used-in : (m : Machine) (given : Lent) → servedOf m given ≡ serves → given .used ≤ length (given .ledger) / 12
+unfolding servedOf
+used-in m given e = serves-good (keeps m) m given e .2
 
 -- ---- sessions
 
@@ -96,35 +96,36 @@ record Kept (m : Machine) (before ledger : List ℕ) (rs : List Entry) (t l : �
   size : length ledger ≡ length before
   adds : Adds m before ledger rs t l
 
-module _ {m : Machine} {before ledger : List ℕ} {rs : List Entry} {t l : ℕ} (h : Kept m before ledger rs t l)
-    {budget : ℕ} {window beats out window' out' ledger' : List ℕ} {r : Ran}
-    (d : HasRun m window beats out ledger (length rs) budget (many.Done r) window' out' ledger') where
+module _ {m : Machine} {before : List ℕ} {rs : List Entry} {t l budget : ℕ} {given : Lent} {r : Ran} {b : Returned}
+    (h : Kept m before (given .ledger) rs t l) (u : given .used ≡ length rs) (d : HasRun m given budget (many.Done r) b) where
   abbrev w : World
-  w = worldOf m window beats out ledger (length rs)
+  w = worldOf m given
 
   abbrev new : List Entry
   new = run budget w .world .records
 
-  both : (lentOf m window beats out ledger (length rs) ≡ serves) × (r ≡ ranAs (length rs) w (run budget w))
-  both = ran-serves (lentOf m window beats out ledger (length rs)) (length rs) w budget r (d .answer)
+  both : (servedOf m given ≡ serves) × (r ≡ ranAs (given .used) w (run budget w))
+  both = ran-serves given (servedOf m given) w budget r (d .answer)
 
-  is : r ≡ ranAs (length rs) w (run budget w)
+  is : r ≡ ranAs (given .used) w (run budget w)
   is = both .1
 
-  front : length rs ≤ length ledger / 12
-  front = used-in m window beats out ledger (length rs) (both .0)
+  front : length rs ≤ length (given .ledger) / 12
+  front = omega (arith, used-in m given (both .0), u)
 
-  fits : 12 * length rs + length (ledgerBytes new) ≤ length ledger
+  fits : 12 * length rs + length (ledgerBytes new) ≤ length (given .ledger)
   fits =
       let p = run-tells budget w .passed in
       let made : length new ≡ length (p .logged) = ap length (p .records) in
       let room = p .left in
-      omega (arith, made, room, length-ledger new, capacity-le (length ledger) .0, front)
+      omega (arith, made, room, length-ledger new, capacity-le (length (given .ledger)) .0, front, u)
 
-  ledger-is : ledger' ≡ put ledger (12 * length rs) (ledgerBytes new)
-  ledger-is = d .ledger-after ∙ ap (λ (x : Lent). ledgerAfter x (run budget w .world) ledger (length rs)) (both .0)
+  ledger-is : b .ledger ≡ put (given .ledger) (12 * length rs) (ledgerBytes new)
+  ledger-is =
+      ap (λ (x : Returned). x .ledger) (d .back ∙ ap (λ (s : Served). returned given s (run budget w .world)) (both .0))
+      ∙ ap (λ (n : ℕ). put (given .ledger) (12 * n) (ledgerBytes new)) u
 
-  ran-kept : Kept (r .machine) before ledger' (rs ++ new) (t + r .taken) (l + lostIn budget w)
+  ran-kept : Kept (r .machine) before (b .ledger) (rs ++ new) (t + r .taken) (l + lostIn budget w)
   ran-kept =
       let p = run-tells budget w .passed in
       let v = run budget w .world in
@@ -136,7 +137,7 @@ module _ {m : Machine} {before ledger : List ℕ} {rs : List Entry} {t l : ℕ} 
       let room : 0 + length (ledgerBytes rs) ≤ length before = omega (arith, front, place, h .size) in
       record {
         mode = ap (λ (x : Machine). x .mode) machine ∙ p .mode ∙ h .mode;
-        size = ap length ledger-is ∙ length-put ledger (12 * length rs) (ledgerBytes new) fits ∙ h .size;
+        size = ap length ledger-is ∙ length-put (given .ledger) (12 * length rs) (ledgerBytes new) fits ∙ h .size;
         adds = record {
           sum = omega (arith, h .adds .sum, run-balanced budget w (h .mode), sum-append rs new, in-hand, took, beats-left);
           holds = ledger-is ∙ (λ x. put (h .adds .holds x) (place x) (ledgerBytes new))
@@ -158,7 +159,7 @@ session-kept (written {m = m} {n = n} {offset = offset} {v = v} s c) =
       size = h .size;
       adds = record { sum = omega (arith, h .adds .sum, a .less); holds = h .adds .holds };
     }
-session-kept (ran s d) = ran-kept (session-kept s) d
+session-kept (ran s u d) = ran-kept (session-kept s) u d
 
 -- The ledger's bytes sum to the beats taken less those in hand and those abandoned.
 pub session-adds : SessionAdds

@@ -20,7 +20,7 @@ use Rattle.machine.specs.Saved.{inHand}
 use Rattle.machine.specs.State as state
 use Rattle.machine.specs.Registers.{WasWritten}
 use Rattle.machine.specs.Step.{World, Answer, taken, stopped, step}
-use Rattle.machine.specs.Run.{run, worldOf, HasRun}
+use Rattle.machine.specs.Run.{run, Lent, Returned, worldOf, HasRun}
 
 -- the beats of the descriptor in hand
 abbrev pub held : Machine → ℕ
@@ -57,15 +57,15 @@ abbrev pub lostIn : ℕ → World → ℕ
 lostIn n w = lostOn n w (step w)
 
 -- calls from a fresh machine in mode 2 on: the machine now; the ledger's bytes before and now; the records made, the beats taken
--- and those abandoned, by a fault or by a write that resets
+-- and those abandoned, by a fault or by a write that resets. A run is lent the ledger as it stands, with the number of its records
 pub data Session : Machine → (before ledger : List ℕ) → List Entry → (taken lost : ℕ) → Type 0 where
   begins : (window : Window) (ledger : List ℕ) → Session (state.fresh StreamToMemory window) ledger ledger [] 0 0
   written : {m n : Machine} {before ledger : List ℕ} {rs : List Entry} {t l offset v : ℕ} → Session m before ledger rs t l
       → WasWritten m offset v (wrote.Done n) → Session n before ledger rs t (l + (held m - held n))
-  ran : {m : Machine} {before ledger : List ℕ} {rs : List Entry} {t l budget : ℕ} {window beats out window' out' ledger' : List ℕ} {r : Ran}
-      → Session m before ledger rs t l → HasRun m window beats out ledger (length rs) budget (many.Done r) window' out' ledger'
-      → Session (r .machine) before ledger' (rs ++ run budget (worldOf m window beats out ledger (length rs)) .world .records) (t + r .taken)
-      (l + lostIn budget (worldOf m window beats out ledger (length rs)))
+  ran : {m : Machine} {before : List ℕ} {rs : List Entry} {t l budget : ℕ} {given : Lent} {r : Ran} {b : Returned}
+      → Session m before (given .ledger) rs t l → given .used ≡ length rs → HasRun m given budget (many.Done r) b
+      → Session (r .machine) before (b .ledger) (rs ++ run budget (worldOf m given) .world .records) (t + r .taken)
+      (l + lostIn budget (worldOf m given))
 
 -- what is said of it
 pub record Adds (m : Machine) (before ledger : List ℕ) (rs : List Entry) (taken lost : ℕ) : Type 0 where

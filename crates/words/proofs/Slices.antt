@@ -2,10 +2,10 @@
 -- Assumes nothing.
 use Prim.Native.Nat.{ℕ, zero, suc, _+_, _-_, _≤_, _<_}
 use mathlib.Core.Path.{_≡_, refl, sym, ap, _∙_}
-use mathlib.Core.List.{List, [], _∷_, _++_, append-assoc}
-use native.Mathlib.Nat.{add-assoc, add-zero, mul-one, sub-zero, zero-sub, suc-sub-suc}
+use mathlib.Core.List.{List, [], _∷_, _++_, append-assoc, append-nil}
+use native.Mathlib.Nat.{zero-add, add-assoc, add-zero, mul-one, sub-zero, zero-sub, suc-sub-suc}
 use native.Mathlib.Omega.{arith}
-use lib.ListN.{length, take, drop, getD, length-append, length-drop, take-append-drop}
+use lib.ListN.{length, take, drop, getD, length-append, length-drop, drop-of-length-le, take-append-drop}
 use lib.Seq.{take-at, drop-at, drop-drop, drop-cons, sets, sets-eq, length-take-le, take-take, take-nil}
 use borrow.Author.Tests.{le-leb, lt-leb}
 use Rattle.words.specs.declared.Order.{Order}
@@ -34,6 +34,11 @@ module _ (xs : List ℕ) (at : ℕ) where
 pub length-put : (xs : List ℕ) (at : ℕ) (ys : List ℕ) → at + length ys ≤ length xs → length (put xs at ys) ≡ length xs
 length-put xs at ys h =
     simp (length-append, length-take-le at xs (omega arith), length-drop) (omega arith)
+
+-- what is put over a whole slice is all that is left in it
+pub put-all : (xs ys : List ℕ) → length ys ≡ length xs → putAt xs 0 ys ≡ ys
+put-all xs ys l =
+    put-in xs 0 ys (omega arith) ∙ rw (zero-add (length ys), drop-of-length-le xs {i = length ys} (omega arith)) (append-nil ys)
 
 -- two puts, the second where the first ended, are one
 pub put-put : (xs : List ℕ) (at : ℕ) (ys zs : List ℕ) → at + length ys ≤ length xs

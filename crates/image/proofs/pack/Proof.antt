@@ -1,5 +1,6 @@
 use mathlib.Core.Path.{_∙_, sym}
-use Rattle.image.proofs.WordByWord.{put-all, image-words}
+use Rattle.words.proofs.Slices.{put-all}
+use Rattle.image.proofs.WordByWord.{image-words}
 use borrow.Author.Needs.{needs}
 use Rattle.image.proofs.pack.Statement.{statement}
 use Rattle.image.proofs.pack.Tie as tie

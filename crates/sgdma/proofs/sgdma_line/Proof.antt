@@ -36,8 +36,8 @@ returns-3 c = line-spoiled (c .before .before .before .before .before .if1 .left
 up-requires : tie.Need-up-requires
 up-requires c κs = search needs
 
-put-u32-requires : tie.Need-put-u32-requires
-put-u32-requires c κs = search needs
+put-value-requires : tie.Need-put-value-requires
+put-value-requires c κs = search needs
 
 same-length : tie.Need-same-length
 same-length c = search needs
@@ -47,10 +47,10 @@ returns-4 c =
     let up = c .before .before .before .before .before in
     let load = up .before .before .before .before in
     line-answers (load .before .before .if1 .left) (load .before .if2 .left) Up 1 (sym (load .load .ensures .answer) ∙ up .before .before .m .given .1) (up .up .ensures)
-    (ap (λ (b : Bool). cond b Up Down) (c .before .before .before .before .if3 .taken)) refl refl (c .before .before .put-u32 .ensures)
+    (ap (λ (b : Bool). cond b Up Down) (c .before .before .before .before .if3 .taken)) refl refl (c .before .before .put-value .ensures)
 
-put-u32-requires-2 : tie.Need-put-u32-requires-2
-put-u32-requires-2 c κs = search needs
+put-value-requires-2 : tie.Need-put-value-requires-2
+put-value-requires-2 c κs = search needs
 
 same-length-2 : tie.Need-same-length-2
 same-length-2 c = search needs
@@ -60,7 +60,7 @@ returns-5 c =
     let up = c .before .before .before .before .before in
     let load = up .before .before .before .before in
     line-answers (load .before .before .if1 .left) (load .before .if2 .left) Down 0 (sym (load .load .ensures .answer) ∙ up .before .before .m .given .1) (up .up .ensures)
-    (ap (λ (b : Bool). cond b Up Down) (c .before .before .before .before .if3 .left)) refl refl (c .before .before .put-u322 .ensures)
+    (ap (λ (b : Bool). cond b Up Down) (c .before .before .before .before .if3 .left)) refl refl (c .before .before .put-value2 .ensures)
 
 pub sgdma-line-spec : {M : Type 1} → statement M
 sgdma-line-spec =
@@ -76,9 +76,9 @@ sgdma-line-spec =
     number-requires-3
     returns-3
     up-requires
-    put-u32-requires
+    put-value-requires
     same-length
     returns-4
-    put-u32-requires-2
+    put-value-requires-2
     same-length-2
     returns-5)

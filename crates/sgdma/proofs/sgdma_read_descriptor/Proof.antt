@@ -1,5 +1,6 @@
 use Rattle.sgdma.proofs.Answered.{answer-short, descriptor-answers}
-use mathlib.Core.Path.{refl}
+use Rattle.answers.proofs.Filled.{is-put}
+use mathlib.Core.Path.{refl, _∙_}
 use borrow.Author.Needs.{needs}
 use Rattle.sgdma.proofs.sgdma_read_descriptor.Statement.{statement}
 use Rattle.sgdma.proofs.sgdma_read_descriptor.Tie as tie
@@ -32,7 +33,7 @@ same-length : tie.Need-same-length
 same-length c = search needs
 
 returns-3 : tie.Need-returns-3
-returns-3 c = descriptor-answers (c .before .before .before .before .before .before .before .before .if1 .left) (c .before .before .before .before .before .before .before .read .ensures) (c .before .before .before .before .before .found2 .given .1) refl (c .before .before .put-descriptor .ensures .lent)
+returns-3 c = descriptor-answers (c .before .before .before .before .before .before .before .before .if1 .left) (c .before .before .before .before .before .before .before .read .ensures) (c .before .before .before .before .before .found2 .given .1) refl (c .before .before .put-descriptor .ensures .lent ∙ is-put _ _ (c .before .before .before .before .before .before .before .before .if1 .left))
 
 pub sgdma-read-descriptor-spec : {M : Type 1} → statement M
 sgdma-read-descriptor-spec =

@@ -1,4 +1,5 @@
-use Rattle.sgdma.proofs.Answered.{value-put, register-short, value-short, register-spoiled, register-answers}
+use Rattle.sgdma.proofs.Answered.{register-short, value-short, register-spoiled, register-answers}
+use Rattle.answers.proofs.Filled.{is-put}
 use mathlib.Core.Path.{refl, sym, _∙_}
 use borrow.Author.Needs.{needs}
 use Rattle.sgdma.proofs.sgdma_read_register.Statement.{statement}
@@ -43,8 +44,8 @@ number-requires-4 c κs = search needs
 enum-known-answer-2 : tie.Need-enum-known-answer-2
 enum-known-answer-2 c = search needs
 
-put-u32-requires : tie.Need-put-u32-requires
-put-u32-requires c κs = search needs
+put-value-requires : tie.Need-put-value-requires
+put-value-requires c κs = search needs
 
 returns-4 : tie.Need-returns-4
 returns-4 c =
@@ -61,7 +62,7 @@ returns-5 c =
     let register = c .before .before .before .before .before .before .before in
     let load = register .before .before .before .before in
     register-answers (load .before .before .if1 .left) (load .before .if2 .left) (sym (load .load .ensures .answer) ∙ register .before .before .m .given .1) (register .register .ensures) (c .before .before .before .before .before .answer2 .given .1)
-    refl (c .before .before .put-u32 .ensures .lent ∙ value-put _ _ (load .before .if2 .left))
+    refl (c .before .before .put-value .ensures .lent ∙ is-put _ _ (load .before .if2 .left))
 
 pub sgdma-read-register-spec : {M : Type 1} → statement M
 sgdma-read-register-spec =
@@ -80,7 +81,7 @@ sgdma-read-register-spec =
     enum-known-answer
     number-requires-4
     enum-known-answer-2
-    put-u32-requires
+    put-value-requires
     returns-4
     same-length
     returns-5)

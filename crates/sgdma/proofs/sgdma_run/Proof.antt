@@ -9,13 +9,13 @@ number-requires : tie.Need-number-requires
 number-requires c κs = search needs
 
 returns : tie.Need-returns
-returns c = run-short (c .before .if1 .taken) (c .number .ensures .value) refl refl refl refl refl
+returns c = run-short (c .before .if1 .taken) (c .number .ensures .value) refl refl refl
 
 number-requires-2 : tie.Need-number-requires-2
 number-requires-2 c κs = search needs
 
 returns-2 : tie.Need-returns-2
-returns-2 c = report-short (c .before .before .if1 .left) (c .before .if2 .taken) (c .number2 .ensures .value) refl refl refl refl refl
+returns-2 c = report-short (c .before .before .if1 .left) (c .before .if2 .taken) (c .number2 .ensures .value) refl refl refl
 
 load-requires : tie.Need-load-requires
 load-requires c κs = search needs
@@ -33,7 +33,7 @@ same-length : tie.Need-same-length
 same-length c = search needs
 
 returns-3 : tie.Need-returns-3
-returns-3 c = run-spoiled (c .before .before .before .before .before .before .if1 .left) (c .before .before .before .before .before .if2 .left) (sym (c .before .before .before .load .ensures .answer) ∙ c .before .enum-told .given .1) (c .number3 .ensures .value) refl refl refl refl refl
+returns-3 c = run-spoiled (c .before .before .before .before .before .before .if1 .left) (c .before .before .before .before .before .if2 .left) (sym (c .before .before .before .load .ensures .answer) ∙ c .before .enum-told .given .1) (c .number3 .ensures .value) refl refl refl
 
 resume-requires : tie.Need-resume-requires
 resume-requires c κs = search needs
@@ -65,7 +65,7 @@ same-length-5 : tie.Need-same-length-5
 same-length-5 c = search needs
 
 returns-4 : tie.Need-returns-4
-returns-4 c = run-answers (c .before .before .before .before .before .before .before .before .before .before .before .before .before .before .before .before .before .before .before .before .if1 .left) (c .before .before .before .before .before .before .before .before .before .before .before .before .before .before .before .before .before .before .before .if2 .left) (sym (c .before .before .before .before .before .before .before .before .before .before .before .before .before .before .before .before .before .load .ensures .answer) ∙ c .before .before .before .before .before .before .before .before .before .before .before .before .before .before .before .m .given .1) (c .before .before .before .before .before .before .before .before .before .before .resume .ensures) (c .before .before .answer .given .1) (c .number4 .ensures .value) refl refl refl refl refl
+returns-4 c = run-answers (c .before .before .before .before .before .before .before .before .before .before .before .before .before .before .before .before .before .before .before .before .if1 .left) (c .before .before .before .before .before .before .before .before .before .before .before .before .before .before .before .before .before .before .before .if2 .left) (sym (c .before .before .before .before .before .before .before .before .before .before .before .before .before .before .before .before .before .load .ensures .answer) ∙ c .before .before .before .before .before .before .before .before .before .before .before .before .before .before .before .m .given .1) (c .before .before .before .before .before .before .before .before .before .before .resume .ensures) (c .before .before .answer .given .1) (c .number4 .ensures .value) refl refl refl
 
 same-length-6 : tie.Need-same-length-6
 same-length-6 c = search needs
@@ -83,7 +83,7 @@ same-length-10 : tie.Need-same-length-10
 same-length-10 c = search needs
 
 returns-5 : tie.Need-returns-5
-returns-5 c = run-answers (c .before .before .before .before .before .before .before .before .before .before .before .before .before .before .before .before .before .before .before .before .before .before .before .before .before .before .if1 .left) (c .before .before .before .before .before .before .before .before .before .before .before .before .before .before .before .before .before .before .before .before .before .before .before .before .before .if2 .left) (sym (c .before .before .before .before .before .before .before .before .before .before .before .before .before .before .before .before .before .before .before .before .before .before .before .load .ensures .answer) ∙ c .before .before .before .before .before .before .before .before .before .before .before .before .before .before .before .before .before .before .before .before .before .m .given .1) (c .before .before .before .before .before .before .before .before .before .before .before .before .before .before .before .before .resume .ensures) (c .before .before .before .before .before .before .before .before .answer2 .given .1) refl (c .before .before .before .before .put-run .ensures .0 .lent) refl refl refl (c .before .before .before .before .put-run .ensures .1 .lent)
+returns-5 c = run-answers (c .before .before .before .before .before .before .before .before .before .before .before .before .before .before .before .before .before .before .before .before .before .before .before .before .before .before .if1 .left) (c .before .before .before .before .before .before .before .before .before .before .before .before .before .before .before .before .before .before .before .before .before .before .before .before .before .if2 .left) (sym (c .before .before .before .before .before .before .before .before .before .before .before .before .before .before .before .before .before .before .before .before .before .before .before .load .ensures .answer) ∙ c .before .before .before .before .before .before .before .before .before .before .before .before .before .before .before .before .before .before .before .before .before .m .given .1) (c .before .before .before .before .before .before .before .before .before .before .before .before .before .before .before .before .resume .ensures) (c .before .before .before .before .before .before .before .before .answer2 .given .1) refl (c .before .before .before .before .put-run .ensures .0 .lent) refl (c .before .before .before .before .put-run .ensures .1 .lent)
 
 pub sgdma-run-spec : {M : Type 1} → statement M
 sgdma-run-spec =

@@ -12,18 +12,18 @@ fault-in-requires c κs = search needs
 number-requires : tie.Need-number-requires
 number-requires c κs = search needs
 
-phase-number-requires : tie.Need-phase-number-requires
-phase-number-requires c κs = search needs
+number-requires-2 : tie.Need-number-requires-2
+number-requires-2 c κs = search needs
 
 has-requires : tie.Need-has-requires
 has-requires c κs = search needs
 
-number-requires-2 : tie.Need-number-requires-2
-number-requires-2 c κs = search needs
+number-requires-3 : tie.Need-number-requires-3
+number-requires-3 c κs = search needs
 
 cast-t13 : tie.Need-cast-t13
 cast-t13 c =
-    let told = c .number2 .ensures .value in
+    let told = c .number3 .ensures .value in
     let h = status-below (c .before .before .before .before .before .before .before .before .args .self .status) in
     search needs
 
@@ -40,9 +40,9 @@ returns c =
     rw (
       c .size .ensures .value,
       c .before .base .ensures .value,
-      number .number2 .ensures .value,
+      number .number3 .ensures .value,
       number .before .has .ensures .value,
-      phase .phase-number .ensures,
+      phase .number2 .ensures .value,
       phase .before .number .ensures .value,
       phase .before .before .before .fault-in .ensures,
       phase .before .before .before .before .in-hand .ensures,
@@ -55,9 +55,9 @@ fields-spec =
     in-hand-requires
     fault-in-requires
     number-requires
-    phase-number-requires
-    has-requires
     number-requires-2
+    has-requires
+    number-requires-3
     cast-t13
     base-requires
     size-requires

@@ -1,5 +1,5 @@
 use mathlib.Core.Path.{refl, sym, _∙_}
-use Rattle.machine.specs.Run.{lentOf}
+use Rattle.machine.specs.Run.{servedOf}
 use Rattle.machine.proofs.Readiness.{keeps-ready}
 use Rattle.machine.proofs.Outcomes.{runs-as}
 use borrow.Author.Needs.{needs}
@@ -22,7 +22,7 @@ same-length-3 : tie.Need-same-length-3
 same-length-3 c = search needs
 
 returns : tie.Need-returns
-unfolding lentOf
+unfolding servedOf
 returns c = runs-as _ _ (c .before .before .before .before .before .before .before .before .before .before .keeps .ensures) (c .before .before .before .before .before .before .run-if .ensures)
 
 pub run-spec : {M : Type 1} → statement M

@@ -1,6 +1,6 @@
 use Prim.Native.Nat.{ℕ}
 use Rattle.bus.specs.declared.Refusal.the-variants.{OtherWindow}
-use Rattle.machine.specs.Run.{serves, refused, even, lentIf}
+use Rattle.machine.specs.Run.{serves, refused, even, lent, servedIf}
 use Rattle.ledger.specs.Records.{isLedger}
 use lib.ListN.{length}
 use lib.Dec.{eqb}
@@ -15,7 +15,7 @@ use Rattle.machine.proofs.Machine.served.Tie as tie
 decided : (s : tie.Start) {same : Bool} → s .args .good ≡ true → (even (s .args .beats .now) && even (s .args .out .now)) ≡ true
     → isLedger (length (s .args .ledger .now)) (s .args .used) ≡ true → {size : ℕ} → size ≡ s .args .self .window .length → eqb (length (s .args .window .now)) size ≡ same
     → cond same serves (refused OtherWindow)
-    ≡ lentIf (s .args .good) (s .args .self) (s .args .window .now) (s .args .beats .now) (s .args .out .now) (s .args .ledger .now) (s .args .used)
+    ≡ servedIf (s .args .good) (s .args .self) (lent (s .args .window .now) (s .args .beats .now) (s .args .out .now) (s .args .ledger .now) (s .args .used))
 decided s good evens whole told window = rw (good, evens, whole, ← told, window) refl
 
 returns : tie.Need-returns

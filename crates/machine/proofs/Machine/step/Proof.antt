@@ -1,26 +1,37 @@
 use Rattle.machine.proofs.Waiting.{waits-at}
 use Rattle.machine.proofs.Outcomes.{serves-ready, wait-stopped, step-refused, step-stopped, step-taken}
 use Rattle.machine.proofs.Streams.{some-beat, some-room}
-use Rattle.machine.specs.Turns.{lentAs}
+use Rattle.machine.specs.Turns.{servedAs, waitOf}
 use mathlib.Core.Path.{_≡_, refl, sym, ap, _∙_}
 use lib.ListN.{length}
 use Rattle.ledger.specs.Records.{capacity}
-use Rattle.machine.specs.Run.{lentOf, serves, worldOf}
+use Rattle.machine.specs.Step.{step}
+use Rattle.machine.specs.Run.{Lent, lent, servedOf, serves, worldOf}
 use borrow.Author.Needs.{needs}
 use Rattle.machine.proofs.Machine.step.Statement.{statement}
 use Rattle.machine.proofs.Machine.step.Tie as tie
 
+abbrev lends : tie.Start → Lent
+lends s = lent (s .args .window .now) (s .args .beats .now) (s .args .out .now) (s .args .ledger .now) (s .args .used)
+
 -- what is lent serves the machine
 served : (c : tie.After-enum-told)
-    → let a = c .before .before .before .before .before .before .before .before .before .before .args in
-    lentOf (a .self) (a .window .now) (a .beats .now) (a .out .now) (a .ledger .now) (a .used) ≡ serves
-served c = sym (c .before .before .checked .ensures) ∙ ap lentAs (c .enum-told .given .1)
+    → let s = c .before .before .before .before .before .before .before .before .before .before in
+    servedOf (s .args .self) (lends s) ≡ serves
+served c = sym (c .before .before .checked .ensures) ∙ ap servedAs (c .enum-told .given .1)
+
+-- whether a step can be taken
+waits : (c : tie.After-wait) → let s = c .before .before .before .before .before .before .before .before .before .before .before .before .before in c .wait .result ≡ waitOf (step (worldOf (s .args .self) (lends s)))
+waits c =
+    let s = c .before .before .before .before .before .before .before .before .before .before .before .before .before in
+    c .wait .ensures (worldOf (s .args .self) (lends s)) (some-beat (s .args .beats .now) 0) refl
+    (c .before .has-room .ensures .value ∙ some-room (capacity (length (s .args .ledger .now))) (s .args .used))
 
 checked-requires : tie.Need-checked-requires
 checked-requires c κs = search needs
 
-enum-known-lent : tie.Need-enum-known-lent
-enum-known-lent c = search needs
+enum-known-answer : tie.Need-enum-known-answer
+enum-known-answer c = search needs
 
 same-length : tie.Need-same-length
 same-length c = search needs
@@ -32,7 +43,7 @@ same-length-3 : tie.Need-same-length-3
 same-length-3 c = search needs
 
 returns : tie.Need-returns
-returns c = step-refused (sym (c .before .before .before .checked .ensures) ∙ ap lentAs (c .before .lent .given .1))
+returns c = step-refused (sym (c .before .before .before .checked .ensures) ∙ ap servedAs (c .before .answer .given .1))
 
 enum-told : tie.Need-enum-told
 enum-told c = search needs
@@ -57,9 +68,7 @@ same-length-6 c = search needs
 
 returns-2 : tie.Need-returns-2
 returns-2 c =
-    let a = c .before .before .before .before .before .before .before .before .before .before .before .before .before .before .before .before .args in
-    let waits = c .before .before .before .wait .ensures (worldOf (a .self) (a .window .now) (a .beats .now) (a .out .now) (a .ledger .now) (a .used)) (some-beat (a .beats .now) 0) refl (c .before .before .before .before .has-room .ensures .value ∙ some-room (capacity (length (a .ledger .now))) (a .used)) in
-    step-stopped (served (c .before .before .before .before .before .before)) (wait-stopped _ (sym waits ∙ c .before .wait2 .given .1))
+    step-stopped (served (c .before .before .before .before .before .before)) (wait-stopped _ (sym (waits (c .before .before .before)) ∙ c .before .wait2 .given .1))
 
 enum-told-2 : tie.Need-enum-told-2
 enum-told-2 c = search needs
@@ -69,9 +78,10 @@ log-requires c κs = search needs
 
 step-at-requires : tie.Need-step-at-requires
 step-at-requires c κs =
-    let a = c .before .before .before .before .before .before .before .before .before .before .before .before .before .before .before .before .before .before .before .before .before .args in
-    let waits = waits-at (a .self) (a .window .now) (a .beats .now) 0 (a .out .now) 0 (c .before .before .before .before .before .before .before .before .wait .ensures) (worldOf (a .self) (a .window .now) (a .beats .now) (a .out .now) (a .ledger .now) (a .used)) (c .before .before .before .before .before .before .before .before .before .has-room .ensures .value ∙ some-room (capacity (length (a .ledger .now))) (a .used)) in
-    (serves-ready _ _ _ _ _ _ (served (c .before .before .before .before .before .before .before .before .before .before .before)), (record { taken-in = search needs; made-in = search needs }, record { around = worldOf (a .self) (a .window .now) (a .beats .now) (a .out .now) (a .ledger .now) (a .used); can = waits ∙ c .before .before .before .before .before .before .enum-told2 .given .1 }))
+    let s = c .before .before .before .before .before .before .before .before .before .before .before .before .before .before .before .before .before .before .before .before .before in
+    let a = s .args in
+    let waits = waits-at (a .self) (a .window .now) (a .beats .now) 0 (a .out .now) 0 (c .before .before .before .before .before .before .before .before .wait .ensures) (worldOf (a .self) (lends s)) (c .before .before .before .before .before .before .before .before .before .has-room .ensures .value ∙ some-room (capacity (length (a .ledger .now))) (a .used)) in
+    (serves-ready _ _ (served (c .before .before .before .before .before .before .before .before .before .before .before)), (record { taken-in = search needs; made-in = search needs }, record { around = worldOf (a .self) (lends s); can = waits ∙ c .before .before .before .before .before .before .enum-told2 .given .1 }))
 
 same-length-7 : tie.Need-same-length-7
 same-length-7 c = search needs
@@ -84,16 +94,16 @@ same-length-9 c = search needs
 
 returns-3 : tie.Need-returns-3
 returns-3 c =
-    let a = c .before .before .before .before .before .before .before .before .before .before .before .before .before .before .before .before .before .before .before .before .before .before .before .before .before .before .before .args in
-    let waits = c .before .before .before .before .before .before .before .before .before .before .before .before .before .before .wait .ensures (worldOf (a .self) (a .window .now) (a .beats .now) (a .out .now) (a .ledger .now) (a .used)) (some-beat (a .beats .now) 0) refl (c .before .before .before .before .before .before .before .before .before .before .before .before .before .before .before .has-room .ensures .value ∙ some-room (capacity (length (a .ledger .now))) (a .used)) in
-    step-taken (served (c .before .before .before .before .before .before .before .before .before .before .before .before .before .before .before .before .before)) (sym waits ∙ c .before .before .before .before .before .before .before .before .before .before .before .before .enum-told2 .given .1) (c .before .before .before .before .before .step-at .ensures .0) (c .before .before .before .before .before .before .before .before .before .before .log .ensures) (c .before .before .before .before .before .step-at .ensures .1)
+    step-taken (served (c .before .before .before .before .before .before .before .before .before .before .before .before .before .before .before .before .before))
+    (sym (waits (c .before .before .before .before .before .before .before .before .before .before .before .before .before .before)) ∙ c .before .before .before .before .before .before .before .before .before .before .before .before .enum-told2 .given .1)
+    (c .before .before .before .before .before .step-at .ensures .0) (c .before .before .before .before .before .before .before .before .before .before .log .ensures) (c .before .before .before .before .before .step-at .ensures .1)
 
 pub step-spec : {M : Type 1} → statement M
 step-spec =
     tie.close
     (tie.spec
     checked-requires
-    enum-known-lent
+    enum-known-answer
     same-length
     same-length-2
     same-length-3

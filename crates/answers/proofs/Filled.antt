@@ -1,23 +1,32 @@
--- Lent bytes that are filled in two parts.
+-- What is left in a lent slice, and slices that are filled in two parts.
 -- Assumes nothing.
 use Prim.Native.Nat.{ℕ, _+_, _*_, _^_, _<_}
 use mathlib.Core.Path.{_≡_, refl, sym, ap, _∙_}
 use mathlib.Core.List.{List, [], _∷_, _++_}
 use native.Mathlib.Omega.{arith}
 use lib.ListN.{length, length-append}
+use borrow.Author.Tests.{eq-eqb, ne-eqb}
 use Rattle.words.specs.declared.Order.the-variants.{MostFirst}
 use Rattle.words.specs.Numbers.{bytes}
-use Rattle.words.specs.Orders.{bytesOf, wordBytes, rowBytes}
+use Rattle.words.specs.Orders.{bytesOf, wordBytes}
 use Rattle.words.specs.Slices.{put, putAt}
 use Rattle.words.proofs.Recode.{split-append}
-use Rattle.words.proofs.Slices.{put-in, put-put, length-put}
+use Rattle.words.proofs.Slices.{put-in, put-put, put-all, length-put}
 use Rattle.descriptor.specs.declared.Descriptor.{Descriptor}
-use Rattle.descriptor.specs.declared.ReadDescriptor.the-variants.{Good}
-use Rattle.image.proofs.WordByWord.{put-all}
-use Rattle.sgdma.specs.Calls.{answerOver}
+use Rattle.answers.specs.Answers.{valueBytes, reportBytes, descriptorBytes, answerPut}
+
+-- an answer of the slice's size is left in it; of another size it is not
+module _ (answer xs : List ℕ) where
+  pub is-put : length xs ≡ length answer → answerPut answer xs ≡ answer
+  unfolding answerPut
+  is-put l = rw (eq-eqb (length xs) (length answer) l)
+
+  pub not-put : (length xs ≡ length answer → ⊥) → answerPut answer xs ≡ xs
+  unfolding answerPut
+  not-put h = rw (ne-eqb (length xs) (length answer) h)
 
 -- two parts that together are as long as the slice are what then stands in it
-pub filled : (xs ys zs : List ℕ) (n : ℕ) → length ys ≡ n → length xs ≡ n + length zs → putAt (putAt xs 0 ys) n zs ≡ ys ++ zs
+filled : (xs ys zs : List ℕ) (n : ℕ) → length ys ≡ n → length xs ≡ n + length zs → putAt (putAt xs 0 ys) n zs ≡ ys ++ zs
 filled xs ys zs n k l =
     let first : putAt xs 0 ys ≡ put xs 0 ys = put-in xs 0 ys (omega arith) in
     let same : length (putAt xs 0 ys) ≡ length xs = ap length first ∙ length-put xs 0 ys (omega arith) in
@@ -27,12 +36,22 @@ filled xs ys zs n k l =
     ∙ put-put xs 0 ys zs (omega arith) ∙ sym (put-in xs 0 (ys ++ zs) (simp length-append (omega arith)))
     ∙ put-all xs (ys ++ zs) (simp length-append (omega arith))
 
+-- a value
+pub value-filled : (xs : List ℕ) (v : ℕ) → length xs ≡ 4 → putAt xs 0 (bytesOf MostFirst 4 v) ≡ answerPut (valueBytes v) xs
+value-filled xs v l = put-all xs (valueBytes v) (sym l) ∙ sym (is-put (valueBytes v) xs l)
+
+-- a run's report, from its reason and its four counts
+pub report-filled : (xs : List ℕ) (reason steps took made used : ℕ) → length xs ≡ 18
+    → putAt (putAt xs 0 (bytesOf MostFirst 2 reason)) 2 (wordBytes MostFirst (steps ∷ took ∷ made ∷ used ∷ []))
+    ≡ answerPut (reportBytes reason steps took made used) xs
+report-filled xs reason steps took made used l = filled xs _ _ 2 refl l ∙ sym (is-put (reportBytes reason steps took made used) xs l)
+
 -- a descriptor answer, from its four words and its last two bytes
-pub answer-filled : (xs : List ℕ) (d : Descriptor) → length xs ≡ 18 → d .actual < 2 ^ 16 → d .control .0 < 2 ^ 8
+pub descriptor-filled : (xs : List ℕ) (d : Descriptor) → length xs ≡ 18 → d .actual < 2 ^ 16 → d .control .0 < 2 ^ 8
     → putAt (putAt xs 0 (wordBytes MostFirst (d .source ∷ d .destination ∷ d .next ∷ (d .length * 0x1_0000 + d .actual) ∷ []))) 16
     (bytesOf MostFirst 2 (d .status * 256 + d .control .0))
-    ≡ answerOver (Good d) []
-answer-filled xs d l h i =
+    ≡ answerPut (descriptorBytes d) xs
+descriptor-filled xs d l h i =
     let counts : bytesOf MostFirst 4 (d .length * 0x1_0000 + d .actual) ≡ bytesOf MostFirst 2 (d .length) ++ bytesOf MostFirst 2 (d .actual) =
     split-append (bytes 2) (bytes 2) (d .length) (d .actual) h in
     let last : bytesOf MostFirst 2 (d .status * 256 + d .control .0) ≡ bytesOf MostFirst 1 (d .status) ++ bytesOf MostFirst 1 (d .control .0) =
@@ -41,9 +60,4 @@ answer-filled xs d l h i =
     ∙ ap (λ (ys : List ℕ). bytesOf MostFirst 4 (d .source) ++ bytesOf MostFirst 4 (d .destination) ++ bytesOf MostFirst 4 (d .next) ++ ys)
     (ap (λ (ys : List ℕ). ys ++ bytesOf MostFirst 2 (d .status * 256 + d .control .0)) counts
     ∙ ap (λ (ys : List ℕ). bytesOf MostFirst 2 (d .length) ++ bytesOf MostFirst 2 (d .actual) ++ ys) last)
-
--- a run's report, from its reason and its four counts
-pub report-filled : (xs : List ℕ) (reason steps took made used : ℕ) → length xs ≡ 18
-    → putAt (putAt xs 0 (bytesOf MostFirst 2 reason)) 2 (wordBytes MostFirst (steps ∷ took ∷ made ∷ used ∷ []))
-    ≡ rowBytes MostFirst (2 ∷ 4 ∷ 4 ∷ 4 ∷ 4 ∷ []) (reason ∷ steps ∷ took ∷ made ∷ used ∷ [])
-report-filled xs reason steps took made used l = filled xs _ _ 2 refl l
+    ∙ sym (is-put (descriptorBytes d) xs l)
