@@ -247,10 +247,11 @@ extern "C" {
  * Descriptors are memory, and the core writes where they say: a byte that lands
  * on the control byte of another descriptor can clear its OWNED_BY_HW, and then
  * it reads as done with no sample behind it. It has no record in the ledger.
- * Firmware that trusts a done mark alone sees to it, before it sets RUN, that
+ * Firmware that trusts a done mark alone sees to it, on a fresh core in mode 2
+ * and before it sets RUN, that
  *   - the descriptors of the chain are multiples of 4, in the window, and apart
  *     from each other, the one that is not owned at the end too;
- *   - PARK and STOP_DMA_ER are 0, in mode 2;
+ *   - PARK and STOP_DMA_ER are 0;
  *   - each destination and the bytes_to_transfer bytes from there on (the one
  *     byte, under WRITE_FIXED_ADDRESS) are in the window and touch none of these
  *     descriptors.
