@@ -36,9 +36,9 @@ unfoldable pub locatedOf : Window → (a n : ℕ) → Located
 locatedOf w a n = cond (inWindow w a n) (located.At (record { 0 = placeOf w a })) located.Outside
 
 -- n bytes at the place stand within so many
-abbrev pub Within : Located → (n length : ℕ) → Type 0
-Within (located.At p) n length = p .0 + n ≤ length
-Within located.Outside n length = Unit {0}
+abbrev pub PlaceWithin : Located → (n length : ℕ) → Type 0
+PlaceWithin (located.At p) n length = p .0 + n ≤ length
+PlaceWithin located.Outside n length = Unit {0}
 
 -- ---- the promises
 
@@ -50,7 +50,7 @@ pub record Checked (base length : ℕ) (r : CheckedWindow) : Type 0 where
 -- Window::locate
 pub record Sought (w : Window) (a n : ℕ) (r : Located) : Type 0 where
   pub answer : r ≡ locatedOf w a n
-  pub within : Within r n (w .length)
+  pub within : PlaceWithin r n (w .length)
 
 pub checked-unique : {base length : ℕ} {r s : CheckedWindow} → Checked base length r → Checked base length s → r ≡ s
 checked-unique p q = p .answer ∙ sym (q .answer)

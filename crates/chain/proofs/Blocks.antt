@@ -46,15 +46,15 @@ apart-sym l x h i a j b e = h j b i a (sym e)
 
 -- ---- while the bytes ss of one descriptor are sent
 
-pub record Kept (w : Window) (before : List ℕ) (ss : List Sent) (m : List ℕ) : Type 0 where
+pub record BlocksKept (w : Window) (before : List ℕ) (ss : List Sent) (m : List ℕ) : Type 0 where
   pub size : length m ≡ length before
   pub frame : (p : ℕ) → OffBytes w ss p → getD m p 0 ≡ getD before p 0
 
-pub kept-none : (w : Window) (m : List ℕ) (ss : List Sent) → Kept w m ss m
+pub kept-none : (w : Window) (m : List ℕ) (ss : List Sent) → BlocksKept w m ss m
 kept-none w m ss = record { size = refl; frame = λ p o. refl }
 
 pub kept-byte : (w : Window) (before : List ℕ) (ss : List Sent) (m : List ℕ) (s : Sent) → Placed w (s .to) 1
-    → ((p : ℕ) → OffBytes w ss p → s .to ≢ w .base + p) → Kept w before ss m → Kept w before ss (set m (placeOf w (s .to)) (s .byte))
+    → ((p : ℕ) → OffBytes w ss p → s .to ≢ w .base + p) → BlocksKept w before ss m → BlocksKept w before ss (set m (placeOf w (s .to)) (s .byte))
 kept-byte w before ss m s h o k =
     record {
       size = length-set m (placeOf w (s .to)) (s .byte) ∙ k .size;
@@ -62,7 +62,7 @@ kept-byte w before ss m s h o k =
           ∙ k .frame p a;
     }
 
-pub kept-block : {w : Window} {before : List ℕ} {ss : List Sent} {m : List ℕ} → Kept w before ss m → (l : Link) → Placed w (l .at) 32
+pub kept-block : {w : Window} {before : List ℕ} {ss : List Sent} {m : List ℕ} → BlocksKept w before ss m → (l : Link) → Placed w (l .at) 32
     → All (λ s. Off l (s .to)) ss → Same w m before l
 kept-block {w = w} {before = before} {ss = ss} {m = m} k l h a =
     part-ext m before (placeOf w (l .at)) 32 (k .size) (λ i g. k .frame (placeOf w (l .at) + i) (off-bytes w l h i g ss a))

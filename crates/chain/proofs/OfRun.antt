@@ -24,7 +24,7 @@ use Rattle.machine.specs.declared.registers.WroteRegister.the-variants as wrote
 use Rattle.machine.specs.declared.RunAnswer.{RunAnswer}
 use Rattle.machine.specs.State.{withPointer, withControl, fresh}
 use Rattle.machine.specs.Saved.{fieldsOf, keeps}
-use Rattle.machine.specs.Registers.{stored, controlWritten, writeOf, WasWritten}
+use Rattle.machine.specs.Registers.{controlStored, controlWritten, writeOf, WasWritten}
 use Rattle.machine.specs.Step.{World}
 use Rattle.machine.specs.Run.{run, even, Lent, Returned, Served, serves, servedOf, worldOf, outputOver, returned, ranAs, runAnswer}
 use Rattle.machine.proofs.Writes.{write-runs}
@@ -87,7 +87,7 @@ module _ (window : Window) (h : keepsLimits (window .base) (window .length) ≡ 
         errors = refl;
         moved = refl;
         eop = refl;
-        rest = refl;
+        zero15 = refl;
         faultat = refl;
       }))
 
@@ -132,7 +132,7 @@ module _ {window : Window} {pointer control : ℕ} {l : Lent} {budget : ℕ} {r 
       limits-kept (fieldsOf (fresh StreamToMemory window))
       (subst (λ (m : Machine). keeps m ≡ true) (c .made .value) (wrote-pointer (c .m0) (c .m1) pointer (c .pointed .answer) .0))
 
-  m2-stored : c .m2 ≡ stored control (withPointer pointer (fresh StreamToMemory window))
+  m2-stored : c .m2 ≡ controlStored control (withPointer pointer (fresh StreamToMemory window))
   m2-stored = m2-is ∙ write-runs control (withPointer pointer (fresh StreamToMemory window)) (and-false (bit 16 control)) (h .run-set)
 
   pub served : servedOf (c .m2) l ≡ serves

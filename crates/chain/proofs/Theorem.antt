@@ -15,7 +15,7 @@ use Rattle.machine.specs.declared.Machine.{Machine}
 use Rattle.machine.specs.declared.Phase.the-variants.{Fetch}
 use Rattle.machine.specs.declared.Reason.the-variants.{Ended, Budget}
 use Rattle.machine.specs.State.{withPointer, withPhase, withBusy, fresh}
-use Rattle.machine.specs.Registers.{stored}
+use Rattle.machine.specs.Registers.{controlStored}
 use Rattle.machine.specs.Step.{World, became, opened}
 use Rattle.machine.specs.Run.{Report, run, takenSince, ranAs}
 use Rattle.machine.specs.Laws.{Along, more}
@@ -28,9 +28,9 @@ use Rattle.chain.proofs.Memory.{Placed, placed, lastAt, lastAt-none, la
 use Rattle.chain.proofs.Links.{chain-is, all-bytes, links-short}
 use Rattle.chain.proofs.Rules.{rest-step}
 use Rattle.chain.proofs.Blocks.{OffFour}
-use Rattle.chain.proofs.Walk.{Ready, Walked, walk}
+use Rattle.chain.proofs.Walk.{AtChain, Walked, walk}
 
--- RUN, STOP_DMA_ER and PARK are stored as written
+-- RUN, STOP_DMA_ER and PARK are controlStored as written
 stored-5 : (c : ℕ) → c % 262144 / 32 % 2 ≡ c / 32 % 2
 stored-5 c = omega arith
 
@@ -56,7 +56,7 @@ length-records (l ∷ ls) bs = ap suc (length-records ls _)
 module _ (g : Given) (h : Premises g) where
   -- the machine after the two writes, and after the step out of Rest
   abbrev m0 : Machine
-  m0 = stored (g .control) (withPointer (g .pointer) (fresh StreamToMemory (g .window)))
+  m0 = controlStored (g .control) (withPointer (g .pointer) (fresh StreamToMemory (g .window)))
 
   abbrev w0 : World
   w0 = opened m0 (g .memory) (g .beats) (g .room) (g .left)
@@ -69,7 +69,7 @@ module _ (g : Given) (h : Premises g) where
       ap (λ (m : Machine). opened m (g .memory) (g .beats) (g .room) (g .left))
       (write-runs (g .control) (withPointer (g .pointer) (fresh StreamToMemory (g .window))) (and-false (bit 16 (g .control))) (h .run-set))
 
-  ready : Ready w1 (links g) (last g)
+  ready : AtChain w1 (links g) (last g)
   ready =
       record {
         fetching = refl;

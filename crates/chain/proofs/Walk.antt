@@ -29,11 +29,11 @@ use Rattle.chain.proofs.Memory.{Placed, placed, part-ext, says-same, la
 use Rattle.chain.proofs.Links.{Chain, chain-same, chain-owned, wants-is, wants-some, wants-short}
 use Rattle.chain.proofs.Rules.{Set, fetchedWorld, fetch-step, end-step, markedWorld, write-step}
 use Rattle.chain.proofs.Moves.{Takes, takes-taken, takes-fit, worked, worked-at, worked-control, worked-moved, worked-errors, worked-eop, deliveredWorld, moves}
-use Rattle.chain.proofs.Blocks.{Same, OffBytes, OffFour, off-four, apart-sym, Kept, kept-none, kept-byte, kept-block, Inv, inv-block, done-by-four, done-stays, waits}
+use Rattle.chain.proofs.Blocks.{Same, OffBytes, OffFour, off-four, apart-sym, BlocksKept, kept-none, kept-byte, kept-block, Inv, inv-block, done-by-four, done-stays, waits}
 
 -- ---- what holds at a Fetch, with the links ls and the last one e ahead
 
-pub record Ready (w : World) (ls : List Link) (e : Link) : Type 0 where
+pub record AtChain (w : World) (ls : List Link) (e : Link) : Type 0 where
   pub fetching : w .machine .phase ≡ Fetch
   pub set : Set (w .machine)
   pub lent : length (w .memory) ≡ w .machine .window .length
@@ -61,7 +61,7 @@ pub record Walked (w : World) (ls : List Link) (e : Link) : Type 0 where
   pub bytes : (p : ℕ) → All (λ (s : Share). OffFour (w .machine .window) p (s .link)) (sharesOf ls (w .input))
       → getD (last .memory) p 0 ≡ lastAt (w .machine .window .base + p) (sentByAll (sharesOf ls (w .input))) (getD (w .memory) p 0)
 
-walk-none : (w : World) (e : Link) → Ready w [] e → Walked w [] e
+walk-none : (w : World) (e : Link) → AtChain w [] e → Walked w [] e
 unfolding step
 walk-none w e r =
     let inv : Inv (w .machine .window) (w .memory) [] (w .memory) =
@@ -84,7 +84,7 @@ walk-none w e r =
 abbrev windowOf : World → Window
 windowOf w = w .machine .window
 
-module _ (w : World) (l : Link) (ls : List Link) (e : Link) (r : Ready w (l ∷ ls) e) where
+module _ (w : World) (l : Link) (ls : List Link) (e : Link) (r : AtChain w (l ∷ ls) e) where
   abbrev t : List ℕ
   t = takes (wants (l .says)) (w .input)
 
@@ -125,23 +125,23 @@ module _ (w : World) (l : Link) (ls : List Link) (e : Link) (r : Ready w (l ∷ 
   bytes-land : All (λ s. inWindow (windowOf w) (s .to) 1 ≡ true) (sentBy share)
   bytes-land = all-left (λ s. inWindow (windowOf w) (s .to) 1 ≡ true) (sentBy share) (sentByAll others) (r .lands)
 
-  sending : Along (λ x. Kept (windowOf w) (w .memory) (sentBy share) (x .memory)) (suc (length t)) w w1
+  sending : Along (λ x. BlocksKept (windowOf w) (w .memory) (sentBy share) (x .memory)) (suc (length t)) w w1
   sending =
       let want : whole (fetchedWorld w l .machine) begins ≡ wants (l .says) =
       ap (λ (x : Mode). asked (modeNumber x) (l .says .length)) (r .set .mode-is) ∙ sym (wants-is (l .says)) in
       more (kept-none _ _ _) (fetch-step w l (r .fetching) (r .set) (r .chain .0) (r .aligned .0) (r .inside .0) (r .chain .1))
-      (moves (Kept (windowOf w) (w .memory) (sentBy share))
+      (moves (BlocksKept (windowOf w) (w .memory) (sentBy share))
       (λ s. (inWindow (windowOf w) (s .to) 1 ≡ true) × ((p : ℕ) → OffBytes (windowOf w) (sentBy share) p → s .to ≢ windowOf w .base + p))
       taking (fetchedWorld w l) begins refl (r .set) refl (omega arith) (λ s q. q .0)
       (λ m s q h. kept-byte (windowOf w) (w .memory) (sentBy share) m s (placed _ _ _ (q .0)) (q .1) h)
       (all-map2 (λ s x y. (x, y)) (sentBy share) bytes-land (all-each (λ (p : ℕ) (s : Sent). s .to ≢ windowOf w .base + p) (sentBy share)))
       (kept-none _ _ _))
 
-  kept : Kept (windowOf w) (w .memory) (sentBy share) (w1 .memory)
+  kept : BlocksKept (windowOf w) (w .memory) (sentBy share) (w1 .memory)
   kept = along-last sending
 
   -- while its bytes are sent, none is done
-  none-done : (m : List ℕ) → Kept (windowOf w) (w .memory) (sentBy share) m → Inv (windowOf w) (w .memory) (share ∷ others) m
+  none-done : (m : List ℕ) → BlocksKept (windowOf w) (w .memory) (sentBy share) m → Inv (windowOf w) (w .memory) (share ∷ others) m
   none-done m h =
       let held : All (Same (windowOf w) m (w .memory)) (l ∷ ls ++ e ∷ []) =
       all-map2 (λ x i o. kept-block h x i o) (l ∷ ls ++ e ∷ []) all-stand bytes-off in
@@ -217,7 +217,7 @@ module _ (w : World) (l : Link) (ls : List Link) (e : Link) (r : Ready w (l ∷ 
       all-map (λ s a. a .0) (sentByAll others)
       (all-right (λ s. All (λ x. Off x (s .to)) (l ∷ ls ++ e ∷ [])) (sentBy share) (sentByAll others) (r .outside))
 
-  ready : Ready w2 ls e
+  ready : AtChain w2 ls e
   ready =
       record {
         fetching = refl;
@@ -285,6 +285,6 @@ module _ (w : World) (l : Link) (ls : List Link) (e : Link) (r : Ready w (l ∷ 
             ∙ sym (lastAt-append (windowOf w .base + p) (sentBy share) (sentByAll others) _);
       }
 
-pub walk : (ls : List Link) (w : World) (e : Link) → Ready w ls e → Walked w ls e
+pub walk : (ls : List Link) (w : World) (e : Link) → AtChain w ls e → Walked w ls e
 walk [] w e r = walk-none w e r
 walk (l ∷ ls) w e r = walk-more w l ls e r (walk ls (w2 w l ls e r) e (ready w l ls e r))

@@ -21,7 +21,7 @@ use Rattle.machine.specs.declared.registers.WroteRegister.{WroteRegister}
 use Rattle.machine.specs.declared.registers.WroteRegister.the-variants as wrote
 use Rattle.machine.specs.State.{withPointer, fresh}
 use Rattle.machine.specs.Saved.{fieldsOf, loadOf}
-use Rattle.machine.specs.Registers.{controlWritten, writeOf, wroteNumber}
+use Rattle.machine.specs.Registers.{controlWritten, writeOf, registerWroteNumber}
 use Rattle.machine.specs.Run.{Served, run, reasonNumber, servedOf, worldOf, ranAs, runAnswer, runNumber, HasRun}
 use Rattle.machine.proofs.Answers.{was-written, run-number}
 use Rattle.met.specs.Met.{Met}
@@ -55,7 +55,7 @@ pub written-over : {xs ys : List ℕ} {m n : Machine} {offset v r : ℕ}
     → loadOf xs ≡ Good m → writeOf m offset v ≡ wrote.Done n → RegisterWritten xs offset v r ys → (r ≡ 0) × (ys ≡ imageOf n)
 written-over {xs} {ys} {m} {n} {offset} {v} e d w =
     let a : writtenIn (loadOf xs) offset v ≡ wrote.Done n = ap (λ (x : LoadedMachine). writtenIn x offset v) e ∙ d in
-    (w .number ∙ ap wroteNumber a, w .image-after ∙ ap (λ (x : WroteRegister). writtenOver x xs) a)
+    (w .number ∙ ap registerWroteNumber a, w .image-after ∙ ap (λ (x : WroteRegister). writtenOver x xs) a)
 
 -- a run over an image that loads is the machine's run
 module _ (x : RunLent) {m : Machine} (size : length (x .image) ≡ 44) (report-size : length (x .report) ≡ 18) (e : loadOf (x .image) ≡ Good m) where

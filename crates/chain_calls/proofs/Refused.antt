@@ -11,7 +11,7 @@ use Rattle.bus.specs.declared.Refusal.{Refusal}
 use Rattle.bus.specs.declared.Refusal.the-variants.{OtherWindow, BadSize, BadImage, OddStream, BadLedger}
 use Rattle.bus.specs.Refusal.{refusalNumber}
 use Rattle.bus.specs.Window.{keepsLimits, inWindow}
-use Rattle.descriptor.specs.Calls.{slotOf, slotNumber, readNumber as descriptorNumber}
+use Rattle.descriptor.specs.Calls.{slotOf, slotNumber, descriptorNumber}
 use Rattle.descriptor.proofs.Slots.{by-tests, built-number, found-number}
 use Rattle.regs.specs.Offsets.{isRegister}
 use Rattle.image.specs.declared.ReadImage.the-variants as read
@@ -24,7 +24,7 @@ use Rattle.machine.specs.declared.Machine.{Machine}
 use Rattle.machine.specs.declared.LoadedMachine.{LoadedMachine}
 use Rattle.machine.specs.declared.LoadedMachine.the-variants as loaded
 use Rattle.machine.specs.Saved.{keeps, machineOf, loadedAs, loadOf}
-use Rattle.machine.specs.Registers.{readOf, writeOf, readNumber, wroteNumber, lineNumber}
+use Rattle.machine.specs.Registers.{readingOf, writeOf, registerReadNumber, registerWroteNumber, lineNumber}
 use Rattle.ledger.specs.Records.{isLedger}
 use Rattle.machine.specs.Run.{serves, refused, even, servedOf, runNumber, servedNumber}
 use Rattle.machine.proofs.Answers.{was-loaded, was-register, was-written, was-line, run-number}
@@ -86,11 +86,11 @@ module _ (xs : List ℕ) where
 
 module _ (xs : List ℕ) (offset : ℕ) where
   read-known : sized xs ≡ true → keepsRules (fields xs) ≡ true
-      → readNumber (readOf (machine xs) offset) ≡ cond (not (isRegister offset)) 1 0
+      → registerReadNumber (readingOf (machine xs) offset) ≡ cond (not (isRegister offset)) 1 0
   read-known s k = was-register refl .number ∙ rw (keeps-loaded xs s k) (unless (isRegister offset) 1 refl)
 
   written-known : (v : ℕ) → sized xs ≡ true → keepsRules (fields xs) ≡ true
-      → wroteNumber (writeOf (machine xs) offset v) ≡ cond (not (isRegister offset)) 1 0
+      → registerWroteNumber (writeOf (machine xs) offset v) ≡ cond (not (isRegister offset)) 1 0
   written-known v s k = was-written refl .number ∙ rw (keeps-loaded xs s k) (unless (isRegister offset) 1 refl)
 
 pub create-in-order : CreateInOrder
@@ -101,15 +101,15 @@ pub read-in-order : ReadInOrder
 unfolding readCall
 read-in-order xs offset value r value' p =
     record {
-      number = p .number ∙ chosen readNumber (sized xs && isSize 4 value) _ _
-          ∙ opened-with xs (λ l. readNumber (registerOf l offset)) (λ why. refl) (isSize 4 value) (read-known xs offset);
+      number = p .number ∙ chosen registerReadNumber (sized xs && isSize 4 value) _ _
+          ∙ opened-with xs (λ l. registerReadNumber (registerOf l offset)) (λ why. refl) (isSize 4 value) (read-known xs offset);
       in-order = refl;
     }
 
 pub write-in-order : WriteInOrder
 write-in-order xs offset v r xs' p =
     record {
-      number = p .number ∙ opened xs (λ l. wroteNumber (writtenIn l offset v)) (λ why. refl)
+      number = p .number ∙ opened xs (λ l. registerWroteNumber (writtenIn l offset v)) (λ why. refl)
           ∙ if-so (sized xs) 7 (λ s. if-so (keepsRules (fields xs)) 8 (λ k. written-known xs offset v s k));
       in-order = refl;
     }

@@ -11,7 +11,7 @@ use borrow.Author.Tests.{ne-eqb}
 use Rattle.bus.specs.declared.Refusal.the-variants.{BadSize}
 use Rattle.descriptor.specs.declared.ReadDescriptor.{ReadDescriptor}
 use Rattle.descriptor.specs.declared.ReadDescriptor.the-variants as descriptor
-use Rattle.descriptor.specs.Calls.{slotOf, readNumber as descriptorNumber}
+use Rattle.descriptor.specs.Calls.{slotOf, descriptorNumber}
 use Rattle.descriptor.proofs.Slots.{build-stays}
 use Rattle.regs.specs.declared.ReadRegister.{ReadRegister}
 use Rattle.regs.specs.declared.ReadRegister.the-variants as register
@@ -26,7 +26,7 @@ use Rattle.machine.specs.declared.RunAnswer.{RunAnswer}
 use Rattle.machine.specs.declared.RunAnswer.the-variants as ran
 use Rattle.machine.specs.Saved.{loadOf}
 use Rattle.machine.specs.Step.{World}
-use Rattle.machine.specs.Registers.{readNumber, wroteNumber, lineNumber}
+use Rattle.machine.specs.Registers.{registerReadNumber, registerWroteNumber, lineNumber}
 use Rattle.machine.specs.Run.{Lent, asLent, Served, serves, refused, servedOf, worldOf, returned, runAnswer, runNumber}
 use Rattle.sgdma.specs.Calls.{createNumber, readCall, valueOver, writtenIn, writtenOver, lineCall, lineOver, isSize, runIn, runCall, ranOver, reportOver, returnedIn, descriptorCall, answerOver}
 use Rattle.chain_calls.specs.Theorems.{CreateUnchanged, ReadUnchanged, WriteUnchanged, LineUnchanged, RunUnchanged, BuildUnchanged, DescriptorUnchanged}
@@ -37,11 +37,11 @@ answer-refused e h z = h (e ∙ z)
 
 -- ---- what each answer leaves, where its number is not 0
 
-read-stays : (a : ReadRegister) (value : List ℕ) → readNumber a ≢ 0 → valueOver a value ≡ value
+read-stays : (a : ReadRegister) (value : List ℕ) → registerReadNumber a ≢ 0 → valueOver a value ≡ value
 read-stays (register.Value v) value h = absurd (h refl)
 read-stays (register.Refused why) value h = refl
 
-write-stays : (a : WroteRegister) (xs : List ℕ) → wroteNumber a ≢ 0 → writtenOver a xs ≡ xs
+write-stays : (a : WroteRegister) (xs : List ℕ) → registerWroteNumber a ≢ 0 → writtenOver a xs ≡ xs
 write-stays (wrote.Done m) xs h = absurd (h refl)
 write-stays (wrote.Refused why) xs h = refl
 

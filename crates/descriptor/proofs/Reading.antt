@@ -13,12 +13,12 @@ use Rattle.words.specs.Slices.{part, numberAt}
 use Rattle.words.proofs.Slices.{row-from, number-in-part, byte-in-part}
 use Rattle.descriptor.specs.declared.ReadDescriptor.{ReadDescriptor}
 use Rattle.descriptor.specs.Layout.{widths, named, descriptorOf, descriptorAt}
-use Rattle.descriptor.specs.Calls.{slotOf, found, readNumber, WasRead}
+use Rattle.descriptor.specs.Calls.{slotOf, found, descriptorNumber, DescriptorWasRead}
 use Rattle.descriptor.specs.Theorems.{ByOffset}
 use Rattle.descriptor.proofs.Slots.{found-number}
 
-pub was-read : {xs : List ℕ} {base a : ℕ} {r : ReadDescriptor} → r ≡ found xs (slotOf (length xs) base a) → WasRead xs base a r
-was-read {xs} {base} {a} e = record { answer = e; number = ap readNumber e ∙ found-number xs (slotOf (length xs) base a) }
+pub was-read : {xs : List ℕ} {base a : ℕ} {r : ReadDescriptor} → r ≡ found xs (slotOf (length xs) base a) → DescriptorWasRead xs base a r
+was-read {xs} {base} {a} e = record { answer = e; number = ap descriptorNumber e ∙ found-number xs (slotOf (length xs) base a) }
 
 -- each named field by its offset
 pub by-offset : ByOffset

@@ -21,7 +21,7 @@ use Rattle.bus.proofs.Limits.{checked-is, located-is}
 use Rattle.descriptor.specs.declared.Slot.{Slot}
 use Rattle.descriptor.specs.declared.Slot.the-variants.{At, Refused}
 use Rattle.descriptor.specs.declared.Job.{Job}
-use Rattle.descriptor.specs.Calls.{placed, slotIn, slotOf, slotNumber, found, readNumber, built, builtNumber, withJob, Slotted}
+use Rattle.descriptor.specs.Calls.{placed, slotIn, slotOf, slotNumber, found, descriptorNumber, built, builtNumber, withJob, Slotted}
 
 module _ (length base a : ℕ) where
   pub no-window : (why : Refusal) → checkedOf base length ≡ checked.Refused why → Slotted length base a (Refused why)
@@ -87,7 +87,7 @@ pub built-number : (s : Slot) → builtNumber (built s) ≡ slotNumber s
 built-number (At p) = refl
 built-number (Refused why) = refl
 
-pub found-number : (xs : List ℕ) (s : Slot) → readNumber (found xs s) ≡ slotNumber s
+pub found-number : (xs : List ℕ) (s : Slot) → descriptorNumber (found xs s) ≡ slotNumber s
 found-number xs (At p) = refl
 found-number xs (Refused why) = refl
 

@@ -57,16 +57,16 @@ abbrev pub found : List ℕ → Slot → ReadDescriptor
 found xs (At p) = read.Good (descriptorAt xs (p .0))
 found xs (Refused why) = read.Refused why
 
-abbrev pub readNumber : ReadDescriptor → ℕ
-readNumber (read.Good d) = 0
-readNumber (read.Refused why) = refusalNumber why
+abbrev pub descriptorNumber : ReadDescriptor → ℕ
+descriptorNumber (read.Good d) = 0
+descriptorNumber (read.Refused why) = refusalNumber why
 
-pub record WasRead (xs : List ℕ) (base a : ℕ) (r : ReadDescriptor) : Type 0 where
+pub record DescriptorWasRead (xs : List ℕ) (base a : ℕ) (r : ReadDescriptor) : Type 0 where
   pub answer : r ≡ found xs (slotOf (length xs) base a)
-  pub number : readNumber r ≡ slotNumber (slotOf (length xs) base a)
+  pub number : descriptorNumber r ≡ slotNumber (slotOf (length xs) base a)
 
-pub read-unique : {xs : List ℕ} {base a : ℕ} {r s : ReadDescriptor} → WasRead xs base a r → WasRead xs base a s → r ≡ s
-read-unique p q = p .answer ∙ sym (q .answer)
+pub reader-unique : {xs : List ℕ} {base a : ℕ} {r s : ReadDescriptor} → DescriptorWasRead xs base a r → DescriptorWasRead xs base a s → r ≡ s
+reader-unique p q = p .answer ∙ sym (q .answer)
 
 -- ---- the builder
 

@@ -14,7 +14,7 @@ use Rattle.descriptor.specs.declared.ReadDescriptor.{ReadDescriptor}
 use Rattle.descriptor.specs.declared.ReadDescriptor.the-variants.{Good}
 use Rattle.descriptor.specs.declared.BuiltDescriptor.the-variants.{Done}
 use Rattle.descriptor.specs.Layout.{bytesFor, descriptorOf}
-use Rattle.descriptor.specs.Calls.{WasRead, WasBuilt}
+use Rattle.descriptor.specs.Calls.{DescriptorWasRead, WasBuilt}
 use Rattle.descriptor.specs.RoundTrip.{Typed, asBuilt, jobOf, OthersZero}
 
 -- Each named field stands at its offset.
@@ -37,10 +37,10 @@ LengthJob = (j : Job) → length (bytesFor j) ≡ 32
 -- Read after build gives the same fields.
 abbrev pub ReadAfterBuild : Type 0
 ReadAfterBuild = (xs ys : List ℕ) (base a : ℕ) (j : Job) (r : ReadDescriptor)
-    → Typed j → WasBuilt xs base a j Done ys → WasRead ys base a r → r ≡ Good (asBuilt j)
+    → Typed j → WasBuilt xs base a j Done ys → DescriptorWasRead ys base a r → r ≡ Good (asBuilt j)
 
 -- Build after read gives the same bytes exactly when reserved, actual and status bytes were zero.
 abbrev pub BuildAfterRead : Type 0
 BuildAfterRead = (xs ys : List ℕ) (base a : ℕ) (d : Descriptor)
-    → AllBytes xs → WasRead xs base a (Good d) → WasBuilt xs base a (jobOf d) Done ys
+    → AllBytes xs → DescriptorWasRead xs base a (Good d) → WasBuilt xs base a (jobOf d) Done ys
     → (ys ≡ xs) ↔ OthersZero (part xs (a - base) 32)

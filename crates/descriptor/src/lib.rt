@@ -7,7 +7,7 @@ ghost use Rattle.words.specs.Bits.{hasBit};
 ghost use Rattle.words.specs.Promise.{Gives, Leaves};
 ghost use Rattle.words.specs.Slices.{part, putAt};
 ghost use Rattle.descriptor.specs.Layout.{bytesFor, descriptorOf, descriptorAt, lastFour};
-ghost use Rattle.descriptor.specs.Calls.{Slotted, WasRead, WasBuilt};
+ghost use Rattle.descriptor.specs.Calls.{Slotted, DescriptorWasRead, WasBuilt};
 use bus::BusAddress;
 use bus::CheckedWindow;
 use bus::Located;
@@ -136,7 +136,7 @@ pub enum ReadDescriptor {
 
 // The descriptor at an address of a lent window at `base`.
 pub fn read(window: &[u8], base: u64, address: BusAddress) -> ReadDescriptor
-    ensures { λ r. ⌜ WasRead (now (window .entry)) base (address .0) r ⌝ }
+    ensures { λ r. ⌜ DescriptorWasRead (now (window .entry)) base (address .0) r ⌝ }
 {
     let slot = slot_of(window.len(), base, address);
     match slot {

@@ -17,9 +17,9 @@ use Rattle.image.specs.declared.WroteImage.{WroteImage}
 use Rattle.image.specs.declared.WroteImage.the-variants as wrote
 use Rattle.image.specs.Layout.{values, widths, image, fields, Typed}
 use Rattle.image.specs.Rules.{lowestBroken, keepsRules}
-use Rattle.image.specs.Promise.{sized, readOf, wroteOf, imageOver, fits, putOf, imagePut, readNumber, wroteNumber, imageNumber, WasRead, Wrote, WasPut}
+use Rattle.image.specs.Promise.{sized, readOf, wroteOf, imageOver, fits, imagePutOf, imagePut, imageReadNumber, imageWroteNumber, imageNumber, ImageWasRead, Wrote, ImageWasPut}
 use Rattle.image.specs.Theorems.{ReadExactly}
-use Rattle.image.proofs.Facts.{edition-is, mode-le, phase-le, fault-le, rest-is}
+use Rattle.image.proofs.Facts.{edition-is, mode-le, phase-le, fault-le, zero15-is}
 use Rattle.image.proofs.RoundTrip.{length-image, fields-image, image-fields, fields-fit}
 use Rattle.image.proofs.Fitting.{keeps-fit, fit-typed}
 
@@ -33,11 +33,11 @@ kept-none f e = eqb-true _ _ e
 
 -- ---- reading
 
-pub was-read : {xs : List ℕ} {r : ReadImage} → r ≡ readOf xs → WasRead xs r
+pub was-read : {xs : List ℕ} {r : ReadImage} → r ≡ readOf xs → ImageWasRead xs r
 unfolding readOf
-was-read {xs} e = record { answer = e; number = ap readNumber e ∙ number (sized xs) (keepsRules (fields xs)) }
+was-read {xs} e = record { answer = e; number = ap imageReadNumber e ∙ number (sized xs) (keepsRules (fields xs)) }
   where
-    number : (t k : Bool) → readNumber (cond t (cond k (read.Good (fields xs)) (read.Refused BadImage)) (read.Refused BadSize)) ≡ imageNumber t k
+    number : (t k : Bool) → imageReadNumber (cond t (cond k (read.Good (fields xs)) (read.Refused BadImage)) (read.Refused BadSize)) ≡ imageNumber t k
     number true true = refl
     number true false = refl
     number false k = refl
@@ -103,14 +103,14 @@ read-exactly xs f g t = (there, back)
 
 -- ---- writing
 
-answer-number : (t k : Bool) → wroteNumber (cond t (cond k wrote.Done (wrote.Refused BadImage)) (wrote.Refused BadSize)) ≡ imageNumber t k
+answer-number : (t k : Bool) → imageWroteNumber (cond t (cond k wrote.Done (wrote.Refused BadImage)) (wrote.Refused BadSize)) ≡ imageNumber t k
 answer-number true true = refl
 answer-number true false = refl
 answer-number false k = refl
 
 pub was-wrote : {f : Fields} {xs ys : List ℕ} {r : WroteImage} → r ≡ wroteOf f xs → ys ≡ imageOver f xs → Wrote f xs r ys
 unfolding wroteOf
-was-wrote {f} {xs} e h = record { answer = e; number = ap wroteNumber e ∙ answer-number (sized xs) (keepsRules f); lent = h }
+was-wrote {f} {xs} e h = record { answer = e; number = ap imageWroteNumber e ∙ answer-number (sized xs) (keepsRules f); lent = h }
 
 module _ (f : Fields) (xs : List ℕ) where
   pub wrote-size : (length xs ≡ 44 → ⊥) → Wrote f xs (wrote.Refused BadSize) xs
@@ -135,20 +135,20 @@ keeps-fits f e = rw (
   lt-ltb (f .mode) 4 (let h = mode-le f e in omega arith),
   lt-ltb (f .phase) 8 (let h = phase-le f e in omega arith),
   lt-ltb (f .fault) 32 (let h = fault-le f e in omega arith),
-  rest-is f e,
+  zero15-is f e,
 )
 
-was-put : {f : Fields} {xs ys : List ℕ} {r : WroteImage} → r ≡ putOf f xs → ys ≡ imagePut f xs → WasPut f xs r ys
-unfolding putOf
-was-put {f} {xs} e h = record { answer = e; number = ap wroteNumber e ∙ answer-number (sized xs) (fits f); lent = h }
+was-put : {f : Fields} {xs ys : List ℕ} {r : WroteImage} → r ≡ imagePutOf f xs → ys ≡ imagePut f xs → ImageWasPut f xs r ys
+unfolding imagePutOf
+was-put {f} {xs} e h = record { answer = e; number = ap imageWroteNumber e ∙ answer-number (sized xs) (fits f); lent = h }
 
 module _ (f : Fields) (xs : List ℕ) where
-  pub put-size : (length xs ≡ 44 → ⊥) → WasPut f xs (wrote.Refused BadSize) xs
-  unfolding putOf imagePut
+  pub put-size : (length xs ≡ 44 → ⊥) → ImageWasPut f xs (wrote.Refused BadSize) xs
+  unfolding imagePutOf imagePut
   put-size h = was-put (rw (ne-eqb (length xs) 44 h)) (rw (ne-eqb (length xs) 44 h))
 
-  pub put-wide : length xs ≡ 44 → fits f ≡ false → WasPut f xs (wrote.Refused BadImage) xs
-  unfolding putOf imagePut
+  pub put-wide : length xs ≡ 44 → fits f ≡ false → ImageWasPut f xs (wrote.Refused BadImage) xs
+  unfolding imagePutOf imagePut
   put-wide l h = was-put (rw (eq-eqb (length xs) 44 l, h)) (rw (eq-eqb (length xs) 44 l, h))
 
   module _ (l : length xs ≡ 44) (h : fits f ≡ true) where
@@ -156,8 +156,8 @@ module _ (f : Fields) (xs : List ℕ) where
     unfolding imagePut
     put-fits = rw (eq-eqb (length xs) 44 l, h)
 
-    pub put-done : (ys : List ℕ) → ys ≡ image f → WasPut f xs wrote.Done ys
-    unfolding putOf
+    pub put-done : (ys : List ℕ) → ys ≡ image f → ImageWasPut f xs wrote.Done ys
+    unfolding imagePutOf
     put-done ys e = was-put (rw (eq-eqb (length xs) 44 l, h)) (e ∙ sym put-fits)
 
 -- what a done answer tells

@@ -9,7 +9,7 @@ use lib.ListN.{getD}
 use lib.Dec.{eqb}
 use Rattle.bus.specs.Window.{keepsLimits}
 use Rattle.image.specs.declared.Fields.{Fields}
-use Rattle.image.specs.Rules.{_outside_, zeroOutside, inFaulted, inHand, editionKept, modeKept, phaseKept, faultKept, statusKept, countKept, controlKept, addressKept, sizeKept, dcontrolKept, errorsKept, asked, movedKept, eopKept, rules, firstFalse, lowestBroken}
+use Rattle.image.specs.Rules.{_outside_, zeroOutside, inFaulted, working, editionKept, modeKept, phaseKept, faultKept, statusKept, countKept, controlKept, addressKept, sizeKept, dcontrolKept, errorsKept, asked, movedKept, eopKept, rules, firstFalse, lowestBroken}
 
 -- where no test fails, each holds
 each : (k : ℕ) (bs : List Bool) → firstFalse (suc k) bs ≡ 0 → (i : ℕ) → getD bs i true ≡ true
@@ -45,15 +45,15 @@ pub record Each (f : Fields) : Type 0 where
   pub count : countKept (f .count) ≡ true
   pub control : controlKept (f .phase) (f .armed) (f .control) ≡ true
   pub window : keepsLimits (f .base) (f .window) ≡ true
-  pub address : addressKept (inHand (f .phase)) (f .base) (f .window) (f .address) ≡ true
-  pub source : zeroOutside (inHand (f .phase)) (f .source) ≡ true
-  pub destination : zeroOutside (inHand (f .phase)) (f .destination) ≡ true
-  pub size : sizeKept (f .mode) (inHand (f .phase)) (f .size) ≡ true
-  pub dcontrol : dcontrolKept (inHand (f .phase)) (f .dcontrol) ≡ true
-  pub errors : errorsKept (f .mode) (inHand (f .phase)) (f .errors) ≡ true
+  pub address : addressKept (working (f .phase)) (f .base) (f .window) (f .address) ≡ true
+  pub source : zeroOutside (working (f .phase)) (f .source) ≡ true
+  pub destination : zeroOutside (working (f .phase)) (f .destination) ≡ true
+  pub size : sizeKept (f .mode) (working (f .phase)) (f .size) ≡ true
+  pub dcontrol : dcontrolKept (working (f .phase)) (f .dcontrol) ≡ true
+  pub errors : errorsKept (f .mode) (working (f .phase)) (f .errors) ≡ true
   pub moved : movedKept (f .phase) (asked (f .mode) (f .size)) (f .errors) (f .moved) ≡ true
   pub eop : eopKept (f .mode) (f .phase) (asked (f .mode) (f .size)) (f .moved) (f .eop) ≡ true
-  pub rest : eqb (f .rest) 0 ≡ true
+  pub zero15 : eqb (f .zero15) 0 ≡ true
   pub faultat : (eqb (f .faultat) 0 outside inFaulted (f .phase)) ≡ true
 
 pub each-rule : (f : Fields) → lowestBroken f ≡ 0 → Each f
@@ -76,7 +76,7 @@ each-rule f e =
       errors = rule f e 18;
       moved = rule f e 19;
       eop = rule f e 20;
-      rest = rule f e 21;
+      zero15 = rule f e 21;
       faultat = rule f e 22;
     }
 
@@ -99,6 +99,6 @@ each-keeps f k = rw (
   k .errors,
   k .moved,
   k .eop,
-  k .rest,
+  k .zero15,
   k .faultat,
 )

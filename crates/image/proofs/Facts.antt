@@ -9,7 +9,7 @@ use borrow.Author.Tests.{leb-true, ltb-true, eqb-true, eqb-false, eq-eqb, ne-eqb
 use Rattle.bus.specs.Window.{keepsLimits, inWindow}
 use Rattle.descriptor.specs.Layout.{owned}
 use Rattle.image.specs.declared.Fields.{Fields}
-use Rattle.image.specs.Rules.{_⇒_, _exactly_, _outside_, either, between, zeroFrom, zeroOutside, inMove, inWriteBack, inEnded, inHalted, inFaulted, inHand, error, eopEncountered, busy, run, swReset, faultCode, asked, movedKept, eopKept, lowestBroken}
+use Rattle.image.specs.Rules.{_⇒_, _exactly_, _outside_, either, between, zeroFrom, zeroOutside, inMove, inWriteBack, inEnded, inHalted, inFaulted, working, error, eopEncountered, busy, run, swReset, faultCode, asked, movedKept, eopKept, lowestBroken}
 use Rattle.image.proofs.Tests.{and-left, and-right, second, three, four, both, then, else, exactly-same}
 use Rattle.image.proofs.EachRule.{each-rule}
 
@@ -32,13 +32,13 @@ limits base window e = (
 )
 
 moved-parts : (f : Fields) → movedKept (f .phase) (asked (f .mode) (f .size)) (f .errors) (f .moved) ≡ true
-    → (zeroOutside (inHand (f .phase)) (f .moved) ≡ true)
+    → (zeroOutside (working (f .phase)) (f .moved) ≡ true)
     × ((inMove (f .phase) ⇒ ltb (f .moved) (asked (f .mode) (f .size)) && (eqb (f .moved) 0 ⇒ eqb (f .errors) 0)) ≡ true)
     × ((inWriteBack (f .phase) ⇒ between 1 (asked (f .mode) (f .size)) (f .moved)) ≡ true)
 moved-parts f e = three _ _ _ e
 
 eop-parts : (f : Fields) → eopKept (f .mode) (f .phase) (asked (f .mode) (f .size)) (f .moved) (f .eop) ≡ true
-    → ((inHand (f .phase) || not (f .eop)) ≡ true)
+    → ((working (f .phase) || not (f .eop)) ≡ true)
     × ((either 0 1 (f .mode) ⇒ not (f .eop)) ≡ true)
     × ((inMove (f .phase) ⇒ not (f .eop)) ≡ true)
     × ((inWriteBack (f .phase) ⇒ eqb (f .moved) (asked (f .mode) (f .size)) || f .eop) ≡ true)
@@ -103,41 +103,41 @@ module _ (f : Fields) (e : lowestBroken f ≡ 0) where
   end-le = limits (f .base) (f .window) (each-rule f e .window) .2
 
   pub errors-lt : f .errors < 128
-  errors-lt = ltb-true _ _ (and-right (zeroOutside (inHand (f .phase)) (f .errors) && (either 0 1 (f .mode) ⇒ eqb (f .errors) 0)) _ (each-rule f e .errors))
+  errors-lt = ltb-true _ _ (and-right (zeroOutside (working (f .phase)) (f .errors) && (either 0 1 (f .mode) ⇒ eqb (f .errors) 0)) _ (each-rule f e .errors))
 
-  pub rest-is : f .rest ≡ 0
-  rest-is = eqb-true _ _ (each-rule f e .rest)
+  pub zero15-is : f .zero15 ≡ 0
+  zero15-is = eqb-true _ _ (each-rule f e .zero15)
 
   -- descriptor fields zero outside Move and WriteBack
-  module _ (h : inHand (f .phase) ≡ false) where
+  module _ (h : working (f .phase) ≡ false) where
     pub no-address : f .address ≡ 0
-    no-address = zero-there (inHand (f .phase)) _ (and-left _ _ (each-rule f e .address)) h
+    no-address = zero-there (working (f .phase)) _ (and-left _ _ (each-rule f e .address)) h
 
     pub no-source : f .source ≡ 0
-    no-source = zero-there (inHand (f .phase)) _ (each-rule f e .source) h
+    no-source = zero-there (working (f .phase)) _ (each-rule f e .source) h
 
     pub no-destination : f .destination ≡ 0
-    no-destination = zero-there (inHand (f .phase)) _ (each-rule f e .destination) h
+    no-destination = zero-there (working (f .phase)) _ (each-rule f e .destination) h
 
     pub no-size : f .size ≡ 0
-    no-size = zero-there (inHand (f .phase)) _ (and-left _ _ (each-rule f e .size)) h
+    no-size = zero-there (working (f .phase)) _ (and-left _ _ (each-rule f e .size)) h
 
     pub no-dcontrol : f .dcontrol ≡ 0
-    no-dcontrol = zero-there (inHand (f .phase)) _ (and-left _ _ (each-rule f e .dcontrol)) h
+    no-dcontrol = zero-there (working (f .phase)) _ (and-left _ _ (each-rule f e .dcontrol)) h
 
     pub no-errors : f .errors ≡ 0
-    no-errors = zero-there (inHand (f .phase)) _ (and-left _ _ (and-left _ _ (each-rule f e .errors))) h
+    no-errors = zero-there (working (f .phase)) _ (and-left _ _ (and-left _ _ (each-rule f e .errors))) h
 
     pub no-moved : f .moved ≡ 0
-    no-moved = zero-there (inHand (f .phase)) _ (and-left _ _ (and-left _ _ (each-rule f e .moved))) h
+    no-moved = zero-there (working (f .phase)) _ (and-left _ _ (and-left _ _ (each-rule f e .moved))) h
 
     pub no-eop : f .eop ≡ false
-    no-eop = not-true _ (else (inHand (f .phase)) _ (and-left _ _ (and-left _ _ (and-left _ _ (each-rule f e .eop)))) h)
+    no-eop = not-true _ (else (working (f .phase)) _ (and-left _ _ (and-left _ _ (and-left _ _ (each-rule f e .eop)))) h)
 
   -- there: address aligned and in the window, control bit 7 set
-  module _ (h : inHand (f .phase) ≡ true) where
+  module _ (h : working (f .phase) ≡ true) where
     placed : (eqb (f .address % 4) 0 && inWindow (record { base = f .base; length = f .window }) (f .address) 32) ≡ true
-    placed = then _ _ (and-right (zeroOutside (inHand (f .phase)) (f .address)) _ (each-rule f e .address)) h
+    placed = then _ _ (and-right (zeroOutside (working (f .phase)) (f .address)) _ (each-rule f e .address)) h
 
     pub address-aligned : f .address % 4 ≡ 0
     address-aligned = eqb-true _ _ (and-left _ _ placed)
@@ -146,16 +146,16 @@ module _ (f : Fields) (e : lowestBroken f ≡ 0) where
     address-inside = and-right (eqb (f .address % 4) 0) _ placed
 
     pub dcontrol-owned : owned (f .dcontrol) ≡ true
-    dcontrol-owned = then _ _ (and-right (zeroOutside (inHand (f .phase)) (f .dcontrol)) _ (each-rule f e .dcontrol)) h
+    dcontrol-owned = then _ _ (and-right (zeroOutside (working (f .phase)) (f .dcontrol)) _ (each-rule f e .dcontrol)) h
 
   -- in modes 0 and 1 length not 0, errors and EOP seen 0
   module _ (h : either 0 1 (f .mode) ≡ true) where
-    pub memory-size : inHand (f .phase) ≡ true → f .size ≡ 0 → ⊥
+    pub memory-size : working (f .phase) ≡ true → f .size ≡ 0 → ⊥
     memory-size i z =
-        eqb-false _ _ (not-true _ (then _ _ (and-right (zeroOutside (inHand (f .phase)) (f .size)) _ (each-rule f e .size)) (both i h))) z
+        eqb-false _ _ (not-true _ (then _ _ (and-right (zeroOutside (working (f .phase)) (f .size)) _ (each-rule f e .size)) (both i h))) z
 
     pub memory-errors : f .errors ≡ 0
-    memory-errors = eqb-true _ _ (then _ _ (second (zeroOutside (inHand (f .phase)) (f .errors)) _ (zeroFrom 7 (f .errors)) (each-rule f e .errors)) h)
+    memory-errors = eqb-true _ _ (then _ _ (second (zeroOutside (working (f .phase)) (f .errors)) _ (zeroFrom 7 (f .errors)) (each-rule f e .errors)) h)
 
     pub memory-eop : f .eop ≡ false
     memory-eop = not-true _ (then _ _ (eop-parts f (each-rule f e .eop) .1) h)

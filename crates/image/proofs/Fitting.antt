@@ -13,7 +13,7 @@ use Rattle.image.specs.Layout.{values, widths, Typed}
 use Rattle.image.specs.Rules.{zeroFrom, lowestBroken}
 use Rattle.image.specs.Promise.{fits}
 use Rattle.image.proofs.Tests.{and-left, and-right}
-use Rattle.image.proofs.Facts.{edition-is, mode-le, phase-le, fault-le, status-lt, count-le, control-lt, base-le, window-le, errors-lt, rest-is}
+use Rattle.image.proofs.Facts.{edition-is, mode-le, phase-le, fault-le, status-lt, count-le, control-lt, base-le, window-le, errors-lt, zero15-is}
 
 flag-lt : (b : Bool) → flag b < 2
 flag-lt true = omega arith
@@ -31,7 +31,7 @@ keeps-fit f t e =
     let base = base-le f e in
     let window = window-le f e in
     let errors = errors-lt f e in
-    let rest = rest-is f e in
+    let zero15 = zero15-is f e in
     let armed = flag-lt (f .armed) in
     let pending = flag-lt (f .pending) in
     let eop = flag-lt (f .eop) in
@@ -57,7 +57,7 @@ fits-fit f t s e =
     let mode : f .mode < 4 = ltb-true _ _ (and-right (zeroFrom 4 (f .edition)) _ two) in
     let phase : f .phase < 8 = ltb-true _ _ (and-right (zeroFrom 4 (f .edition) && zeroFrom 2 (f .mode)) _ three) in
     let fault : f .fault < 32 = ltb-true _ _ (and-right (zeroFrom 4 (f .edition) && zeroFrom 2 (f .mode) && zeroFrom 3 (f .phase)) _ four) in
-    let rest : f .rest < 32768 =
+    let zero15 : f .zero15 < 32768 =
     ltb-true _ _ (and-right (zeroFrom 4 (f .edition) && zeroFrom 2 (f .mode) && zeroFrom 3 (f .phase) && zeroFrom 5 (f .fault)) _ e) in
     let armed = flag-lt (f .armed) in
     let pending = flag-lt (f .pending) in

@@ -8,7 +8,7 @@ use lib.Dec.{eqb, ltb}
 use lib.ListN.{getD}
 use borrow.Author.Tests.{eqb-true}
 use Rattle.image.specs.declared.Fields.{Fields}
-use Rattle.image.specs.Rules.{either, inHand, inMove, inWriteBack, keepsRules}
+use Rattle.image.specs.Rules.{either, working, inMove, inWriteBack, keepsRules}
 use Rattle.image.specs.InGroups.{coreKept, handKept, nothingKept}
 use Rattle.image.proofs.Tests.{and-left, and-right, and-true, no-mark, neither}
 use Rattle.image.proofs.EachRule.{Each, each-rule, each-keeps}
@@ -37,12 +37,12 @@ same false false there back = refl
 
 module _ (f : Fields) where
   core-of : Each f → coreKept f ≡ true
-  core-of k = rw (k .edition, k .mode, k .phase, k .fault, k .status, k .count, k .control, k .window, k .rest, k .faultat)
+  core-of k = rw (k .edition, k .mode, k .phase, k .fault, k .status, k .count, k .control, k .window, k .zero15, k .faultat)
 
-  hand-of : Each f → handKept (inHand (f .phase)) f ≡ true
+  hand-of : Each f → handKept (working (f .phase)) f ≡ true
   hand-of k = rw (k .source, k .destination, k .address, k .size, k .dcontrol, k .errors, k .moved, k .eop)
 
-  each-in : coreKept f ≡ true → handKept (inHand (f .phase)) f ≡ true → Each f
+  each-in : coreKept f ≡ true → handKept (working (f .phase)) f ≡ true → Each f
   each-in core hand =
       let c = each-of _ (_ ∷ _ ∷ _ ∷ _ ∷ _ ∷ _ ∷ _ ∷ _ ∷ _ ∷ []) core in
       let h = each-of _ (_ ∷ _ ∷ _ ∷ _ ∷ _ ∷ _ ∷ _ ∷ []) hand in
@@ -55,7 +55,7 @@ module _ (f : Fields) where
         count = c 5;
         control = c 6;
         window = c 7;
-        rest = c 8;
+        zero15 = c 8;
         faultat = c 9;
         source = h 0;
         destination = h 1;
@@ -67,7 +67,7 @@ module _ (f : Fields) where
         eop = h 7;
       }
 
-  kept-in-groups : keepsRules f ≡ (coreKept f && handKept (inHand (f .phase)) f)
+  kept-in-groups : keepsRules f ≡ (coreKept f && handKept (working (f .phase)) f)
   unfolding keepsRules
   kept-in-groups =
       same _ _
@@ -82,7 +82,7 @@ no-errors reads n false z = rw (z)
 
 -- where none is in hand, what is kept of it is all zero
 module _ (f : Fields) (m : inMove (f .phase) ≡ false) (w : inWriteBack (f .phase) ≡ false) where
-  nothing-in-hand : handKept (inHand (f .phase)) f ≡ nothingKept f
+  nothing-in-hand : handKept (working (f .phase)) f ≡ nothingKept f
   nothing-in-hand = rw (
     m,
     w,
@@ -99,11 +99,11 @@ module _ (f : Fields) where
   pub core-broken : coreKept f ≡ false → keepsRules f ≡ false
   core-broken e = kept-in-groups f ∙ rw (e)
 
-  pub in-hand : coreKept f ≡ true → inHand (f .phase) ≡ true → keepsRules f ≡ handKept true f
-  in-hand e h = kept-in-groups f ∙ ap (λ (b : Bool). b && handKept (inHand (f .phase)) f) e ∙ ap (λ (b : Bool). handKept b f) h
+  pub in-hand : coreKept f ≡ true → working (f .phase) ≡ true → keepsRules f ≡ handKept true f
+  in-hand e h = kept-in-groups f ∙ ap (λ (b : Bool). b && handKept (working (f .phase)) f) e ∙ ap (λ (b : Bool). handKept b f) h
 
-  pub at-rest : coreKept f ≡ true → inHand (f .phase) ≡ false → keepsRules f ≡ nothingKept f
+  pub at-rest : coreKept f ≡ true → working (f .phase) ≡ false → keepsRules f ≡ nothingKept f
   at-rest e h =
       kept-in-groups f
-      ∙ ap (λ (b : Bool). b && handKept (inHand (f .phase)) f) e
+      ∙ ap (λ (b : Bool). b && handKept (working (f .phase)) f) e
       ∙ (let n = neither (inMove (f .phase)) _ h in nothing-in-hand f (n .0) (n .1))

@@ -15,7 +15,7 @@ use Rattle.words.proofs.Recode.{recode-back, recode-fit}
 use Rattle.words.proofs.Orders.{length-split}
 use Rattle.words.proofs.Bytes.{bytes-fit}
 use Rattle.image.specs.declared.Fields.{Fields}
-use Rattle.image.specs.Layout.{values, widths, fieldsOf, image, fields}
+use Rattle.image.specs.Layout.{values, widths, fromNumbers, image, fields}
 
 pub flag-back : (b : Bool) → eqb (flag b) 1 ≡ b
 flag-back true = refl
@@ -30,11 +30,11 @@ flag-bit : (n : ℕ) → flag (eqb (n % 2) 1) ≡ n % 2
 flag-bit n = flag-there (n % 2) (mod-lt n (omega arith))
 
 -- the fields that the values of fields are
-of-values : (f : Fields) → fieldsOf (values f) ≡ f
+of-values : (f : Fields) → fromNumbers (values f) ≡ f
 of-values f = rw (flag-back (f .armed), flag-back (f .pending), flag-back (f .eop))
 
 -- the 22 numbers that a number is cut into are the values of the fields that they are
-values-of : (n : ℕ) → values (fieldsOf (split widths n)) ≡ split widths n
+values-of : (n : ℕ) → values (fromNumbers (split widths n)) ≡ split widths n
 values-of n = simp flag-bit
 
 pub length-image : (f : Fields) → length (image f) ≡ 44
@@ -43,7 +43,7 @@ length-image f = length-split (bytes 44) (join widths (values f))
 
 pub fields-image : (f : Fields) → Fit widths (values f) → fields (image f) ≡ f
 unfolding image fields
-fields-image f p = ap fieldsOf (recode-back widths (bytes 44) (values f) refl p) ∙ of-values f
+fields-image f p = ap fromNumbers (recode-back widths (bytes 44) (values f) refl p) ∙ of-values f
 
 pub image-fields : (xs : List ℕ) → length xs ≡ 44 → AllBytes xs → image (fields xs) ≡ xs
 unfolding image fields

@@ -17,7 +17,7 @@ use Rattle.words.proofs.Bytes.{drop-bytes}
 use Rattle.words.proofs.Slices.{number-in}
 use Rattle.words.proofs.Groups.{recodes, Even, joins, Alike, parts, fours, recode-groups, fits-of, recodes-words, parts-all, parts-fit}
 use Rattle.image.specs.declared.Fields.{Fields}
-use Rattle.image.specs.Layout.{values, widths, fieldsOf, image, fields}
+use Rattle.image.specs.Layout.{values, widths, fromNumbers, image, fields}
 use Rattle.image.specs.InWords.{headWidths, sizesWidths, doneWidths, ofWords}
 
 -- ---- words of bytes
@@ -89,12 +89,12 @@ image-words f p =
 
 -- the fields are those of the image's words
 module _ (xs : List ℕ) (l : length xs ≡ 44) (g : AllBytes xs) where
-  cut : fields xs ≡ fieldsOf (splits words (wordsAt xs 0 words))
+  cut : fields xs ≡ fromNumbers (splits words (wordsAt xs 0 words))
   unfolding fields
   cut =
-      ap (λ (ys : List ℕ). fieldsOf (recode (bytes 44) widths ys)) (sym (parts-all xs (fourEach words) l))
-      ∙ ap fieldsOf (recode-groups (fours words) words (parts xs (fourEach words)) odd (parts-fit xs (fourEach words) (omega arith) g))
-      ∙ ap fieldsOf (cut-words words xs 0 (omega arith))
+      ap (λ (ys : List ℕ). fromNumbers (recode (bytes 44) widths ys)) (sym (parts-all xs (fourEach words) l))
+      ∙ ap fromNumbers (recode-groups (fours words) words (parts xs (fourEach words)) odd (parts-fit xs (fourEach words) (omega arith) g))
+      ∙ ap fromNumbers (cut-words words xs 0 (omega arith))
 
   whole : (at : ℕ) → at + 4 ≤ 44 → numberAt MostFirst 4 xs at % 2 ^ 32 ≡ numberAt MostFirst 4 xs at
   whole at h = mod-eq-of-lt (word-lt xs at (rw l h) g)

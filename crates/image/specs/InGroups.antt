@@ -17,7 +17,7 @@ coreKept f =
     && countKept (f .count)
     && controlKept (f .phase) (f .armed) (f .control)
     && keepsLimits (f .base) (f .window)
-    && eqb (f .rest) 0
+    && eqb (f .zero15) 0
     && (eqb (f .faultat) 0 outside inFaulted (f .phase))
 
 -- those of the descriptor in hand

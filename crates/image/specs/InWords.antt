@@ -5,7 +5,7 @@ use mathlib.Core.List.{List, [], _∷_, _++_}
 use Rattle.words.specs.Numbers.{split}
 use Rattle.words.specs.Slices.{part}
 use Rattle.image.specs.declared.Fields.{Fields}
-use Rattle.image.specs.Layout.{widths, fieldsOf}
+use Rattle.image.specs.Layout.{widths, fromNumbers}
 
 -- the widths in those words that hold several fields: the first, the ninth and the tenth
 abbrev pub headWidths : List ℕ
@@ -20,6 +20,6 @@ doneWidths = part widths 18 3
 -- the fields of the eleven words
 abbrev pub ofWords : (head control pointer base window address source destination sizes done faultat : ℕ) → Fields
 ofWords head control pointer base window address source destination sizes done faultat =
-    fieldsOf
+    fromNumbers
     (split headWidths head
     ++ (control ∷ pointer ∷ base ∷ window ∷ address ∷ source ∷ destination ∷ (split sizesWidths sizes ++ (split doneWidths done ++ (faultat ∷ [])))))

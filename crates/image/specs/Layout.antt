@@ -40,13 +40,13 @@ layout f =
     8 bits f .errors ∷  -- 18 errors
     16 bits f .moved ∷  -- 19 moved
     1 bits flag (f .eop) ∷  -- 20 EOP seen
-    15 bits f .rest ∷  -- 21 zero
+    15 bits f .zero15 ∷  -- 21 zero
     32 bits f .faultat ∷  -- 22 fault address
     []
 
 -- the fields that 22 numbers are, each by its place in the table
-abbrev pub fieldsOf : List ℕ → Fields
-fieldsOf vs =
+abbrev pub fromNumbers : List ℕ → Fields
+fromNumbers vs =
     let at : ℕ → ℕ = λ n. getD (0 ∷ vs) n 0 in
     record {
       edition = at 1;
@@ -69,7 +69,7 @@ fieldsOf vs =
       errors = at 18;
       moved = at 19;
       eop = eqb (at 20) 1;
-      rest = at 21;
+      zero15 = at 21;
       faultat = at 22;
     }
 
@@ -78,7 +78,7 @@ abbrev pub values : Fields → List ℕ
 values f = map (λ x. x .value) (layout f)
 
 abbrev pub widths : List ℕ
-widths = map (λ x. x .width) (layout (fieldsOf []))
+widths = map (λ x. x .width) (layout (fromNumbers []))
 
 -- the numbers that no image rule bounds fit their widths in the table; their types in the code see to that
 pub record Typed (f : Fields) : Type 0 where
@@ -96,4 +96,4 @@ unfoldable pub image : Fields → List ℕ
 image f = recode widths (bytes 44) (values f)
 
 unfoldable pub fields : List ℕ → Fields
-fields xs = fieldsOf (recode (bytes 44) widths xs)
+fields xs = fromNumbers (recode (bytes 44) widths xs)

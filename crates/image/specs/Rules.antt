@@ -58,8 +58,8 @@ abbrev pub inFaulted : ℕ → Bool
 inFaulted phase = eqb phase 6
 
 -- Move and WriteBack, where a descriptor is in hand
-abbrev pub inHand : ℕ → Bool
-inHand phase = inMove phase || inWriteBack phase
+abbrev pub working : ℕ → Bool
+working phase = inMove phase || inWriteBack phase
 
 -- bits of the registers, of their numbers
 abbrev pub error : ℕ → Bool
@@ -142,12 +142,12 @@ asked mode size = cond (eqb mode 2 && eqb size 0) 65535 size
 -- zero outside; Move: moved < L, errors 0 if moved is 0; WriteBack: 1 <= moved <= L
 abbrev pub movedKept : (phase L errors moved : ℕ) → Bool
 movedKept phase L errors moved =
-    zeroOutside (inHand phase) moved && (inMove phase ⇒ ltb moved L && (eqb moved 0 ⇒ eqb errors 0)) && (inWriteBack phase ⇒ between 1 L moved)
+    zeroOutside (working phase) moved && (inMove phase ⇒ ltb moved L && (eqb moved 0 ⇒ eqb errors 0)) && (inWriteBack phase ⇒ between 1 L moved)
 
 -- zero outside; EOP seen 0 in modes 0 and 1; Move: EOP seen 0; WriteBack: moved = L or EOP seen
 abbrev pub eopKept : (mode phase L moved : ℕ) (eop : Bool) → Bool
 eopKept mode phase L moved eop =
-    (not eop outside inHand phase) && (either 0 1 mode ⇒ not eop) && (inMove phase ⇒ not eop) && (inWriteBack phase ⇒ eqb moved L || eop)
+    (not eop outside working phase) && (either 0 1 mode ⇒ not eop) && (inMove phase ⇒ not eop) && (inWriteBack phase ⇒ eqb moved L || eop)
 
 -- the table
 unfoldable pub rules : Fields → List Bool
@@ -164,15 +164,15 @@ rules f =
     true ∷  -- 10 pointer
     true ∷  -- 11 base
     keepsLimits (f .base) (f .window) ∷  -- 12 window length: the window's limits
-    addressKept (inHand (f .phase)) (f .base) (f .window) (f .address) ∷  -- 13 descriptor address
-    zeroOutside (inHand (f .phase)) (f .source) ∷  -- 14 source
-    zeroOutside (inHand (f .phase)) (f .destination) ∷  -- 15 destination
-    sizeKept (f .mode) (inHand (f .phase)) (f .size) ∷  -- 16 length
-    dcontrolKept (inHand (f .phase)) (f .dcontrol) ∷  -- 17 descriptor control
-    errorsKept (f .mode) (inHand (f .phase)) (f .errors) ∷  -- 18 errors
+    addressKept (working (f .phase)) (f .base) (f .window) (f .address) ∷  -- 13 descriptor address
+    zeroOutside (working (f .phase)) (f .source) ∷  -- 14 source
+    zeroOutside (working (f .phase)) (f .destination) ∷  -- 15 destination
+    sizeKept (f .mode) (working (f .phase)) (f .size) ∷  -- 16 length
+    dcontrolKept (working (f .phase)) (f .dcontrol) ∷  -- 17 descriptor control
+    errorsKept (f .mode) (working (f .phase)) (f .errors) ∷  -- 18 errors
     movedKept (f .phase) (asked (f .mode) (f .size)) (f .errors) (f .moved) ∷  -- 19 moved
     eopKept (f .mode) (f .phase) (asked (f .mode) (f .size)) (f .moved) (f .eop) ∷  -- 20 EOP seen
-    eqb (f .rest) 0 ∷  -- 21 zero: zero bits are zero
+    eqb (f .zero15) 0 ∷  -- 21 zero: zero bits are zero
     (eqb (f .faultat) 0 outside inFaulted (f .phase)) ∷  -- 22 fault address: 0 outside Faulted
     []
 

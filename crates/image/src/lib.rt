@@ -12,7 +12,7 @@ ghost use Rattle.image.specs.Layout.{values, widths, image, fields};
 ghost use Rattle.image.specs.InGroups.{coreKept, handKept, nothingKept};
 ghost use Rattle.image.specs.InWords.{headWidths, sizesWidths, doneWidths, ofWords};
 ghost use Rattle.image.specs.Rules.{zeroOutside, phaseKept, faultKept, statusKept, controlKept, addressKept, sizeKept, dcontrolKept, errorsKept, asked, movedKept, eopKept, rules, firstFalse, lowestBroken, keepsRules};
-ghost use Rattle.image.specs.Promise.{fits, WasRead, Wrote, WasPut};
+ghost use Rattle.image.specs.Promise.{fits, ImageWasRead, Wrote, ImageWasPut};
 use bus::BusAddress;
 use bus::CheckedWindow;
 use bus::Refusal;
@@ -47,7 +47,7 @@ pub struct Fields {
     pub errors: u8,
     pub moved: u16,
     pub eop: bool,
-    pub rest: u16,
+    pub zero15: u16,
     pub faultat: u32,
 }
 
@@ -222,7 +222,7 @@ fn kept(f: Fields) -> [bool; 22]
         errors_kept(f.mode, hand, f.errors),
         moved_kept(f.phase, whole, f.errors, f.moved),
         eop_kept(f.mode, f.phase, whole, f.moved, f.eop),
-        f.rest == 0,
+        f.zero15 == 0,
         (f.phase == FAULTED) | (f.faultat == 0),
     ]
 }
@@ -261,7 +261,7 @@ fn core_kept(f: Fields) -> bool
         & (f.count <= 254)
         & control_kept(f.phase, f.armed, f.control)
         & limits_kept(f.base, f.window)
-        & (f.rest == 0)
+        & (f.zero15 == 0)
         & ((f.phase == FAULTED) | (f.faultat == 0))
 }
 
@@ -340,13 +340,13 @@ fn sizes(size: u16, dcontrol: u8, errors: u8) -> u32
 }
 
 // The tenth word's.
-fn done(moved: u16, eop: u8, rest: u16) -> u32
-    requires { ⌜ Fit doneWidths (moved ∷ eop ∷ rest ∷ []) ⌝ }
-    ensures { λ r. ⌜ r ≡ join doneWidths (moved ∷ eop ∷ rest ∷ []) ⌝ }
+fn done(moved: u16, eop: u8, zero15: u16) -> u32
+    requires { ⌜ Fit doneWidths (moved ∷ eop ∷ zero15 ∷ []) ⌝ }
+    ensures { λ r. ⌜ r ≡ join doneWidths (moved ∷ eop ∷ zero15 ∷ []) ⌝ }
 {
     let w = moved as u32;
     let w = w * 2 + eop as u32;
-    w * 0x8000 + rest as u32
+    w * 0x8000 + zero15 as u32
 }
 
 // Writes the fields of an image, each on its line, in order.
@@ -374,7 +374,7 @@ fn pack(f: Fields, to: &mut [u8])
         f.source,
         f.destination,
         sizes(f.size, f.dcontrol, f.errors),
-        done(f.moved, flag(f.eop), f.rest),
+        done(f.moved, flag(f.eop), f.zero15),
         f.faultat,
     ];
     words::put_words(Order::MostFirst, to, 0, &words);
@@ -417,7 +417,7 @@ fn from_words(
         errors: (sizes % 256) as u8,
         moved: (done / 0x1_0000 % 0x1_0000) as u16,
         eop: done / 0x8000 % 2 == 1,
-        rest: (done % 0x8000) as u16,
+        zero15: (done % 0x8000) as u16,
         faultat,
     }
 }
@@ -452,7 +452,7 @@ const SIZE: usize = 44;
 
 // Reads an image: its fields, where it has the right size and they keep the rules.
 pub fn read(from: &[u8]) -> ReadImage
-    ensures { λ r. ⌜ WasRead (now (from .entry)) r ⌝ }
+    ensures { λ r. ⌜ ImageWasRead (now (from .entry)) r ⌝ }
 {
     if from.len() != SIZE {
         return ReadImage::Refused(Refusal::BadSize);
@@ -482,13 +482,13 @@ pub fn write(f: Fields, to: &mut [u8]) -> WroteImage
 fn fit(f: Fields) -> bool
     ensures { λ r. ⌜ r ≡ fits f ⌝ }
 {
-    (f.edition < 16) & (f.mode < 4) & (f.phase < 8) & (f.fault < 32) & (f.rest < 0x8000)
+    (f.edition < 16) & (f.mode < 4) & (f.phase < 8) & (f.fault < 32) & (f.zero15 < 0x8000)
 }
 
 // Writes the image of fields, whether they keep the rules or not: for a caller that knows that they do. Where the size is wrong or
 // a number does not fit its width it is refused, and nothing is written.
 pub fn put(f: Fields, to: &mut [u8]) -> WroteImage
-    ensures { λ r. ⌜ WasPut f (now (to .entry)) r (now (to .exit)) ⌝ }
+    ensures { λ r. ⌜ ImageWasPut f (now (to .entry)) r (now (to .exit)) ⌝ }
 {
     if to.len() == SIZE {
         if fit(f) {

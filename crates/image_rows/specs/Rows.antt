@@ -11,15 +11,15 @@ use Rattle.bus.specs.Window.{keepsLimits, inWindow}
 use Rattle.image.specs.declared.Fields.{Fields}
 use Rattle.image.specs.declared.ReadImage.{ReadImage}
 use Rattle.image.specs.declared.ReadImage.the-variants.{Good}
-use Rattle.image.specs.Layout.{values, fieldsOf, image, fields}
+use Rattle.image.specs.Layout.{values, fromNumbers, image, fields}
 use Rattle.image.specs.Rules.{rules, lowestBroken, keepsRules}
-use Rattle.image.specs.Promise.{readOf, readNumber}
+use Rattle.image.specs.Promise.{readOf, imageReadNumber}
 
 -- ---- fields with one of them changed
 
 pub data Name : Type 0 where
   edition mode phase armed pending fault status count control pointer base window : Name
-  address source destination size dcontrol errors moved eop zeros faultat : Name
+  address source destination size dcontrol errors moved eop zero15 faultat : Name
 
 abbrev pub place : Name → ℕ
 place edition = 1
@@ -42,17 +42,17 @@ place dcontrol = 17
 place errors = 18
 place moved = 19
 place eop = 20
-place zeros = 21
+place zero15 = 21
 place faultat = 22
 
 infixl 30 _but_is_
 abbrev pub _but_is_ : Fields → Name → ℕ → Fields
-f but name is v = fieldsOf (set (values f) (place name - 1) v)
+f but name is v = fromNumbers (set (values f) (place name - 1) v)
 
 -- ---- the machines that the rows change: a window of 256 bytes at 4096, the descriptor at its start; BUSY is 16, RUN 32
 
 abbrev pub rest : Fields
-rest = fieldsOf [] but edition is 1 but mode is 2 but base is 4096 but window is 256
+rest = fromNumbers [] but edition is 1 but mode is 2 but base is 4096 but window is 256
 
 abbrev pub fetch : Fields
 fetch = rest but phase is 1 but status is 16 but control is 32
@@ -192,8 +192,8 @@ rows =
     row (rest but faultat is 4098) (22 ∷ []) rest ∷
     row (writeBack but faultat is 1) (22 ∷ []) writeBack ∷
     -- zero bits are zero
-    row (rest but zeros is 1) (21 ∷ []) rest ∷
-    row (faulted but zeros is 16384) (21 ∷ []) faulted ∷
+    row (rest but zero15 is 1) (21 ∷ []) rest ∷
+    row (faulted but zero15 is 16384) (21 ∷ []) faulted ∷
     []
 
 -- ---- the claim
@@ -215,7 +215,7 @@ abbrev pub found : Row → Outcome
 found r =
     let xs = image (r .broken) in
     record {
-      number = readNumber (readOf xs);
+      number = imageReadNumber (readOf xs);
       lowest = lowestBroken (fields xs);
       all = falses 1 (rules (fields xs));
       again = readOf (image (r .twin));

@@ -15,7 +15,7 @@ use Rattle.image.specs.declared.ReadImage.{ReadImage}
 use Rattle.image.specs.declared.ReadImage.the-variants as read
 use Rattle.image.specs.declared.WroteImage.{WroteImage}
 use Rattle.image.specs.declared.WroteImage.the-variants as wrote
-use Rattle.image.specs.Promise.{Wrote, readOf, wroteOf, imageOver, imagePut, readNumber, wroteNumber}
+use Rattle.image.specs.Promise.{Wrote, readOf, wroteOf, imageOver, imagePut, imageReadNumber, imageWroteNumber}
 use Rattle.image.specs.Promise as image
 use Rattle.machine.specs.declared.Machine.{Machine}
 use Rattle.machine.specs.declared.LoadedMachine.{LoadedMachine}
@@ -24,7 +24,7 @@ use Rattle.machine.specs.declared.registers.WroteRegister.{WroteRegister
 use Rattle.machine.specs.declared.registers.WroteRegister.the-variants as done
 use Rattle.machine.specs.declared.registers.Line.{Line}
 use Rattle.machine.specs.declared.registers.Line.the-variants as line
-use Rattle.machine.specs.Saved.{fieldsOf, keeps, loadedAs, loadOf, savedAs, saveOf, putOf, loadNumber, saveNumber, WasLoaded, WasSaved, WasPut}
+use Rattle.machine.specs.Saved.{fieldsOf, keeps, loadedAs, loadOf, savedAs, saveOf, putOf, loadNumber, saveNumber, WasLoaded, WasSaved, MachineWasPut}
 use Rattle.machine.specs.Registers.{writtenTo, writeOf, lineOf, lineNumber, registerNumber, WasWritten, WasLine}
 use Rattle.machine.specs.Registers as registers
 use Rattle.machine.specs.Step.{World, Answer, taken, stopped}
@@ -36,7 +36,7 @@ both p q e = cc
 
 -- ---- load and save
 
-loaded-number : (a : ReadImage) → loadNumber (loadedAs a) ≡ readNumber a
+loaded-number : (a : ReadImage) → loadNumber (loadedAs a) ≡ imageReadNumber a
 loaded-number (read.Good f) = refl
 loaded-number (read.Refused why) = refl
 
@@ -44,7 +44,7 @@ pub was-loaded : {xs : List ℕ} {r : LoadedMachine} → r ≡ loadOf xs → Was
 unfolding loadOf
 was-loaded {xs} e = record { answer = e; number = ap loadNumber e ∙ loaded-number (readOf xs) }
 
-saved-number : (a : WroteImage) → saveNumber (savedAs a) ≡ wroteNumber a
+saved-number : (a : WroteImage) → saveNumber (savedAs a) ≡ imageWroteNumber a
 saved-number wrote.Done = refl
 saved-number (wrote.Refused why) = refl
 
@@ -55,44 +55,44 @@ module _ {m : Machine} {xs ys : List ℕ} {f : Fields} {w : WroteImage} {r : Sav
       let is : w ≡ wroteOf (fieldsOf m) xs = p .answer ∙ ap (λ (g : Fields). wroteOf g xs) e in
       record {
         answer = q ∙ ap savedAs is;
-        number = ap saveNumber q ∙ saved-number w ∙ ap wroteNumber is;
+        number = ap saveNumber q ∙ saved-number w ∙ ap imageWroteNumber is;
         lent = p .lent ∙ ap (λ (g : Fields). imageOver g xs) e;
       }
 
-  pub was-put : image.WasPut f xs w ys → r ≡ savedAs w → WasPut m xs r ys
+  pub was-put : image.ImageWasPut f xs w ys → r ≡ savedAs w → MachineWasPut m xs r ys
   unfolding putOf
   was-put p q =
-      let is : w ≡ image.putOf (fieldsOf m) xs = p .answer ∙ ap (λ (g : Fields). image.putOf g xs) e in
+      let is : w ≡ image.imagePutOf (fieldsOf m) xs = p .answer ∙ ap (λ (g : Fields). image.imagePutOf g xs) e in
       record {
         answer = q ∙ ap savedAs is;
-        number = ap saveNumber q ∙ saved-number w ∙ ap wroteNumber is;
+        number = ap saveNumber q ∙ saved-number w ∙ ap imageWroteNumber is;
         lent = p .lent ∙ ap (λ (g : Fields). imagePut g xs) e;
       }
 
 -- ---- the registers and the line
 
 known : (a b c : Bool) (u v w : ℕ)
-    → registers.readNumber (cond a (reg.Value u) (cond b (reg.Value v) (cond c (reg.Value w) (reg.Refused NoRegister)))) ≡ cond (cond a true (cond b true (cond c true false))) 0 1
+    → registers.registerReadNumber (cond a (reg.Value u) (cond b (reg.Value v) (cond c (reg.Value w) (reg.Refused NoRegister)))) ≡ cond (cond a true (cond b true (cond c true false))) 0 1
 known true b c u v w = refl
 known false true c u v w = refl
 known false false true u v w = refl
 known false false false u v w = refl
 
 module _ {m : Machine} {offset : ℕ} where
-  pub was-register : {r : ReadRegister} → r ≡ registers.readOf m offset → registers.WasRead m offset r
-  unfolding registers.readOf
-  was-register e = record { answer = e; number = ap registers.readNumber e ∙ number (keeps m) }
+  pub was-register : {r : ReadRegister} → r ≡ registers.readingOf m offset → registers.RegisterWasRead m offset r
+  unfolding registers.readingOf
+  was-register e = record { answer = e; number = ap registers.registerReadNumber e ∙ number (keeps m) }
     where
-      number : (k : Bool) → registers.readNumber (cond k (registerAt (m .status) (m .control) (m .pointer) offset) (reg.Refused BadImage)) ≡ registerNumber k (isRegister offset)
+      number : (k : Bool) → registers.registerReadNumber (cond k (registerAt (m .status) (m .control) (m .pointer) offset) (reg.Refused BadImage)) ≡ registerNumber k (isRegister offset)
       number true = known (eqb offset 0) (eqb offset 4) (eqb offset 8) _ _ _
       number false = refl
 
   pub was-written : {v : ℕ} {r : WroteRegister} → r ≡ writeOf m offset v → WasWritten m offset v r
   unfolding writeOf
-  was-written {v} e = record { answer = e; number = ap registers.wroteNumber e ∙ number (keeps m) (isRegister offset) }
+  was-written {v} e = record { answer = e; number = ap registers.registerWroteNumber e ∙ number (keeps m) (isRegister offset) }
     where
       number : (k known : Bool)
-          → registers.wroteNumber (cond k (cond known (done.Done (writtenTo m offset v)) (done.Refused NoRegister)) (done.Refused BadImage)) ≡ registerNumber k known
+          → registers.registerWroteNumber (cond k (cond known (done.Done (writtenTo m offset v)) (done.Refused NoRegister)) (done.Refused BadImage)) ≡ registerNumber k known
       number true true = refl
       number true false = refl
       number false known = refl

@@ -34,7 +34,7 @@ use Rattle.machine.specs.declared.bursts.Reach.{Reach}
 use Rattle.machine.specs.declared.runs.Advanced.{Advanced}
 use Rattle.machine.specs.Step.{World, taken, became, received, step, whole, sourceOf, destinationOf, onward, beatFor}
 use Rattle.machine.specs.Run.{lent, worldOf}
-use Rattle.machine.specs.Turns.{worldAt, midway, progress, Within, steps, Went, Turned, Advances, movedBy, Moving, Bursts, Reaches, Unmarked}
+use Rattle.machine.specs.Turns.{worldAt, midway, reachedAs, Within, steps, Went, Turned, Advances, movedBy, Moving, Bursts, Reaches, Unmarked}
 use Rattle.machine.proofs.Places.{inside, place, fits}
 use Rattle.machine.proofs.Streams.{none-made}
 use Rattle.machine.proofs.Turning.{went-none}
@@ -164,7 +164,7 @@ module _ {place : Window} {k : Work} {most : ℕ} where
       → Bursts MemoryToMemory place k most n (k .errors) memory beats took out made took made memory' out
   unfolding copied
   copy-bursts {from} {to} n memory memory' r s size l f t left beats took out made m g =
-      subst⁻¹ (λ (x : List ℕ). Went (λ (w : World). steps n w) m memory beats took out made (progress (onward m (movedBy k n (k .errors))) took made) x out)
+      subst⁻¹ (λ (x : List ℕ). Went (λ (w : World). steps n w) m memory beats took out made (reachedAs (onward m (movedBy k n (k .errors))) took made) x out)
       (left ∙ copy-fits k n memory r s size f t)
       (went-none (λ (w : World). steps n w) m _ memory _ beats took out made took (λ w. by n l f t w))
     where
@@ -254,7 +254,7 @@ burst-told errors {m = m} {window = window} {beats = beats} {took = took} {out =
 
 -- no step leads nowhere
 pub went-nowhere : (m : Machine) (window beats : List ℕ) (took : ℕ) (out : List ℕ) (made : ℕ)
-    → Went (λ (w : World). steps 0 w) m window beats took out made (progress m took made) window out
+    → Went (λ (w : World). steps 0 w) m window beats took out made (reachedAs m took made) window out
 unfolding steps
 went-nowhere m window beats took out made = went-none (λ (w : World). steps 0 w) m m window window beats took out made took (λ w. refl)
 

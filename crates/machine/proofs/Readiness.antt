@@ -179,7 +179,7 @@ steps-ready n count w v e h = taken-ready n v (subst (λ (a : Answer). Stays n a
 -- ---- the image rules
 
 abbrev inHandNumber : Phase → Bool
-inHandNumber p = rules.inHand (phaseNumber p)
+inHandNumber p = rules.working (phaseNumber p)
 
 module _ (m : Machine) (e : lowestBroken (fieldsOf m) ≡ 0) where
   left-by : (p : Phase) → m .phase ≡ p → Left m p

@@ -23,7 +23,7 @@ use Rattle.machine.specs.declared.steps.Wait.the-variants.{Go, Stop}
 use Rattle.machine.specs.Step.{World, taken, noted, step}
 use Rattle.machine.specs.Run.{Report, run, Lent, Returned, back, asLent, Served, serves, refused, worldOf, outputOver, returned}
 use Rattle.machine.specs.Run.{ranAs, runAnswer, servedNumber, Runs}
-use Rattle.machine.specs.Turns.{worldAt, progress, waitOf, steps, Within, Logs, Turned, Ready}
+use Rattle.machine.specs.Turns.{worldAt, reachedAs, waitOf, steps, Within, Logs, Turned, Ready}
 use Rattle.machine.proofs.Streams.{beat-bytes-append, none-made}
 use Rattle.machine.proofs.Readiness.{steps-ready}
 use Rattle.machine.proofs.LoopLaws.{report, moreBy, run-stops, run-out, run-steps, more-none, more-more}
@@ -90,7 +90,7 @@ module _ (m₀ : Machine) (l : Lent) (budget : ℕ) where
     pub stands-on : (n : ℕ) (b' : Returned) (m' : Machine) (took' made' used' : ℕ) → n ≤ budget - count → length (b' .window) ≡ length (b .window)
         → length (b' .out) ≡ length (b .out) → length (b' .ledger) ≡ length (b .ledger) → Within (l .beats) (b .out) took' made'
         → waitOf (step here) ≡ Go → Logs m (b .ledger) used used' (b' .ledger)
-        → Turned (λ (w : World). steps n w) m (b .window) (l .beats) took (b .out) made (progress m' took' made') (b' .window) (b' .out)
+        → Turned (λ (w : World). steps n w) m (b .window) (l .beats) took (b .out) made (reachedAs m' took' made') (b' .window) (b' .out)
         → Stands m₀ l budget b' m' took' made' used' (count + n)
     stands-on n b' m' took' made' used' h wl ol ll i can k g =
         let w₀ = worldOf m₀ l in

@@ -100,14 +100,14 @@ fetch-turns w P turns =
 -- ---- the bytes that a step names
 
 -- an answer with which a step spares the places `free`: it is taken and leaves them, or stops for a reason of its own
-pub data Sound (w : World) (free : ℕ → Type 0) : Answer → Type 0 where
-  goes : {v : World} → Passed 1 w v → ((q : ℕ) → free q → getD (v .memory) q 0 ≡ getD (w .memory) q 0) → Sound w free (taken v)
-  stays : {r : Reason} → r ≢ reason.Budget → Sound w free (stopped r)
+pub data Lawful (w : World) (free : ℕ → Type 0) : Answer → Type 0 where
+  goes : {v : World} → Passed 1 w v → ((q : ℕ) → free q → getD (v .memory) q 0 ≡ getD (w .memory) q 0) → Lawful w free (taken v)
+  stays : {r : Reason} → r ≢ reason.Budget → Lawful w free (stopped r)
 
-stops : {w : World} {free : ℕ → Type 0} (r : Reason) → reasonNumber r ≢ 6 → Sound w free (stopped r)
+stops : {w : World} {free : ℕ → Type 0} (r : Reason) → reasonNumber r ≢ 6 → Lawful w free (stopped r)
 stops r h = stays (λ e. h (ap reasonNumber e))
 
-choice : {w : World} {free : ℕ → Type 0} (b : Bool) {x y : Answer} → Sound w free x → Sound w free y → Sound w free (cond b x y)
+choice : {w : World} {free : ℕ → Type 0} (b : Bool) {x y : Answer} → Lawful w free x → Lawful w free y → Lawful w free (cond b x y)
 choice true p q = p
 choice false p q = q
 
@@ -115,7 +115,7 @@ module _ (w : World) where
   -- no beat is moved: machine and memory change
   still : {free : ℕ → Type 0} (m : Machine) (mem : List ℕ) → m .mode ≡ w .machine .mode → m .window ≡ w .machine .window
       → length mem ≡ length (w .memory) → ((q : ℕ) → free q → getD mem q 0 ≡ getD (w .memory) q 0)
-      → Sound w free (taken (stored w m mem))
+      → Lawful w free (taken (stored w m mem))
   still m mem e f l h =
       let p : Passed 1 w (stored w m mem) =
       record {
@@ -136,21 +136,21 @@ module _ (w : World) where
       goes p h
 
   -- the machine alone changes
-  turned : {free : ℕ → Type 0} (m : Machine) → m .mode ≡ w .machine .mode → m .window ≡ w .machine .window → Sound w free (taken (became w m))
+  turned : {free : ℕ → Type 0} (m : Machine) → m .mode ≡ w .machine .mode → m .window ≡ w .machine .window → Lawful w free (taken (became w m))
   turned m e f = still m (w .memory) e f refl (λ q h. refl)
 
-  sound-rest : Sound w (λ q. Unit {0}) (restStep w)
+  sound-rest : Lawful w (λ q. Unit {0}) (restStep w)
   unfolding restStep
   sound-rest = choice (run (w .machine .control)) (turned _ refl refl) (stops reason.Rest (omega arith))
 
-  sound-fetch : Sound w (λ q. Unit {0}) (fetchStep w)
-  sound-fetch = fetch-turns w (Sound w (λ q. Unit {0})) (λ m e f h. turned m e f)
+  sound-fetch : Lawful w (λ q. Unit {0}) (fetchStep w)
+  sound-fetch = fetch-turns w (Lawful w (λ q. Unit {0})) (λ m e f h. turned m e f)
 
   module _ (k : Work) where
     abbrev at : ℕ
     at = placeOf (w .machine .window) (destinationOf k)
 
-    sound-copy : Sound w (λ q. q ≢ at) (copyStep w k)
+    sound-copy : Lawful w (λ q. q ≢ at) (copyStep w k)
     unfolding copyStep onward
     sound-copy =
         choice (inWindow (w .machine .window) (sourceOf k) 1)
@@ -159,7 +159,7 @@ module _ (w : World) where
         (turned _ refl refl))
         (turned _ refl refl)
 
-    sound-send : (room : ℕ) → w .room ≡ room → Sound w (λ q. Unit {0}) (sendTo w k room)
+    sound-send : (room : ℕ) → w .room ≡ room → Lawful w (λ q. Unit {0}) (sendTo w k room)
     unfolding onward
     sound-send zero r = stops reason.OutputFull (omega arith)
     sound-send (suc left) r =
@@ -181,7 +181,7 @@ module _ (w : World) where
         })
         (λ q h. refl)
 
-    sound-receive : (input : List ℕ) → w .input ≡ input → Sound w (λ q. q ≢ at) (receiveFrom w k input)
+    sound-receive : (input : List ℕ) → w .input ≡ input → Lawful w (λ q. q ≢ at) (receiveFrom w k input)
     unfolding onward
     sound-receive [] i = stops reason.NeedsInput (omega arith)
     sound-receive (b ∷ bs) i =
@@ -206,7 +206,7 @@ module _ (w : World) where
         (turned _ refl refl)
 
     sound-back : (left : ℕ) → w .left ≡ left
-        → Sound w (λ q. (j : ℕ) → j < 4 → q ≢ placeOf (w .machine .window) (k .at) + 28 + j) (backTo w k left)
+        → Lawful w (λ q. (j : ℕ) → j < 4 → q ≢ placeOf (w .machine .window) (k .at) + 28 + j) (backTo w k left)
     unfolding writtenBack completed
     sound-back zero e = stops reason.LedgerFull (omega arith)
     sound-back (suc left) e =
@@ -229,16 +229,16 @@ module _ (w : World) where
         (λ q h. put-off (w .memory) _ _ q h)
 
   -- a step spares every byte of memory but those that it names
-  pub step-sound : Sound w (sparesIn (w .machine .phase) w) (step w)
+  pub step-sound : Lawful w (sparesIn (w .machine .phase) w) (step w)
   unfolding step sendStep writeBackStep
   step-sound = by (w .machine .phase)
     where
-      by-mode : (k : Work) (m : Mode) → Sound w (sparesMove m w k) (moveStep m w k)
+      by-mode : (k : Work) (m : Mode) → Lawful w (sparesMove m w k) (moveStep m w k)
       by-mode k MemoryToMemory = sound-copy k
       by-mode k MemoryToStream = choice (inWindow (w .machine .window) (sourceOf k) 1) (sound-send k (w .room) refl) (turned _ refl refl)
       by-mode k StreamToMemory = sound-receive k (w .input) refl
 
-      by : (p : Phase) → Sound w (sparesIn p w) (stepIn p w)
+      by : (p : Phase) → Lawful w (sparesIn p w) (stepIn p w)
       by Rest = sound-rest
       by Fetch = sound-fetch
       by (Move k) = by-mode k (w .machine .mode)
@@ -248,7 +248,7 @@ module _ (w : World) where
       by (Faulted f) = stops reason.Faulted (omega arith)
 
   module _ (v : World) (e : step w ≡ taken v) where
-    taken-is : {a : Answer} → Sound w (sparesIn (w .machine .phase) w) a → a ≡ taken v
+    taken-is : {a : Answer} → Lawful w (sparesIn (w .machine .phase) w) a → a ≡ taken v
         → Passed 1 w v × ((q : ℕ) → sparesIn (w .machine .phase) w q → getD (v .memory) q 0 ≡ getD (w .memory) q 0)
     taken-is (goes {v = u} p h) f =
         let u-is : u ≡ v = cc in
@@ -259,7 +259,7 @@ module _ (w : World) where
   pub never-budget : step w ≢ stopped reason.Budget
   never-budget e = by step-sound e
     where
-      by : {a : Answer} → Sound w (sparesIn (w .machine .phase) w) a → a ≢ stopped reason.Budget
+      by : {a : Answer} → Lawful w (sparesIn (w .machine .phase) w) a → a ≢ stopped reason.Budget
       by (goes p h) f = let z : _≡_ {A = ℕ} 0 1 = cc in omega arith
       by (stays {r = r} h) f = h (let g : r ≡ reason.Budget = cc in g)
 

@@ -21,7 +21,7 @@ use Rattle.machine.specs.declared.Work.{Work}
 use Rattle.machine.specs.declared.Phase.the-variants.{Fetch, WriteBack}
 use Rattle.machine.specs.State.{withPhase, withBusy}
 use Rattle.machine.specs.Step.{World, Answer, taken, became, noted, entryFor, backTo, writeBackStep, step, sourceOf, destinationOf, onward, withByte, beatFor, restStep, sendStep, receiveFrom}
-use Rattle.machine.specs.Turns.{worldAt, midway, progress, inFault, waitOf, Still, Went, logged, Backs, Turned}
+use Rattle.machine.specs.Turns.{worldAt, midway, reachedAs, inFault, waitOf, Still, Went, logged, Backs, Turned}
 use Rattle.machine.specs.declared.steps.Wait.the-variants.{Go}
 use Rattle.machine.proofs.Streams.{none-made, beat-made}
 use Rattle.machine.proofs.Waiting.{at-phase, never-goes}
@@ -31,7 +31,7 @@ module _ (rule : World → Answer) (m m' : Machine) (window window' beats : List
   -- no beat made
   pub went-none : (took' : ℕ)
       → ((w : World) → rule (midway w m window beats took out made) ≡ taken (midway w m' window' beats took' out made))
-      → Went rule m window beats took out made (progress m' took' made) window' out
+      → Went rule m window beats took out made (reachedAs m' took' made) window' out
   went-none took' f =
       record {
         new = [];
@@ -41,7 +41,7 @@ module _ (rule : World → Answer) (m m' : Machine) (window window' beats : List
       }
 
   -- no beat taken either
-  pub went-still : Still rule m window m' window' → Went rule m window beats took out made (progress m' took made) window' out
+  pub went-still : Still rule m window m' window' → Went rule m window beats took out made (reachedAs m' took made) window' out
   went-still s = went-none took (λ w. s (midway w m window beats took out made))
 
 -- a rule that says the same of the machine
@@ -83,7 +83,7 @@ module _ (m m' : Machine) (k : Work) (window window' beats : List ℕ) (took : �
       ∙ ap (λ (v : World). taken (worldAt v m' window' beats took (w .output) (length out / 2 - made))) same
       ∙ ap (λ (o : List ℕ). taken (worldAt (logged m w) m' window' beats took o (length out / 2 - made))) (sym (append-nil (w .output)))
 
-  pub turned-back : Backs m k window m' window' → Turned step m window beats took out made (progress m' took made) window' out
+  pub turned-back : Backs m k window m' window' → Turned step m window beats took out made (reachedAs m' took made) window' out
   turned-back b =
       record {
         new = [];
@@ -107,7 +107,7 @@ within h = omega arith
 
 -- mode 1
 module _ (m : Machine) (k : Work) (window beats : List ℕ) (took : ℕ) (out : List ℕ) (made : ℕ) {m' : Machine} {r : Reached} where
-  pub send-out : inWindow (m .window) (sourceOf k) 1 ≡ false → m' ≡ inFault m 13 (sourceOf k % 2 ^ 32) → r ≡ progress m' took made
+  pub send-out : inWindow (m .window) (sourceOf k) 1 ≡ false → m' ≡ inFault m 13 (sourceOf k % 2 ^ 32) → r ≡ reachedAs m' took made
       → Went (λ (w : World). sendStep w k) m window beats took out made r window out
   unfolding sendStep
   send-out e f g =
@@ -115,7 +115,7 @@ module _ (m : Machine) (k : Work) (window beats : List ℕ) (took : ℕ) (out : 
 
   pub send-in : inWindow (m .window) (sourceOf k) 1 ≡ true → made < length out / 2 → {b : ℕ} {out' : List ℕ}
       → b ≡ beatFor k (getD window (placeOf (m .window) (sourceOf k)) 0) → out' ≡ putAt out (2 * made) (bytesOf MostFirst 2 b)
-      → m' ≡ onward m (withByte 0 false k) → r ≡ progress m' took (made + 1)
+      → m' ≡ onward m (withByte 0 false k) → r ≡ reachedAs m' took (made + 1)
       → Went (λ (w : World). sendStep w k) m window beats took out made r window out'
   unfolding sendStep
   send-in e h {b} same put f g =
@@ -131,14 +131,14 @@ module _ (m : Machine) (k : Work) (window beats : List ℕ) (took : ℕ) (out : 
 -- mode 2
 module _ (m : Machine) (k : Work) (window beats : List ℕ) (took : ℕ) (out : List ℕ) (made : ℕ) (h : took < length beats / 2) {m' : Machine} {r : Reached} where
   pub receive-out : inWindow (m .window) (destinationOf k) 1 ≡ false → m' ≡ inFault m 14 (destinationOf k % 2 ^ 32)
-      → r ≡ progress m' took made → Went (λ (w : World). receiveFrom w k (w .input)) m window beats took out made r window out
+      → r ≡ reachedAs m' took made → Went (λ (w : World). receiveFrom w k (w .input)) m window beats took out made r window out
   receive-out e f g =
       rw g
       (went-none (λ (w : World). receiveFrom w k (w .input)) m _ window window beats took out made took
       (λ w. rw (next-beat beats took h, e, f)))
 
   pub receive-in : inWindow (m .window) (destinationOf k) 1 ≡ true → {b at : ℕ} {beat : Beat} → b ≡ beatAt beats took → beat ≡ beatOf b
-      → at ≡ placeOf (m .window) (destinationOf k) → m' ≡ onward m (withByte (beat .errors) (beat .eop) k) → r ≡ progress m' (took + 1) made
+      → at ≡ placeOf (m .window) (destinationOf k) → m' ≡ onward m (withByte (beat .errors) (beat .eop) k) → r ≡ reachedAs m' (took + 1) made
       → Went (λ (w : World). receiveFrom w k (w .input)) m window beats took out made r (set window at (beat .byte)) out
   receive-in e p q s f g =
       rw g

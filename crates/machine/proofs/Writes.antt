@@ -12,7 +12,7 @@ use Rattle.machine.specs.declared.Phase.{Phase}
 use Rattle.machine.specs.declared.Phase.the-variants.{Rest, Fetch, Move, WriteBack, Ended, Halted, Faulted}
 use Rattle.machine.specs.Saved.{keeps}
 use Rattle.machine.specs.State.{withControl, rested, fresh}
-use Rattle.machine.specs.Registers.{stored, released, controlWritten, writtenTo, wroteTo, writeOf}
+use Rattle.machine.specs.Registers.{controlStored, released, controlWritten, writtenTo, wroteTo, writeOf}
 use Rattle.machine.specs.Turns.{stands}
 
 -- RUN 0 leads to Rest from the phases that stand, and leaves the others
@@ -31,30 +31,30 @@ module _ (v : ℕ) (m : Machine) where
   write-resets e = rw e
 
   pub stored-by : {clears : Bool} {count : ℕ} → clears ≡ clearInterrupt (asControl v) → count ≡ countFrom v (m .control) (m .count)
-      → withControl (v % 2 ^ 18) (m .pending && not clears) count m ≡ stored v m
+      → withControl (v % 2 ^ 18) (m .pending && not clears) count m ≡ controlStored v m
   stored-by p n = rw (p, n)
 
-  -- what is stored, and whether the phase ends with it
+  -- what is controlStored, and whether the phase ends with it
   ends : (runs stood : Bool) (p : Phase) → stands p ≡ stood
-      → cond runs (stored v m) (released p (stored v m)) ≡ cond (stood && not runs) (rested (stored v m)) (stored v m)
+      → cond runs (controlStored v m) (released p (controlStored v m)) ≡ cond (stood && not runs) (rested (controlStored v m)) (controlStored v m)
   ends true true p e = refl
   ends true false p e = refl
-  ends false true p e = released-if p (stored v m) ∙ rw e
-  ends false false p e = released-if p (stored v m) ∙ rw e
+  ends false true p e = released-if p (controlStored v m) ∙ rw e
+  ends false false p e = released-if p (controlStored v m) ∙ rw e
 
   module _ (e : resetBy v (m .control) ≡ false) where
-    pub write-runs : run (asControl v) ≡ true → controlWritten v m ≡ stored v m
+    pub write-runs : run (asControl v) ≡ true → controlWritten v m ≡ controlStored v m
     unfolding controlWritten
     write-runs f = rw (e, f)
 
-    written : controlWritten v m ≡ cond (stands (m .phase) && not (run (asControl v))) (rested (stored v m)) (stored v m)
+    written : controlWritten v m ≡ cond (stands (m .phase) && not (run (asControl v))) (rested (controlStored v m)) (controlStored v m)
     unfolding controlWritten
     written = rw e (ends (run (asControl v)) _ (m .phase) refl)
 
-    pub write-ends : (stands (m .phase) && not (run (asControl v))) ≡ true → controlWritten v m ≡ rested (stored v m)
+    pub write-ends : (stands (m .phase) && not (run (asControl v))) ≡ true → controlWritten v m ≡ rested (controlStored v m)
     write-ends h = written ∙ rw h
 
-    pub write-stays : (stands (m .phase) && not (run (asControl v))) ≡ false → controlWritten v m ≡ stored v m
+    pub write-stays : (stands (m .phase) && not (run (asControl v))) ≡ false → controlWritten v m ≡ controlStored v m
     write-stays h = written ∙ rw h
 
 -- ---- a register write, by the tests that led there

@@ -25,9 +25,9 @@ use Rattle.machine.specs.Saved.{keeps}
 abbrev pub statusWritten : ℕ → Machine → Machine
 statusWritten v m = withStatus (clearedBy v (m .status)) m
 
--- bits 0..17 are stored; bit 31 clears the pending interrupt; RUN going 0 to 1 sets the descriptor count to 0
-abbrev pub stored : ℕ → Machine → Machine
-stored v m =
+-- bits 0..17 are controlStored; bit 31 clears the pending interrupt; RUN going 0 to 1 sets the descriptor count to 0
+abbrev pub controlStored : ℕ → Machine → Machine
+controlStored v m =
     withControl (v % 2 ^ 18) (m .pending && not (clearInterrupt (asControl v))) (countFrom v (m .control) (m .count)) m
 
 -- RUN 0: Ended or Halted goes to Rest with BUSY 0. Faulted stays: only reset leaves it
@@ -41,11 +41,11 @@ released Halted m = rested m
 released (Faulted f) m = m
 
 -- in order: the reset, where bit 16 is written and already reads 1, and then the rest of the value is ignored; otherwise what
--- is stored, and RUN 0
+-- is controlStored, and RUN 0
 unfoldable pub controlWritten : ℕ → Machine → Machine
 controlWritten v m =
     cond (resetBy v (m .control)) (fresh (m .mode) (m .window))
-    (cond (run (asControl v)) (stored v m) (released (m .phase) (stored v m)))
+    (cond (run (asControl v)) (controlStored v m) (released (m .phase) (controlStored v m)))
 
 -- at an offset that is none nothing is written
 abbrev pub writtenTo : Machine → (offset v : ℕ) → Machine
@@ -62,8 +62,8 @@ writeOf m offset v = cond (keeps m) (wroteTo m offset v) (wrote.Refused BadImage
 -- ---- reading changes nothing
 
 -- a machine that breaks a rule comes before an offset that is none
-unfoldable pub readOf : Machine → (offset : ℕ) → ReadRegister
-readOf m offset = cond (keeps m) (registerAt (m .status) (m .control) (m .pointer) offset) (read.Refused BadImage)
+unfoldable pub readingOf : Machine → (offset : ℕ) → ReadRegister
+readingOf m offset = cond (keeps m) (registerAt (m .status) (m .control) (m .pointer) offset) (read.Refused BadImage)
 
 -- ---- the line
 
@@ -72,13 +72,13 @@ lineOf m = cond (keeps m) (cond (lineUp (m .control) (m .pending)) line.Up line.
 
 -- ---- the paper's number of each answer
 
-abbrev pub readNumber : ReadRegister → ℕ
-readNumber (read.Value v) = 0
-readNumber (read.Refused why) = refusalNumber why
+abbrev pub registerReadNumber : ReadRegister → ℕ
+registerReadNumber (read.Value v) = 0
+registerReadNumber (read.Refused why) = refusalNumber why
 
-abbrev pub wroteNumber : WroteRegister → ℕ
-wroteNumber (wrote.Done m) = 0
-wroteNumber (wrote.Refused why) = refusalNumber why
+abbrev pub registerWroteNumber : WroteRegister → ℕ
+registerWroteNumber (wrote.Done m) = 0
+registerWroteNumber (wrote.Refused why) = refusalNumber why
 
 abbrev pub lineNumber : Line → ℕ
 lineNumber line.Up = 0
@@ -91,20 +91,20 @@ registerNumber keeps known = cond keeps (cond known 0 1) 8
 
 -- ---- the promises
 
-pub record WasRead (m : Machine) (offset : ℕ) (r : ReadRegister) : Type 0 where
-  pub answer : r ≡ readOf m offset
-  pub number : readNumber r ≡ registerNumber (keeps m) (isRegister offset)
+pub record RegisterWasRead (m : Machine) (offset : ℕ) (r : ReadRegister) : Type 0 where
+  pub answer : r ≡ readingOf m offset
+  pub number : registerReadNumber r ≡ registerNumber (keeps m) (isRegister offset)
 
 pub record WasWritten (m : Machine) (offset v : ℕ) (r : WroteRegister) : Type 0 where
   pub answer : r ≡ writeOf m offset v
-  pub number : wroteNumber r ≡ registerNumber (keeps m) (isRegister offset)
+  pub number : registerWroteNumber r ≡ registerNumber (keeps m) (isRegister offset)
 
 pub record WasLine (m : Machine) (r : Line) : Type 0 where
   pub answer : r ≡ lineOf m
   pub number : lineNumber r ≡ registerNumber (keeps m) true
 
-pub read-unique : {m : Machine} {offset : ℕ} {r s : ReadRegister} → WasRead m offset r → WasRead m offset s → r ≡ s
-read-unique p q = p .answer ∙ sym (q .answer)
+pub reading-unique : {m : Machine} {offset : ℕ} {r s : ReadRegister} → RegisterWasRead m offset r → RegisterWasRead m offset s → r ≡ s
+reading-unique p q = p .answer ∙ sym (q .answer)
 
 pub written-unique : {m : Machine} {offset v : ℕ} {r s : WroteRegister} → WasWritten m offset v r → WasWritten m offset v s → r ≡ s
 written-unique p q = p .answer ∙ sym (q .answer)

@@ -15,7 +15,7 @@ use Rattle.image.specs.declared.ReadImage.the-variants as read
 use Rattle.image.specs.declared.WroteImage.{WroteImage}
 use Rattle.image.specs.declared.WroteImage.the-variants as wrote
 use Rattle.image.specs.Rules.{keepsRules}
-use Rattle.image.specs.Promise.{readOf, wroteOf, imageOver, imagePut, readNumber, wroteNumber}
+use Rattle.image.specs.Promise.{readOf, wroteOf, imageOver, imagePut, imageReadNumber, imageWroteNumber}
 use Rattle.image.specs.Promise as image
 use Rattle.machine.specs.declared.Machine.{Machine}
 use Rattle.machine.specs.declared.Work.{Work}
@@ -89,7 +89,7 @@ fieldsOf m =
       errors = inHand (m .phase) .errors;
       moved = inHand (m .phase) .moved;
       eop = inHand (m .phase) .eop;
-      rest = 0;
+      zero15 = 0;
       faultat = faultIn (m .phase) .address;
     }
 
@@ -150,7 +150,7 @@ saveOf m xs = savedAs (wroteOf (fieldsOf m) xs)
 
 -- the same of a machine that may break a rule: else 7, or 8 where a number does not fit its width
 unfoldable pub putOf : Machine → List ℕ → SavedMachine
-putOf m xs = savedAs (image.putOf (fieldsOf m) xs)
+putOf m xs = savedAs (image.imagePutOf (fieldsOf m) xs)
 
 -- the paper's number of each answer
 abbrev pub loadNumber : LoadedMachine → ℕ
@@ -165,16 +165,16 @@ saveNumber (saved.Refused why) = refusalNumber why
 
 pub record WasLoaded (xs : List ℕ) (r : LoadedMachine) : Type 0 where
   pub answer : r ≡ loadOf xs
-  pub number : loadNumber r ≡ readNumber (readOf xs)
+  pub number : loadNumber r ≡ imageReadNumber (readOf xs)
 
 pub record WasSaved (m : Machine) (xs : List ℕ) (r : SavedMachine) (after : List ℕ) : Type 0 where
   pub answer : r ≡ saveOf m xs
-  pub number : saveNumber r ≡ wroteNumber (wroteOf (fieldsOf m) xs)
+  pub number : saveNumber r ≡ imageWroteNumber (wroteOf (fieldsOf m) xs)
   pub lent : after ≡ imageOver (fieldsOf m) xs
 
-pub record WasPut (m : Machine) (xs : List ℕ) (r : SavedMachine) (after : List ℕ) : Type 0 where
+pub record MachineWasPut (m : Machine) (xs : List ℕ) (r : SavedMachine) (after : List ℕ) : Type 0 where
   pub answer : r ≡ putOf m xs
-  pub number : saveNumber r ≡ wroteNumber (image.putOf (fieldsOf m) xs)
+  pub number : saveNumber r ≡ imageWroteNumber (image.imagePutOf (fieldsOf m) xs)
   pub lent : after ≡ imagePut (fieldsOf m) xs
 
 pub loaded-unique : {xs : List ℕ} {r s : LoadedMachine} → WasLoaded xs r → WasLoaded xs s → r ≡ s
@@ -184,5 +184,5 @@ pub saved-unique : {m : Machine} {xs ys zs : List ℕ} {r s : SavedMachine}
     → WasSaved m xs r ys → WasSaved m xs s zs → (r ≡ s) × (ys ≡ zs)
 saved-unique p q = (p .answer ∙ sym (q .answer), p .lent ∙ sym (q .lent))
 
-pub put-unique : {m : Machine} {xs ys zs : List ℕ} {r s : SavedMachine} → WasPut m xs r ys → WasPut m xs s zs → (r ≡ s) × (ys ≡ zs)
-put-unique p q = (p .answer ∙ sym (q .answer), p .lent ∙ sym (q .lent))
+pub machine-put-unique : {m : Machine} {xs ys zs : List ℕ} {r s : SavedMachine} → MachineWasPut m xs r ys → MachineWasPut m xs s zs → (r ≡ s) × (ys ≡ zs)
+machine-put-unique p q = (p .answer ∙ sym (q .answer), p .lent ∙ sym (q .lent))

@@ -40,8 +40,8 @@ worldAt w m window beats took output room = laid w m window (drop took (beatsIn 
 abbrev pub midway : World → Machine → (window beats : List ℕ) (took : ℕ) (out : List ℕ) (made : ℕ) → World
 midway w m window beats took out made = worldAt w m window beats took (w .output) (length out / 2 - made)
 
-abbrev pub progress : Machine → (took made : ℕ) → Reached
-progress m took made = record { machine = m; taken = took; made = made }
+abbrev pub reachedAs : Machine → (took made : ℕ) → Reached
+reachedAs m took made = record { machine = m; taken = took; made = made }
 
 -- ---- the phases that stand until RUN is written 0
 
@@ -121,7 +121,7 @@ pub record Went (rule : World → Answer) (m : Machine) (window beats : List ℕ
 abbrev pub Advances : Machine → (window beats : List ℕ) (took : ℕ) (out : List ℕ) (made : ℕ) → Advanced → (window' out' : List ℕ) → Type 0
 Advances m window beats took out made r window' out' =
     Within beats out (r .taken) (r .made)
-    × Went (λ (w : World). steps (r .steps) w) m window beats took out made (progress (r .machine) (r .taken) (r .made)) window' out'
+    × Went (λ (w : World). steps (r .steps) w) m window beats took out made (reachedAs (r .machine) (r .taken) (r .made)) window' out'
 
 -- ---- the ledger
 
@@ -166,7 +166,7 @@ pub record Turned (rule : World → Answer) (m : Machine) (window beats : List �
 abbrev pub Turns : Machine → (window beats : List ℕ) (took : ℕ) (out : List ℕ) (made : ℕ) → Advanced → (window' out' : List ℕ) → Type 0
 Turns m window beats took out made r window' out' =
     Within beats out (r .taken) (r .made)
-    × Turned (λ (w : World). steps (r .steps) w) m window beats took out made (progress (r .machine) (r .taken) (r .made)) window' out'
+    × Turned (λ (w : World). steps (r .steps) w) m window beats took out made (reachedAs (r .machine) (r .taken) (r .made)) window' out'
 
 -- ---- what a step needs of a machine
 
@@ -226,7 +226,7 @@ abbrev pub Bursts : Mode → Window → Work → (most n errors : ℕ) (window b
     (made took' made' : ℕ) (window' out' : List ℕ) → Type 0
 Bursts mode place k most n errors window beats took out made took' made' window' out' =
     (m : Machine) → Moving mode place k most m
-    → Went (λ (w : World). steps n w) m window beats took out made (progress (onward m (movedBy k n errors)) took' made') window' out'
+    → Went (λ (w : World). steps n w) m window beats took out made (reachedAs (onward m (movedBy k n errors)) took' made') window' out'
 
 -- n bytes from the address a on stand at places from `at` on, or all at one where the address is fixed
 pub record Row (window : Window) (fixed : Bool) (a at n : ℕ) : Type 0 where

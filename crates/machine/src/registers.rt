@@ -5,7 +5,7 @@ ghost use Rattle.regs.specs.Control.{lineUp};
 ghost use Rattle.regs.specs.Offsets.{registerAt};
 ghost use Rattle.machine.specs.State.{fresh as freshOf, withPhase, withBusy, rested as restedOf};
 ghost use Rattle.machine.specs.Turns.{stands};
-ghost use Rattle.machine.specs.Registers.{writtenTo, wroteTo, WasRead, WasWritten, WasLine};
+ghost use Rattle.machine.specs.Registers.{writtenTo, wroteTo, RegisterWasRead, WasWritten, WasLine};
 use crate::Machine;
 use crate::Phase;
 use bus::Refusal;
@@ -165,7 +165,7 @@ impl Machine {
 // Registers and line of any machine: 8 for one that breaks a rule, before 1.
 impl Machine {
     pub fn read_register(self, offset: u32) -> ReadRegister
-        ensures { λ r. ⌜ WasRead self offset r ⌝ }
+        ensures { λ r. ⌜ RegisterWasRead self offset r ⌝ }
     {
         if !self.keeps() {
             return ReadRegister::Refused(Refusal::BadImage);

@@ -4,7 +4,7 @@ ghost use mathlib.Core.Path.{_≡_};
 ghost use Rattle.bus.specs.Window.{keepsLimits};
 ghost use Rattle.regs.specs.Modes.{modeOf};
 ghost use Rattle.machine.specs.declared.LoadedMachine.the-variants.{Good};
-ghost use Rattle.machine.specs.Saved.{inHand, faultIn, fieldsOf, keeps as keepsOf, workOf, phaseOf, machineOf, savedAs, WasLoaded, WasSaved, WasPut};
+ghost use Rattle.machine.specs.Saved.{inHand, faultIn, fieldsOf, keeps as keepsOf, workOf, phaseOf, machineOf, savedAs, WasLoaded, WasSaved, MachineWasPut};
 use crate::Fault;
 use crate::LoadedMachine;
 use crate::Machine;
@@ -177,7 +177,7 @@ impl Machine {
             errors: work.errors,
             moved: work.moved,
             eop: work.eop,
-            rest: 0,
+            zero15: 0,
             faultat: fault.address,
         }
     }
@@ -210,7 +210,7 @@ impl Machine {
     // Writes the 44 bytes of a machine that is known to keep the rules. It looks at the size and the widths alone: where the
     // slice is not of 44 bytes or a number does not fit its width it is refused, and nothing is written.
     pub fn put(self, to: &mut [u8]) -> SavedMachine
-        ensures { λ r. ⌜ WasPut self (now (to .entry)) r (now (to .exit)) ⌝ }
+        ensures { λ r. ⌜ MachineWasPut self (now (to .entry)) r (now (to .exit)) ⌝ }
     {
         saved_as(image::put(self.fields(), to))
     }

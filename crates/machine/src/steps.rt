@@ -16,7 +16,7 @@ ghost use Rattle.machine.specs.Step.{withByte, onward as onwardOf, beatF
 ghost use Rattle.machine.specs.Step.{fetched as fetchedOf, fetchStep, copyStep, sendStep, receiveFrom, moveStep, step as stepOf};
 ghost use Rattle.machine.specs.Run.{lent, back, servedIf, servedOf, readyOf, Stepped};
 ghost use Rattle.machine.specs.declared.Phase.the-variants.{Move, WriteBack};
-ghost use Rattle.machine.specs.Turns.{progress, inFault, Waits, Goes, servedAs, Within, Still, Went, Turned, Logs, Backs, Ready};
+ghost use Rattle.machine.specs.Turns.{reachedAs, inFault, Waits, Goes, servedAs, Within, Still, Went, Turned, Logs, Backs, Ready};
 use crate::Fault;
 use crate::Machine;
 use crate::Phase;
@@ -186,7 +186,7 @@ impl Machine {
 
     // The machine, where so many beats are taken and made.
     fn at(self, taken: usize, made: usize) -> Reached
-        ensures { λ r. ⌜ r ≡ progress self taken made ⌝ }
+        ensures { λ r. ⌜ r ≡ reachedAs self taken made ⌝ }
     {
         Reached {
             machine: self,

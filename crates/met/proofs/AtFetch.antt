@@ -20,12 +20,12 @@ use Rattle.machine.specs.declared.Machine.{Machine}
 use Rattle.machine.specs.declared.Phase.the-variants.{Rest, Move}
 use Rattle.machine.specs.State.{withPhase, withPointer}
 use Rattle.machine.specs.Step.{World, ended, wantsLength, begun, fetched, fetchStep}
-use Rattle.met.proofs.Kept.{Kept, on}
+use Rattle.met.proofs.Kept.{RulesKept, on}
 use Rattle.met.proofs.Memory.{descriptor-typed}
 use Rattle.met.proofs.Worlds.{KeptWorld, After, became-kept, phase-after, fault-after}
 
 -- OWNED 0 ends the chain
-ended-kept : {m : Machine} → Kept m → m .status .busy ≡ true → run (m .control) ≡ true → Kept (ended m)
+ended-kept : {m : Machine} → RulesKept m → m .status .busy ≡ true → run (m .control) ≡ true → RulesKept (ended m)
 ended-kept k b r =
     record {
       limits = k .limits;
@@ -61,7 +61,7 @@ module _ {w : World} (h : KeptWorld w) (b : w .machine .status .busy ≡ true) (
 
   -- the fields are kept
   begun-kept : (d : Descriptor) → Typed (jobOf d) → a % 4 ≡ 0 → inWindow (m .window) a 32 ≡ true → owned (d .control .0) ≡ true
-      → (wantsLength (m .mode) && eqb (d .length) 0) ≡ false → Kept (withPhase (Move (begun a d)) (withPointer (d .next) m))
+      → (wantsLength (m .mode) && eqb (d .length) 0) ≡ false → RulesKept (withPhase (Move (begun a d)) (withPointer (d .next) m))
   begun-kept d t aligned inside o z =
       let k = h .machine in
       record {

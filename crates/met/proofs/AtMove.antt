@@ -20,13 +20,13 @@ use Rattle.machine.specs.declared.Work.{Work}
 use Rattle.machine.specs.declared.Phase.the-variants.{Move, WriteBack}
 use Rattle.machine.specs.Step.{World, wantsLength, whole, sourceOf, destinationOf, withByte, onward, copyStep, sendTo, sendStep, receiveFrom, moveStep}
 use Rattle.met.specs.Sound.{AllBeats}
-use Rattle.met.proofs.Kept.{Hand, Moving, Suits, Kept, moves-to, on, neither}
+use Rattle.met.proofs.Kept.{Hand, Moving, Suits, RulesKept, moves-to, on, neither}
 use Rattle.met.proofs.Memory.{get-byte, set-bytes}
 use Rattle.met.proofs.Worlds.{KeptWorld, After, fault-after}
 
 -- ---- one byte more
 
-module _ {m : Machine} (k : Kept m) (d : Work) (busy : m .status .busy ≡ true) (h : Hand (m .mode) (m .window) d) (g : Moving (m .mode) d)
+module _ {m : Machine} (k : RulesKept m) (d : Work) (busy : m .status .busy ≡ true) (h : Hand (m .mode) (m .window) d) (g : Moving (m .mode) d)
     (errors : ℕ) (eop : Bool) (low : errors < 128) (clean : wantsLength (m .mode) ≡ true → (errors ≡ 0) × (eop ≡ false)) where
   abbrev e : Work
   e = withByte errors eop d
@@ -66,7 +66,7 @@ module _ {m : Machine} (k : Kept m) (d : Work) (busy : m .status .busy ≡ true)
       let ne = eqb-false (d .moved + 1) (whole m e) (n .1) in
       (busy, byte-hand, record { less = omega arith; eop = n .0; errors = λ z. absurd (omega arith) })
 
-  onward-kept : Kept (onward m e)
+  onward-kept : RulesKept (onward m e)
   unfolding onward
   onward-kept = moves-to k _ (m .status .busy) (on (Suits m) over to-back on-with)
 
@@ -81,7 +81,7 @@ module _ {w : World} (h : KeptWorld w) (d : Work) (busy : w .machine .status .bu
   m = w .machine
 
   -- a byte of no beat
-  plain-kept : Kept (onward m (withByte 0 false d))
+  plain-kept : RulesKept (onward m (withByte 0 false d))
   plain-kept = onward-kept (h .machine) d busy g l 0 false (omega arith) (λ r. (refl, refl))
 
   copy-after : m .mode ≡ MemoryToMemory → After (copyStep w d)

@@ -17,7 +17,7 @@ use Rattle.image.proofs.Tests.{and-left}
 use Rattle.machine.specs.declared.Machine.{Machine}
 use Rattle.machine.specs.declared.Work.{Work}
 use Rattle.machine.specs.Step.{World, wantsLength, writtenControl, writtenBack, afterBack, completed, backTo, writeBackStep}
-use Rattle.met.proofs.Kept.{Hand, InPhase, Kept, on, neither}
+use Rattle.met.proofs.Kept.{Hand, InPhase, RulesKept, on, neither}
 use Rattle.met.proofs.Memory.{row-bytes, put-bytes, length-put-at}
 use Rattle.met.proofs.Worlds.{KeptWorld, After}
 
@@ -39,13 +39,13 @@ back-phase mode w true true h = (refl, refl, h refl)
 back-phase mode w true false h = refl
 back-phase mode w false halts h = refl
 
-module _ {m : Machine} (k : Kept m) (d : Work) (h : Hand (m .mode) (m .window) d) where
+module _ {m : Machine} (k : RulesKept m) (d : Work) (h : Hand (m .mode) (m .window) d) where
   -- errors only in mode 2
   failed-streams : (b : Bool) → wantsLength (m .mode) ≡ b → not (eqb (d .errors) 0) ≡ true → b ≡ false
   failed-streams true r f = sym f ∙ ap not (eq-eqb _ _ (h .clean r))
   failed-streams false r f = refl
 
-  completed-kept : Kept (completed m d)
+  completed-kept : RulesKept (completed m d)
   unfolding completed
   completed-kept =
       record {

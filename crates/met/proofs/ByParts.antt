@@ -29,7 +29,7 @@ use Rattle.machine.specs.Saved.{none, inHand, faultIn, fieldsOf}
 use Rattle.machine.specs.Step.{wantsLength}
 use Rattle.met.specs.Sound.{Sound}
 use Rattle.met.proofs.Numbers.{status-lt-32, error-bit, eop-bit, busy-bit}
-use Rattle.met.proofs.Kept.{Hand, Moving, Moved, Suits, Kept}
+use Rattle.met.proofs.Kept.{Hand, Moving, Moved, Suits, RulesKept}
 
 -- ---- tests from facts
 
@@ -74,12 +74,12 @@ status-rule mode n s b h =
 
 -- the rules of the descriptor in hand, at a phase's number
 record HandRules (mode : Mode) (w : Window) (n : ℕ) (k : Work) : Type 0 where
-  address : rule.addressKept (rule.inHand n) (w .base) (w .length) (k .at) ≡ true
-  source : rule.zeroOutside (rule.inHand n) (k .source) ≡ true
-  destination : rule.zeroOutside (rule.inHand n) (k .destination) ≡ true
-  size : rule.sizeKept (modeNumber mode) (rule.inHand n) (k .length) ≡ true
-  dcontrol : rule.dcontrolKept (rule.inHand n) (k .control .0) ≡ true
-  errors : rule.errorsKept (modeNumber mode) (rule.inHand n) (k .errors) ≡ true
+  address : rule.addressKept (rule.working n) (w .base) (w .length) (k .at) ≡ true
+  source : rule.zeroOutside (rule.working n) (k .source) ≡ true
+  destination : rule.zeroOutside (rule.working n) (k .destination) ≡ true
+  size : rule.sizeKept (modeNumber mode) (rule.working n) (k .length) ≡ true
+  dcontrol : rule.dcontrolKept (rule.working n) (k .control .0) ≡ true
+  errors : rule.errorsKept (modeNumber mode) (rule.working n) (k .errors) ≡ true
   moved : rule.movedKept n (rule.asked (modeNumber mode) (k .length)) (k .errors) (k .moved) ≡ true
   eop : rule.eopKept (modeNumber mode) n (rule.asked (modeNumber mode) (k .length)) (k .moved) (k .eop) ≡ true
 
@@ -98,7 +98,7 @@ module _ (mode : Mode) (w : Window) (n : ℕ) where
         eop = rw (a, b, or-true (not (either 0 1 (modeNumber mode))));
       }
 
-  in-hand : (k : Work) → rule.inHand n ≡ true → Hand mode w k
+  in-hand : (k : Work) → rule.working n ≡ true → Hand mode w k
       → rule.movedKept n (rule.asked (modeNumber mode) (k .length)) (k .errors) (k .moved) ≡ true
       → rule.eopKept (modeNumber mode) n (rule.asked (modeNumber mode) (k .length)) (k .moved) (k .eop) ≡ true
       → HandRules mode w n k
@@ -134,7 +134,7 @@ module _ (mode : Mode) (w : Window) (k : Work) (h : Hand mode w k) where
 -- ---- from the parts to the rules
 
 -- at a phase
-module _ (m : Machine) (p : Phase) (k : Kept m) where
+module _ (m : Machine) (p : Phase) (k : RulesKept m) where
   abbrev at : ℕ
   at = phaseNumber p
 
@@ -160,11 +160,11 @@ module _ (m : Machine) (p : Phase) (k : Kept m) where
         errors = hand .errors;
         moved = hand .moved;
         eop = hand .eop;
-        rest = refl;
+        zero15 = refl;
         faultat = faultat;
       }
 
-each-in : (m : Machine) (p : Phase) → Kept m → Suits m p → Each (fieldsOf (withPhase p m))
+each-in : (m : Machine) (p : Phase) → RulesKept m → Suits m p → Each (fieldsOf (withPhase p m))
 each-in m Rest k h = each-at m Rest k refl refl h refl (no-hand (m .mode) (m .window) 0 refl refl) refl
 each-in m Fetch k h = each-at m Fetch k refl refl h refl (no-hand (m .mode) (m .window) 1 refl refl) refl
 each-in m (Move w) k (b, h, g) =
@@ -187,7 +187,7 @@ asked-lt mode n h = pick (eqb mode 2 && eqb n 0)
     pick true = omega arith
     pick false = h
 
-typed-in : (m : Machine) (p : Phase) → Kept m → Suits m p → Typed (fieldsOf (withPhase p m))
+typed-in : (m : Machine) (p : Phase) → RulesKept m → Suits m p → Typed (fieldsOf (withPhase p m))
 typed-in m Rest k h = let a = k .pointer in omega arith
 typed-in m Fetch k h = let a = k .pointer in omega arith
 typed-in m (Move w) k (b, h, g) =
@@ -202,7 +202,7 @@ typed-in m Ended k h = let a = k .pointer in omega arith
 typed-in m Halted k h = let a = k .pointer in omega arith
 typed-in m (Faulted f) k (b, c, h) = let a = k .pointer in omega arith
 
-pub kept-sound : {m : Machine} → Kept m → Sound m
+pub kept-sound : {m : Machine} → RulesKept m → Sound m
 kept-sound {m} k =
     record {
       rules = keeps (fieldsOf m) (each-keeps (fieldsOf m) (each-in m (m .phase) k (k .phase)));
@@ -215,7 +215,7 @@ module _ (m : Machine) (p : Phase) (e : lowestBroken (fieldsOf (withPhase p m)) 
   busy-in : m .status .busy ≡ between 1 4 (phaseNumber p)
   busy-in = sym (busy-bit (m .status)) ∙ fact.busy-is (fieldsOf (withPhase p m)) e
 
-  hand-in : rule.inHand (phaseNumber p) ≡ true → Hand (m .mode) (m .window) (inHand p)
+  hand-in : rule.working (phaseNumber p) ≡ true → Hand (m .mode) (m .window) (inHand p)
   hand-in h =
       let f = fieldsOf (withPhase p m) in
       record {
@@ -257,7 +257,7 @@ in-phase m Halted e t = (
 in-phase m (Faulted f) e t =
     (busy-in m (Faulted f) e t, fact.fault-code (fieldsOf (withPhase (Faulted f) m)) e refl, t .faultat)
 
-pub sound-kept : {m : Machine} → Sound m → Kept m
+pub sound-kept : {m : Machine} → Sound m → RulesKept m
 sound-kept {m} s =
     let f = fieldsOf m in
     let e = kept-none f (s .rules) in

@@ -15,7 +15,7 @@ use Rattle.machine.specs.declared.Reason.the-variants as reason
 use Rattle.machine.specs.declared.registers.WroteRegister.{WroteRegister}
 use Rattle.machine.specs.declared.registers.WroteRegister.the-variants.{Done, Refused}
 use Rattle.machine.specs.Saved.{keeps}
-use Rattle.machine.specs.Registers.{stored, released, controlWritten, writeOf}
+use Rattle.machine.specs.Registers.{controlStored, released, controlWritten, writeOf}
 use Rattle.machine.specs.Step.{step, stepIn}
 use Rattle.machine.proofs.RunLaws.{run-stopped}
 use Rattle.met.specs.Faults.{AfterWrite, stays, reset}
@@ -32,8 +32,8 @@ After m f v offset (Done n) = AfterWrite m f offset v n
 After m f v offset (Refused why) = Unit {0}
 
 module _ (m : Machine) (f : Fault) (p : m .phase ≡ Faulted f) (v : ℕ) where
-  released-stays : released (m .phase) (stored v m) .phase ≡ Faulted f
-  released-stays = ap (λ (q : Phase). released q (stored v m) .phase) p ∙ p
+  released-stays : released (m .phase) (controlStored v m) .phase ≡ Faulted f
+  released-stays = ap (λ (q : Phase). released q (controlStored v m) .phase) p ∙ p
 
   after-control : (offset : ℕ) → offset ≡ 4 → AfterWrite m f offset v (controlWritten v m)
   unfolding controlWritten

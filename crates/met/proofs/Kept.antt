@@ -62,7 +62,7 @@ InPhase mode w busy run (Faulted f) =
 abbrev pub Suits : Machine → Phase → Type 0
 Suits m p = InPhase (m .mode) (m .window) (m .status .busy) (run (m .control)) p
 
-pub record Kept (m : Machine) : Type 0 where
+pub record RulesKept (m : Machine) : Type 0 where
   pub limits : keepsLimits (m .window .base) (m .window .length) ≡ true
   pub marks : wantsLength (m .mode) ≡ true → (m .status .error || m .status .eop) ≡ false
   pub control : m .control .0 < 262144
@@ -71,8 +71,8 @@ pub record Kept (m : Machine) : Type 0 where
   pub phase : Suits m (m .phase)
 
 -- where only the phase and BUSY change, only what the phase asks is to be shown again
-pub moves-to : {m : Machine} → Kept m → (p : Phase) (busy : Bool) → InPhase (m .mode) (m .window) busy (run (m .control)) p
-    → Kept (withPhase p (withBusy busy m))
+pub moves-to : {m : Machine} → RulesKept m → (p : Phase) (busy : Bool) → InPhase (m .mode) (m .window) busy (run (m .control)) p
+    → RulesKept (withPhase p (withBusy busy m))
 moves-to k p busy h =
     record { limits = k .limits; marks = k .marks; control = k .control; pointer = k .pointer; count = k .count; phase = h }
 

@@ -94,7 +94,7 @@ phase-back (Faulted g) = refl
 
 module _ (k : Work) (g : Fault) where
   -- the number comes back, and what the phase keeps, where the rest is zero
-  pub phase-there : (n : ℕ) → n ≤ 6 → (rule.inHand n ≡ false → k ≡ none) → (rule.inFaulted n ≡ false → g ≡ noFault)
+  pub phase-there : (n : ℕ) → n ≤ 6 → (rule.working n ≡ false → k ≡ none) → (rule.inFaulted n ≡ false → g ≡ noFault)
       → (phaseNumber (phaseBy n k g) ≡ n) × (inHand (phaseBy n k g) ≡ k) × (faultIn (phaseBy n k g) ≡ g)
   phase-there zero h e f = (refl, sym (e refl), sym (f refl))
   phase-there (suc zero) h e f = (refl, sym (e refl), sym (f refl))

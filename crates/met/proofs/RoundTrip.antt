@@ -13,9 +13,9 @@ use Rattle.image.specs.declared.Fields.{Fields}
 use Rattle.image.specs.declared.ReadImage.{ReadImage}
 use Rattle.image.specs.declared.ReadImage.the-variants as read
 use Rattle.image.specs.Layout.{image, Typed}
-use Rattle.image.specs.Rules.{lowestBroken, inHand, inFaulted}
+use Rattle.image.specs.Rules.{lowestBroken, working, inFaulted}
 use Rattle.image.specs.Promise.{readOf}
-use Rattle.image.proofs.Facts.{edition-is, mode-le, phase-le, armed-is, status-lt, rest-is, fault-none, faultat-none, no-address, no-source, no-destination, no-size, no-dcontrol, no-errors, no-moved, no-eop}
+use Rattle.image.proofs.Facts.{edition-is, mode-le, phase-le, armed-is, status-lt, zero15-is, fault-none, faultat-none, no-address, no-source, no-destination, no-size, no-dcontrol, no-errors, no-moved, no-eop}
 use Rattle.image.proofs.Answers.{keeps, kept-none, good-keeps, good-image, good-typed, read-image, wrote-done}
 use Rattle.machine.specs.declared.Machine.{Machine}
 use Rattle.machine.specs.declared.LoadedMachine.the-variants.{Good}
@@ -42,7 +42,7 @@ machine-back m = λ i. record {
 
 -- descriptor fields are zero outside Move and WriteBack, code and address outside Faulted
 module _ (f : Fields) (e : lowestBroken f ≡ 0) where
-  no-work : inHand (f .phase) ≡ false → core.workOf f ≡ core.none
+  no-work : working (f .phase) ≡ false → core.workOf f ≡ core.none
   no-work h = λ i. record {
     at = no-address f e h i;
     source = no-source f e h i;
@@ -83,7 +83,7 @@ module _ (f : Fields) (e : lowestBroken f ≡ 0) where
         errors = p .1 i .errors;
         moved = p .1 i .moved;
         eop = p .1 i .eop;
-        rest = sym (rest-is f e) i;
+        zero15 = sym (zero15-is f e) i;
         faultat = p .2 i .address;
       }
 

@@ -14,11 +14,11 @@ use Rattle.machine.specs.declared.Phase.the-variants.{Fetch, Faulted}
 use Rattle.machine.specs.State.{withPhase, withBusy}
 use Rattle.machine.specs.Step.{World, Answer, taken, stopped, became, faulted, restStep}
 use Rattle.met.specs.Sound.{AllBeats, SoundWorld}
-use Rattle.met.proofs.Kept.{InPhase, Kept, moves-to, on}
+use Rattle.met.proofs.Kept.{InPhase, RulesKept, moves-to, on}
 use Rattle.met.proofs.ByParts.{kept-sound, sound-kept}
 
 pub record KeptWorld (w : World) : Type 0 where
-  pub machine : Kept (w .machine)
+  pub machine : RulesKept (w .machine)
   pub size : length (w .memory) ≡ w .machine .window .length
   pub memory : AllBytes (w .memory)
   pub input : AllBeats (w .input)
@@ -38,7 +38,7 @@ After (stopped r) = Unit {0}
 
 module _ {w : World} (h : KeptWorld w) where
   -- the machine alone changes, and not its window
-  pub became-kept : (m : Machine) → m .window ≡ w .machine .window → Kept m → KeptWorld (became w m)
+  pub became-kept : (m : Machine) → m .window ≡ w .machine .window → RulesKept m → KeptWorld (became w m)
   became-kept m e k =
       record { machine = k; size = rw e (h .size); memory = h .memory; input = h .input }
 

@@ -19,13 +19,13 @@ use Rattle.machine.specs.declared.registers.WroteRegister.{WroteRegister}
 use Rattle.machine.specs.declared.registers.WroteRegister.the-variants.{Done, Refused}
 use Rattle.machine.specs.State.{withPointer, withPhase, withBusy, fresh}
 use Rattle.machine.specs.Saved.{keeps}
-use Rattle.machine.specs.Registers.{statusWritten, stored, released, controlWritten, writeOf}
+use Rattle.machine.specs.Registers.{statusWritten, controlStored, released, controlWritten, writeOf}
 use Rattle.met.specs.Sound.{Sound}
 use Rattle.met.specs.Theorems.{WriteKeeps}
-use Rattle.met.proofs.Kept.{InPhase, Suits, Kept, on, neither}
+use Rattle.met.proofs.Kept.{InPhase, Suits, RulesKept, on, neither}
 use Rattle.met.proofs.ByParts.{kept-sound, sound-kept}
 
-fresh-kept : (mode : Mode) (w : Window) → keepsLimits (w .base) (w .length) ≡ true → Kept (fresh mode w)
+fresh-kept : (mode : Mode) (w : Window) → keepsLimits (w .base) (w .length) ≡ true → RulesKept (fresh mode w)
 fresh-kept mode w l =
     record { limits = l; marks = λ r. refl; control = omega arith; pointer = omega arith; count = omega arith; phase = refl }
 
@@ -53,11 +53,11 @@ run-stored v =
     ap (λ (n : ℕ). eqb n 1) same
 
 abbrev AfterWrite : WroteRegister → Type 0
-AfterWrite (Done n) = Kept n
+AfterWrite (Done n) = RulesKept n
 AfterWrite (Refused why) = Unit {0}
 
-module _ (v : ℕ) {m : Machine} (k : Kept m) where
-  status-kept : Kept (statusWritten v m)
+module _ (v : ℕ) {m : Machine} (k : RulesKept m) where
+  status-kept : RulesKept (statusWritten v m)
   status-kept =
       record {
         limits = k .limits;
@@ -68,13 +68,13 @@ module _ (v : ℕ) {m : Machine} (k : Kept m) where
         phase = k .phase;
       }
 
-  pointer-kept : v < 4294967296 → Kept (withPointer v m)
+  pointer-kept : v < 4294967296 → RulesKept (withPointer v m)
   pointer-kept h =
       record { limits = k .limits; marks = k .marks; control = k .control; pointer = h; count = k .count; phase = k .phase }
 
-  -- what is stored, in a phase that the new RUN serves
+  -- what is controlStored, in a phase that the new RUN serves
   stored-as : (p : Phase) (busy : Bool) → InPhase (m .mode) (m .window) busy (bit 5 (v % 262144)) p
-      → Kept (withPhase p (withBusy busy (stored v m)))
+      → RulesKept (withPhase p (withBusy busy (controlStored v m)))
   stored-as p busy h =
       record {
         limits = k .limits;
@@ -89,13 +89,13 @@ module _ (v : ℕ) {m : Machine} (k : Kept m) where
       pick true = omega arith
       pick false = k .count
 
-  stored-kept : bit 5 v ≡ true → Kept (stored v m)
+  stored-kept : bit 5 v ≡ true → RulesKept (controlStored v m)
   stored-kept e =
       let h = runs-in (m .mode) (m .window) (m .status .busy) (run (m .control)) (m .phase) (k .phase) in
       stored-as (m .phase) (m .status .busy)
       (subst (λ (b : Bool). InPhase (m .mode) (m .window) (m .status .busy) b (m .phase)) (sym (run-stored v ∙ e)) h)
 
-  released-kept : (p : Phase) → Suits m p → Kept (released p (withPhase p (stored v m)))
+  released-kept : (p : Phase) → Suits m p → RulesKept (released p (withPhase p (controlStored v m)))
   released-kept Rest h = stored-as Rest (m .status .busy) h
   released-kept Fetch h = stored-as Fetch (m .status .busy) h
   released-kept (Move d) h = stored-as (Move d) (m .status .busy) h
@@ -104,18 +104,18 @@ module _ (v : ℕ) {m : Machine} (k : Kept m) where
   released-kept Halted h = stored-as Rest false refl
   released-kept (Faulted f) h = stored-as (Faulted f) (m .status .busy) h
 
-  control-kept : Kept (controlWritten v m)
+  control-kept : RulesKept (controlWritten v m)
   unfolding controlWritten
   control-kept =
-      on Kept (bit 16 v && swReset (m .control)) (λ e. fresh-kept (m .mode) (m .window) (k .limits))
-      (λ e. on Kept (bit 5 v) stored-kept (λ f. released-kept (m .phase) (k .phase)))
+      on RulesKept (bit 16 v && swReset (m .control)) (λ e. fresh-kept (m .mode) (m .window) (k .limits))
+      (λ e. on RulesKept (bit 5 v) stored-kept (λ f. released-kept (m .phase) (k .phase)))
 
   write-after : v < 4294967296 → (offset : ℕ) → AfterWrite (writeOf m offset v)
   unfolding writeOf
   write-after h offset =
       on AfterWrite (keeps m)
       (λ e. on AfterWrite (isRegister offset)
-      (λ r. on Kept (eqb offset 0) (λ a. status-kept) (λ a. on Kept (eqb offset 4) (λ b. control-kept) (λ b. on Kept (eqb offset 8) (λ c. pointer-kept h) (λ c. k))))
+      (λ r. on RulesKept (eqb offset 0) (λ a. status-kept) (λ a. on RulesKept (eqb offset 4) (λ b. control-kept) (λ b. on RulesKept (eqb offset 8) (λ c. pointer-kept h) (λ c. k))))
       (λ r. tt))
       (λ e. tt)
 

@@ -11,7 +11,7 @@ use Rattle.bus.specs.declared.Refusal.{Refusal}
 use Rattle.bus.specs.declared.Refusal.the-variants.{BadSize, BadImage}
 use Rattle.descriptor.specs.declared.ReadDescriptor.{ReadDescriptor}
 use Rattle.descriptor.specs.declared.ReadDescriptor.the-variants as descriptor
-use Rattle.descriptor.specs.Calls.{WasRead as ReadBack, readNumber as descriptorNumber}
+use Rattle.descriptor.specs.Calls.{DescriptorWasRead, descriptorNumber}
 use Rattle.regs.specs.declared.ReadRegister.{ReadRegister}
 use Rattle.regs.specs.declared.ReadRegister.the-variants as register
 use Rattle.regs.specs.Control.{lineUp}
@@ -27,16 +27,16 @@ use Rattle.machine.specs.declared.registers.Line.{Line}
 use Rattle.machine.specs.declared.registers.Line.the-variants as line
 use Rattle.machine.specs.Run.{reasonNumber}
 use Rattle.machine.specs.Saved.{loadOf}
-use Rattle.machine.specs.Registers.{readNumber, lineNumber}
+use Rattle.machine.specs.Registers.{registerReadNumber, lineNumber}
 use Rattle.sgdma.specs.Calls.{registerOf, readCall, valueOver, RegisterRead, lineIn, lineCall, lineOver, LineRead, reportOver, descriptorCall, answerOver, DescriptorRead}
 use Rattle.sgdma.proofs.Opened.{first-wrong, second-wrong, sizes-right, not-loaded, register-loaded, line-loaded}
 
 -- ---- sgdma_read_register
 
 module _ {xs value ys : List ℕ} {offset r : ℕ} where
-  answers : (a : ReadRegister) → readCall xs offset value ≡ a → r ≡ readNumber a → ys ≡ valueOver a value → RegisterRead xs offset value r ys
+  answers : (a : ReadRegister) → readCall xs offset value ≡ a → r ≡ registerReadNumber a → ys ≡ valueOver a value → RegisterRead xs offset value r ys
   answers a e p q =
-      record { number = p ∙ sym (ap readNumber e); value-after = q ∙ sym (ap (λ (b : ReadRegister). valueOver b value) e) }
+      record { number = p ∙ sym (ap registerReadNumber e); value-after = q ∙ sym (ap (λ (b : ReadRegister). valueOver b value) e) }
 
   pub register-short : (length xs ≡ 44 → ⊥) → r ≡ 7 → ys ≡ value → RegisterRead xs offset value r ys
   unfolding readCall
@@ -55,7 +55,7 @@ module _ {xs value ys : List ℕ} {offset r : ℕ} where
           (sizes-right _ _ 4 xs value l k ∙ ap (λ (x : LoadedMachine). registerOf x offset) (not-loaded xs why l e)) p q
 
       pub register-answers : {m : Machine} {a b : ReadRegister} → loadOf xs ≡ loaded.Good m → Gives (registerAt (m .status) (m .control) (m .pointer) offset) a → a ≡ b
-          → r ≡ readNumber b → ys ≡ valueOver b value → RegisterRead xs offset value r ys
+          → r ≡ registerReadNumber b → ys ≡ valueOver b value → RegisterRead xs offset value r ys
       unfolding readCall
       register-answers {m} {a} {b} e w f p q =
           answers b (sizes-right _ _ 4 xs value l k ∙ ap (λ (x : LoadedMachine). registerOf x offset) e ∙ sym (register-loaded xs e offset w .answer) ∙ f) p q
@@ -110,7 +110,7 @@ module _ {window answer ys : List ℕ} {base a r : ℕ} where
   unfolding descriptorCall
   answer-short h p q = found-as (descriptor.Refused BadSize) (rw (ne-eqb (length answer) 18 h)) p q
 
-  pub descriptor-answers : {d e : ReadDescriptor} → length answer ≡ 18 → ReadBack window base a d → d ≡ e
+  pub descriptor-answers : {d e : ReadDescriptor} → length answer ≡ 18 → DescriptorWasRead window base a d → d ≡ e
       → r ≡ descriptorNumber e → ys ≡ answerOver e answer → DescriptorRead window base a answer r ys
   unfolding descriptorCall
   descriptor-answers {d} {e} l w f p q = found-as e (rw (eq-eqb (length answer) 18 l) (sym (w .answer) ∙ f)) p q

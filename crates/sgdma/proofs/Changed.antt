@@ -27,7 +27,7 @@ use Rattle.machine.specs.declared.registers.WroteRegister.{WroteRegister}
 use Rattle.machine.specs.declared.registers.WroteRegister.the-variants as wrote
 use Rattle.machine.specs.State.{fresh}
 use Rattle.machine.specs.Saved.{keeps, loadedAs, loadOf, WasLoaded}
-use Rattle.machine.specs.Registers.{wroteTo, wroteNumber, WasWritten}
+use Rattle.machine.specs.Registers.{wroteTo, registerWroteNumber, WasWritten}
 use Rattle.machine.proofs.Answers.{was-loaded}
 use Rattle.met.specs.Sound.{Sound}
 use Rattle.met.proofs.RoundTrip.{loaded-keeps, loaded-typed}
@@ -49,9 +49,9 @@ written-keeps xs {m} {n} offset v e h g f =
     write-keeps m n offset v (sound-loaded xs e) h (subst (λ (x : WroteRegister). WasWritten m offset v x) f (write-loaded xs e offset v g)) .rules
 
 module _ {xs ys : List ℕ} {offset v r : ℕ} where
-  says : (a : WroteRegister) → writtenIn (loadOf xs) offset v ≡ a → r ≡ wroteNumber a → ys ≡ writtenOver a xs → RegisterWritten xs offset v r ys
+  says : (a : WroteRegister) → writtenIn (loadOf xs) offset v ≡ a → r ≡ registerWroteNumber a → ys ≡ writtenOver a xs → RegisterWritten xs offset v r ys
   says a e p q =
-      record { number = p ∙ sym (ap wroteNumber e); image-after = q ∙ sym (ap (λ (b : WroteRegister). writtenOver b xs) e) }
+      record { number = p ∙ sym (ap registerWroteNumber e); image-after = q ∙ sym (ap (λ (b : WroteRegister). writtenOver b xs) e) }
 
   pub image-short : (length xs ≡ 44 → ⊥) → r ≡ 7 → ys ≡ xs → RegisterWritten xs offset v r ys
   unfolding loadOf
@@ -62,7 +62,7 @@ module _ {xs ys : List ℕ} {offset v r : ℕ} where
       says (wrote.Refused BadImage) (ap (λ (x : LoadedMachine). writtenIn x offset v) (not-loaded xs why l e)) p q
 
   pub write-answers : {m : Machine} {w b : WroteRegister} → loadOf xs ≡ Good m → Gives (wroteTo m offset v) w → w ≡ b
-      → r ≡ wroteNumber b → ys ≡ writtenOver b xs → RegisterWritten xs offset v r ys
+      → r ≡ registerWroteNumber b → ys ≡ writtenOver b xs → RegisterWritten xs offset v r ys
   write-answers {m} {w} {b} e g f p q =
       says b (ap (λ (x : LoadedMachine). writtenIn x offset v) e ∙ sym (write-loaded xs e offset v g .answer) ∙ f) p q
 

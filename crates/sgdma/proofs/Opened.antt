@@ -24,7 +24,7 @@ use Rattle.machine.specs.declared.LoadedMachine.the-variants.{Good, Refused}
 use Rattle.machine.specs.declared.registers.WroteRegister.{WroteRegister}
 use Rattle.machine.specs.declared.registers.Line.the-variants as line
 use Rattle.machine.specs.Saved.{keeps, loadedAs, loadOf}
-use Rattle.machine.specs.Registers.{readOf, wroteTo, lineOf, WasRead, WasWritten}
+use Rattle.machine.specs.Registers.{readingOf, wroteTo, lineOf, RegisterWasRead, WasWritten}
 use Rattle.machine.proofs.Answers.{was-loaded, was-register, was-written}
 use Rattle.machine.proofs.Writes.{write-kept}
 use Rattle.met.proofs.RoundTrip.{loaded-keeps}
@@ -59,8 +59,8 @@ module _ (xs : List ℕ) {m : Machine} (e : loadOf xs ≡ Good m) where
   keeps-loaded =
       loaded-keeps (was-loaded (sym e))
 
-  pub register-loaded : (offset : ℕ) {a : ReadRegister} → Gives (registerAt (m .status) (m .control) (m .pointer) offset) a → WasRead m offset a
-  unfolding readOf
+  pub register-loaded : (offset : ℕ) {a : ReadRegister} → Gives (registerAt (m .status) (m .control) (m .pointer) offset) a → RegisterWasRead m offset a
+  unfolding readingOf
   register-loaded offset g = was-register (rw keeps-loaded (g .value))
 
   pub write-loaded : (offset v : ℕ) {w : WroteRegister} → Gives (wroteTo m offset v) w → WasWritten m offset v w

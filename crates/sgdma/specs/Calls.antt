@@ -13,7 +13,7 @@ use Rattle.bus.specs.Window.{keepsLimits}
 use Rattle.descriptor.specs.declared.Job.{Job}
 use Rattle.descriptor.specs.declared.ReadDescriptor.{ReadDescriptor}
 use Rattle.descriptor.specs.declared.ReadDescriptor.the-variants as descriptor
-use Rattle.descriptor.specs.Calls.{slotOf, found, built, withJob, builtNumber, readNumber as descriptorNumber}
+use Rattle.descriptor.specs.Calls.{slotOf, found, built, withJob, builtNumber, descriptorNumber}
 use Rattle.answers.specs.Answers.{valueBytes, reportBytes, descriptorBytes}
 use Rattle.regs.specs.declared.ReadRegister.{ReadRegister}
 use Rattle.regs.specs.declared.ReadRegister.the-variants as register
@@ -32,7 +32,7 @@ use Rattle.machine.specs.declared.RunAnswer.the-variants as ran
 use Rattle.machine.specs.State.{fresh}
 use Rattle.machine.specs.Run.{run, reasonNumber, Lent, Returned, asLent, servedOf, worldOf, returned, runAnswer, runNumber}
 use Rattle.machine.specs.Saved.{fieldsOf, loadOf}
-use Rattle.machine.specs.Registers.{readOf, writeOf, lineOf, readNumber, wroteNumber, lineNumber}
+use Rattle.machine.specs.Registers.{readingOf, writeOf, lineOf, registerReadNumber, registerWroteNumber, lineNumber}
 
 -- the 44 bytes of a machine
 abbrev pub imageOf : Machine → List ℕ
@@ -68,7 +68,7 @@ created-unique xs mode base length r s ys zs p q = (p .number ∙ sym (q .number
 -- ---- sgdma_read_register: 7, 8, 1
 
 abbrev pub registerOf : LoadedMachine → (offset : ℕ) → ReadRegister
-registerOf (loaded.Good m) offset = readOf m offset
+registerOf (loaded.Good m) offset = readingOf m offset
 registerOf (loaded.Refused why) offset = register.Refused why
 
 -- both sizes are looked at before the image
@@ -80,7 +80,7 @@ valueOver (register.Value v) value = valueBytes v
 valueOver (register.Refused why) value = value
 
 pub record RegisterRead (xs : List ℕ) (offset : ℕ) (value : List ℕ) (r : ℕ) (value' : List ℕ) : Type 0 where
-  pub number : r ≡ readNumber (readCall xs offset value)
+  pub number : r ≡ registerReadNumber (readCall xs offset value)
   pub value-after : value' ≡ valueOver (readCall xs offset value) value
 
 -- No second outcome of sgdma_read_register keeps its promise.
@@ -102,7 +102,7 @@ writtenOver (wrote.Done n) xs = imageOf n
 writtenOver (wrote.Refused why) xs = xs
 
 pub record RegisterWritten (xs : List ℕ) (offset v : ℕ) (r : ℕ) (xs' : List ℕ) : Type 0 where
-  pub number : r ≡ wroteNumber (writtenIn (loadOf xs) offset v)
+  pub number : r ≡ registerWroteNumber (writtenIn (loadOf xs) offset v)
   pub image-after : xs' ≡ writtenOver (writtenIn (loadOf xs) offset v) xs
 
 -- No second outcome of sgdma_write_register keeps its promise.

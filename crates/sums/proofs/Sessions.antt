@@ -23,7 +23,7 @@ use Rattle.machine.specs.declared.RunAnswer.the-variants as many
 use Rattle.machine.specs.declared.registers.WroteRegister.{WroteRegister}
 use Rattle.machine.specs.declared.registers.WroteRegister.the-variants as wrote
 use Rattle.machine.specs.Saved.{keeps}
-use Rattle.machine.specs.Registers.{stored, released, controlWritten, writeOf}
+use Rattle.machine.specs.Registers.{controlStored, released, controlWritten, writeOf}
 use Rattle.machine.specs.Step.{World}
 use Rattle.machine.specs.Run.{Lent, Returned, Served, serves, refused, servedOf, worldOf, takenSince, run, returned, ranAs, runAnswer, HasRun}
 use Rattle.machine.proofs.Outcomes.{serves-good}
@@ -54,7 +54,7 @@ released-drops (Faulted f) m e = record { mode = refl; less = omega arith }
 control-drops : (m : Machine) (v : ℕ) → Drops m (controlWritten v m)
 unfolding controlWritten
 control-drops m v =
-    let r = released-drops (m .phase) (stored v m) refl in
+    let r = released-drops (m .phase) (controlStored v m) refl in
     on (Drops m) (register.resetBy v (m .control)) (record { mode = refl; less = omega arith })
     (on (Drops m) (register.run (register.asControl v)) (record { mode = refl; less = omega arith }) (record { mode = r .mode; less = r .less }))
 
@@ -91,13 +91,13 @@ used-in m given e = serves-good (keeps m) m given e .2
 
 -- ---- sessions
 
-record Kept (m : Machine) (before ledger : List ℕ) (rs : List Entry) (t l : ℕ) : Type 0 where
+record Balanced (m : Machine) (before ledger : List ℕ) (rs : List Entry) (t l : ℕ) : Type 0 where
   mode : m .mode ≡ StreamToMemory
   size : length ledger ≡ length before
   adds : Adds m before ledger rs t l
 
 module _ {m : Machine} {before : List ℕ} {rs : List Entry} {t l budget : ℕ} {given : Lent} {r : Ran} {b : Returned}
-    (h : Kept m before (given .ledger) rs t l) (u : given .used ≡ length rs) (d : HasRun m given budget (many.Done r) b) where
+    (h : Balanced m before (given .ledger) rs t l) (u : given .used ≡ length rs) (d : HasRun m given budget (many.Done r) b) where
   abbrev w : World
   w = worldOf m given
 
@@ -125,7 +125,7 @@ module _ {m : Machine} {before : List ℕ} {rs : List Entry} {t l budget : ℕ} 
       ap (λ (x : Returned). x .ledger) (d .back ∙ ap (λ (s : Served). returned given s (run budget w .world)) (both .0))
       ∙ ap (λ (n : ℕ). put (given .ledger) (12 * n) (ledgerBytes new)) u
 
-  ran-kept : Kept (r .machine) before (b .ledger) (rs ++ new) (t + r .taken) (l + lostIn budget w)
+  ran-kept : Balanced (r .machine) before (b .ledger) (rs ++ new) (t + r .taken) (l + lostIn budget w)
   ran-kept =
       let p = run-tells budget w .passed in
       let v = run budget w .world in
@@ -148,7 +148,7 @@ module _ {m : Machine} {before : List ℕ} {rs : List Entry} {t l budget : ℕ} 
 none-put : (xs : List ℕ) → xs ≡ put xs 0 []
 none-put xs = refl
 
-session-kept : {m : Machine} {before ledger : List ℕ} {rs : List Entry} {t l : ℕ} → Session m before ledger rs t l → Kept m before ledger rs t l
+session-kept : {m : Machine} {before ledger : List ℕ} {rs : List Entry} {t l : ℕ} → Session m before ledger rs t l → Balanced m before ledger rs t l
 session-kept (begins window ledger) =
     record { mode = refl; size = refl; adds = record { sum = refl; holds = none-put ledger } }
 session-kept (written {m = m} {n = n} {offset = offset} {v = v} s c) =

@@ -1,5 +1,5 @@
 use Rattle.bus.specs.declared.Located.{Located}
-use Rattle.bus.specs.Window.{Within}
+use Rattle.bus.specs.Window.{PlaceWithin}
 use Rattle.descriptor.proofs.Slots.{no-window, misaligned, outside, at-place}
 use mathlib.Core.Path.{sym, subst, _∙_}
 use borrow.Author.Needs.{needs}
@@ -34,7 +34,7 @@ returns-3 : tie.Need-returns-3
 returns-3 c = let w = c .before .before .before .before .before .before in outside _ _ _ _ (sym (w .before .before .checked .ensures .answer) ∙ w .checked3 .given .1) (c .before .before .before .if1 .left) (sym (c .before .before .locate .ensures .answer) ∙ c .enum-told .given .1)
 
 returns-4 : tie.Need-returns-4
-returns-4 c = let w = c .before .before .before .before .before .before .before in at-place _ _ _ _ (sym (w .before .before .checked .ensures .answer) ∙ w .checked3 .given .1) (c .before .before .before .before .if1 .left) _ (sym (c .before .before .before .locate .ensures .answer) ∙ c .before .found .given .1) (subst (λ (x : Located). Within x 32 (w .checked3 .given .0 .0 .length)) (c .before .found .given .1) (c .before .before .before .locate .ensures .within))
+returns-4 c = let w = c .before .before .before .before .before .before .before in at-place _ _ _ _ (sym (w .before .before .checked .ensures .answer) ∙ w .checked3 .given .1) (c .before .before .before .before .if1 .left) _ (sym (c .before .before .before .locate .ensures .answer) ∙ c .before .found .given .1) (subst (λ (x : Located). PlaceWithin x 32 (w .checked3 .given .0 .0 .length)) (c .before .found .given .1) (c .before .before .before .locate .ensures .within))
 
 pub slot-of-spec : {M : Type 1} → statement M
 slot-of-spec =

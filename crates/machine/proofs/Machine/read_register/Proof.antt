@@ -1,5 +1,5 @@
 use Rattle.machine.proofs.Answers.{was-register}
-use Rattle.machine.specs.Registers.{readOf}
+use Rattle.machine.specs.Registers.{readingOf}
 use borrow.Author.Tests.{not-true, not-false}
 use mathlib.Core.Path.{sym, _∙_}
 use borrow.Author.Needs.{needs}
@@ -10,14 +10,14 @@ keeps-requires : tie.Need-keeps-requires
 keeps-requires c κs = search needs
 
 returns : tie.Need-returns
-unfolding readOf
+unfolding readingOf
 returns c = was-register (rw (sym (c .before .keeps .ensures) ∙ not-true _ (c .if1 .taken)))
 
 register-requires : tie.Need-register-requires
 register-requires c κs = search needs
 
 returns-2 : tie.Need-returns-2
-unfolding readOf
+unfolding readingOf
 returns-2 c = was-register (rw (sym (c .before .before .keeps .ensures) ∙ not-false _ (c .before .if1 .left)) (c .register .ensures .value))
 
 pub read-register-spec : {M : Type 1} → statement M
