@@ -1,6 +1,9 @@
 // The SG-DMA core: what it keeps, its registers, its saved image, its steps and runs. The machine goes into each call by value and
 // comes back from it. (Altera, Embedded Peripherals, chapter 23, as the paper states it.)
+pub mod back;
 pub mod bursts;
+pub mod fetch;
+pub mod moves;
 pub mod registers;
 pub mod runs;
 pub mod saved;

@@ -14,9 +14,9 @@ use crate::Reason;
 use crate::RunAnswer;
 use crate::Work;
 use crate::bursts::least;
+use crate::moves::asked;
 use crate::steps::Served;
 use crate::steps::Wait;
-use crate::steps::asked;
 use ledger::has_room;
 use regs::Mode;
 

@@ -1,6 +1,6 @@
 use borrow.Author.Needs.{needs}
-use Rattle.machine.proofs.steps.byte_address.Statement.{statement}
-use Rattle.machine.proofs.steps.byte_address.Tie as tie
+use Rattle.machine.proofs.moves.byte_address.Statement.{statement}
+use Rattle.machine.proofs.moves.byte_address.Tie as tie
 
 add-result : tie.Need-add-result
 add-result c = search needs

@@ -1,5 +1,5 @@
-use Rattle.machine.proofs.steps.phase_with.Statement.{statement}
-use Rattle.machine.proofs.steps.phase_with.Tie as tie
+use Rattle.machine.proofs.moves.phase_with.Statement.{statement}
+use Rattle.machine.proofs.moves.phase_with.Tie as tie
 
 returns : tie.Need-returns
 returns c = rw (c .if1 .taken)

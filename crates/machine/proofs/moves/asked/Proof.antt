@@ -1,7 +1,7 @@
 use borrow.Author.Tests.{eq-eqb, ne-eqb}
 use borrow.Author.Needs.{needs}
-use Rattle.machine.proofs.steps.asked.Statement.{statement}
-use Rattle.machine.proofs.steps.asked.Tie as tie
+use Rattle.machine.proofs.moves.asked.Statement.{statement}
+use Rattle.machine.proofs.moves.asked.Tie as tie
 
 enum-told : tie.Need-enum-told
 enum-told c = search needs
