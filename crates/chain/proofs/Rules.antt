@@ -8,10 +8,13 @@ use native.Mathlib.Omega.{arith}
 use lib.Dec.{eqb}
 use lib.ListN.{set}
 use borrow.Author.Tests.{eq-eqb}
-use Rattle.words.specs.Slices.{putAt}
+use Rattle.words.specs.Slices.{part, putAt, AllBytes}
 use Rattle.bus.specs.Window.{inWindow, placeOf}
 use Rattle.descriptor.specs.declared.Descriptor.{Descriptor}
 use Rattle.descriptor.specs.Layout.{owned, lastFour, descriptorAt}
+use Rattle.descriptor.specs.declared.Look.the-variants.{There}
+use Rattle.descriptor.specs.Looking.{rawAt}
+use Rattle.descriptor.proofs.Looks.{look-there, named-at}
 use Rattle.regs.specs.declared.Mode.{Mode}
 use Rattle.regs.specs.declared.Mode.the-variants.{StreamToMemory}
 use Rattle.regs.specs.declared.Control.{Control}
@@ -22,7 +25,7 @@ use Rattle.machine.specs.declared.Work.{Work}
 use Rattle.machine.specs.declared.Phase.{Phase}
 use Rattle.machine.specs.declared.Phase.the-variants.{Rest, Fetch, Move, WriteBack}
 use Rattle.machine.specs.State.{remade, withPointer, withPhase, withBusy}
-use Rattle.machine.specs.Step.{World, taken, became, stored, received, noted, entryFor, backTo, restStep, ended, wantsLength, begun, fetched, fetchStep, whole, destinationOf, withByte, onward, receiveFrom, moveStep, writtenControl, writtenBack, completed, writeBackStep, stepIn, step}
+use Rattle.machine.specs.Step.{World, taken, became, stored, received, noted, entryFor, backTo, restStep, ended, wantsLength, begun, fetched, meets, fetchStep, whole, destinationOf, withByte, onward, receiveFrom, moveStep, writtenControl, writtenBack, completed, writeBackStep, stepIn, step}
 use Rattle.chain.specs.Chain.{Link, linkAt}
 
 -- the machine runs, in this mode, and neither parks nor stops on errors
@@ -47,14 +50,19 @@ abbrev pub fetchedWorld : World → Link → World
 fetchedWorld w l = became w (withPhase (Move (begun (l .at) (l .says))) (withPointer (l .says .next) (w .machine)))
 
 module _ (w : World) (l : Link) (p : w .machine .phase ≡ Fetch) (c : Set (w .machine)) (h : l ≡ linkAt (w .machine .window) (w .memory) (w .machine .pointer .0))
-    (a : l .at % 4 ≡ 0) (i : inWindow (w .machine .window) (l .at) 32 ≡ true) where
+    (a : l .at % 4 ≡ 0) (i : inWindow (w .machine .window) (l .at) 32 ≡ true)
+    (g : AllBytes (part (w .memory) (placeOf (w .machine .window) (l .at)) 32)) where
   looked : step w ≡ fetched w (descriptorAt (w .memory) (placeOf (w .machine .window) (w .machine .pointer .0)))
   unfolding step fetchStep
   looked =
-      let al : eqb (w .machine .pointer .0 % 4) 0 ≡ true = eq-eqb _ _ (subst (λ (x : Link). x .at % 4 ≡ 0) h a) in
-      let il : inWindow (w .machine .window) (w .machine .pointer .0) 32 ≡ true =
-      subst (λ (x : Link). inWindow (w .machine .window) (x .at) 32 ≡ true) h i in
-      rw (p, c .runs, al, il)
+      let m = w .machine in
+      let al : eqb (m .pointer .0 % 4) 0 ≡ true = eq-eqb _ _ (subst (λ (x : Link). x .at % 4 ≡ 0) h a) in
+      let il : inWindow (m .window) (m .pointer .0) 32 ≡ true = subst (λ (x : Link). inWindow (m .window) (x .at) 32 ≡ true) h i in
+      let bytes : AllBytes (part (w .memory) (placeOf (m .window) (m .pointer .0)) 32) =
+      subst (λ (x : Link). AllBytes (part (w .memory) (placeOf (m .window) (x .at)) 32)) h g in
+      let met : step w ≡ meets w (There (rawAt (w .memory) (placeOf (m .window) (m .pointer .0)))) =
+      rw (p, c .runs, look-there (m .window) (w .memory) (m .pointer .0) al il) in
+      met ∙ ap (fetched w) (named-at (w .memory) (placeOf (m .window) (m .pointer .0)) bytes)
 
   pub fetch-step : owned (l .says .control .0) ≡ true → step w ≡ taken (fetchedWorld w l)
   unfolding fetched

@@ -6,8 +6,9 @@ use mathlib.Core.Logic.{_≢_}
 use mathlib.Core.Bool.{true, and-false}
 use mathlib.Core.List.{List, [], _∷_, _++_}
 use native.Mathlib.Omega.{arith}
-use lib.ListN.{length, getD}
+use lib.ListN.{length, getD, drop}
 use Rattle.words.specs.Bits.{bit}
+use Rattle.words.proofs.Bytes.{take-bytes, drop-bytes}
 use Rattle.bus.specs.declared.Window.{Window}
 use Rattle.bus.specs.Window.{inWindow, placeOf}
 use Rattle.regs.specs.declared.Mode.the-variants.{StreamToMemory}
@@ -85,6 +86,8 @@ module _ (g : Given) (h : Premises g) where
             (all-left (λ l. inWindow (g .window) (l .at) 32 ≡ true) (links g) (last g ∷ []) (h .inside));
         aligned = h .aligned;
         inside = h .inside;
+        bytes = all-map (λ l i. take-bytes 32 (drop (placeOf (g .window) (l .at)) (g .memory)) (drop-bytes (placeOf (g .window) (l .at)) (g .memory) (all-bytes (g .memory) (h .bytes))))
+            (everyLink g) (h .inside);
         apart = h .apart;
         stream = h .stream;
         ledger = rw (length-links (g .window) (g .memory) (g .pointer) (g .k)) (h .ledger);

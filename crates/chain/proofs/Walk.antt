@@ -7,7 +7,7 @@ use mathlib.Core.Bool.{true}
 use mathlib.Core.List.{List, [], _∷_, _++_, append-nil, append-assoc}
 use native.Mathlib.Omega.{arith}
 use lib.ListN.{length, getD, drop, length-drop}
-use Rattle.words.specs.Slices.{part, putAt}
+use Rattle.words.specs.Slices.{part, putAt, AllBytes}
 use Rattle.words.proofs.Slices.{put-in, part-put}
 use Rattle.bus.specs.declared.Window.{Window}
 use Rattle.bus.specs.Window.{inWindow, placeOf}
@@ -41,6 +41,7 @@ pub record AtChain (w : World) (ls : List Link) (e : Link) : Type 0 where
   pub short : All (λ l. l .says .length < 65536) ls
   pub aligned : All (λ l. l .at % 4 ≡ 0) (ls ++ e ∷ [])
   pub inside : All (λ l. inWindow (w .machine .window) (l .at) 32 ≡ true) (ls ++ e ∷ [])
+  pub bytes : All (λ l. AllBytes (part (w .memory) (placeOf (w .machine .window) (l .at)) 32)) (ls ++ e ∷ [])
   pub apart : Pairwise Apart (ls ++ e ∷ [])
   pub stream : Enough ls (w .input)
   pub ledger : length ls ≤ w .left
@@ -68,7 +69,7 @@ walk-none w e r =
     record { size = refl; frame = λ p a b. refl; few = record { few = 0; within = omega arith; done = tt; waiting = tt } } in
     record {
       last = became w (ended (w .machine));
-      along = more inv (end-step w e (r .fetching) (r .set) (r .chain .0) (r .aligned .0) (r .inside .0) (r .chain .1)) (here inv);
+      along = more inv (end-step w e (r .fetching) (r .set) (r .chain .0) (r .aligned .0) (r .inside .0) (r .bytes .0) (r .chain .1)) (here inv);
       stops = refl;
       taken = omega arith;
       made = refl;
@@ -129,7 +130,7 @@ module _ (w : World) (l : Link) (ls : List Link) (e : Link) (r : AtChain w (l �
   sending =
       let want : whole (fetchedWorld w l .machine) begins ≡ wants (l .says) =
       ap (λ (x : Mode). asked (modeNumber x) (l .says .length)) (r .set .mode-is) ∙ sym (wants-is (l .says)) in
-      more (kept-none _ _ _) (fetch-step w l (r .fetching) (r .set) (r .chain .0) (r .aligned .0) (r .inside .0) (r .chain .1))
+      more (kept-none _ _ _) (fetch-step w l (r .fetching) (r .set) (r .chain .0) (r .aligned .0) (r .inside .0) (r .bytes .0) (r .chain .1))
       (moves (BlocksKept (windowOf w) (w .memory) (sentBy share))
       (λ s. (inWindow (windowOf w) (s .to) 1 ≡ true) × ((p : ℕ) → OffBytes (windowOf w) (sentBy share) p → s .to ≢ windowOf w .base + p))
       taking (fetchedWorld w l) begins refl (r .set) refl (omega arith) (λ s q. q .0)
@@ -228,6 +229,7 @@ module _ (w : World) (l : Link) (ls : List Link) (e : Link) (r : AtChain w (l �
         short = r .short .1;
         aligned = r .aligned .1;
         inside = r .inside .1;
+        bytes = all-map2 (λ x g h. subst AllBytes (sym h) g) (ls ++ e ∷ []) (r .bytes .1) held;
         apart = r .apart .1;
         stream = r .stream .1;
         ledger = (let h = r .ledger in omega arith);

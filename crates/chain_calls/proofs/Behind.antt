@@ -1,12 +1,15 @@
 -- Beats and records made before do not show in a run, and it leaves them: what it makes stands behind them.
 -- Assumes nothing.
-use Prim.Native.Nat.{ℕ, zero, suc, _%_}
+use Prim.Native.Nat.{ℕ, zero, suc}
 use mathlib.Core.Path.{_≡_, refl, ap, _∙_}
-use mathlib.Core.Bool.{Bool, true, false, cond, _&&_}
+use mathlib.Core.Bool.{Bool, true, false, not, cond, _&&_}
 use mathlib.Core.List.{List, [], _∷_, _++_, append-assoc}
 use lib.Dec.{eqb}
 use Rattle.bus.specs.Window.{inWindow, placeOf}
-use Rattle.descriptor.specs.Layout.{owned, descriptorAt}
+use Rattle.descriptor.specs.declared.Look.{Look}
+use Rattle.descriptor.specs.declared.Look.the-variants.{Misaligned, Outside, There}
+use Rattle.descriptor.specs.Layout.{owned}
+use Rattle.descriptor.specs.Looking.{namedIn, lookAt}
 use Rattle.regs.specs.declared.Mode.{Mode}
 use Rattle.regs.specs.declared.Mode.the-variants.{MemoryToMemory, MemoryToStream, StreamToMemory}
 use Rattle.regs.specs.Control as register
@@ -14,7 +17,8 @@ use Rattle.ledger.specs.declared.Entry.{Entry}
 use Rattle.machine.specs.declared.Work.{Work}
 use Rattle.machine.specs.declared.Phase.{Phase}
 use Rattle.machine.specs.declared.Phase.the-variants.{Rest, Fetch, Move, WriteBack, Ended, Halted, Faulted}
-use Rattle.machine.specs.Step.{World, Answer, taken, stopped, sent, noted, restStep, wantsLength, fetched, fetchStep, sourceOf, destinationOf}
+use Rattle.machine.specs.State.{home}
+use Rattle.machine.specs.Step.{World, Answer, homeBytes, taken, stopped, sent, noted, restStep, wantsLength, fetched, meets, fetchStep, sourceOf, destinationOf}
 use Rattle.machine.specs.Step.{copyStep, sendTo, sendStep, receiveFrom, moveStep, writtenBack, backTo, writeBackStep, stepIn, step}
 use Rattle.machine.specs.Run.{Report, oneMore, runOn, run}
 
@@ -41,19 +45,19 @@ module _ (beats : List ℕ) (records : List Entry) where
     unfolding restStep
     rest-behind = choice (register.run (w .machine .control)) _ _ refl refl
 
+    met-behind : (l : Look) → meets (behind w) l ≡ answerBehind (meets w l)
+    unfolding fetched
+    met-behind Misaligned = refl
+    met-behind Outside = refl
+    met-behind (There r) =
+        let d = namedIn r in
+        choice (not (owned (d .control .0))) _ _ refl (choice (wantsLength (w .machine .mode) && eqb (d .length) 0) _ _ refl refl)
+
     fetch-behind : fetchStep (behind w) ≡ answerBehind (fetchStep w)
-    unfolding fetchStep fetched
+    unfolding fetchStep
     fetch-behind =
         let m = w .machine in
-        let a = m .pointer .0 in
-        let d = descriptorAt (w .memory) (placeOf (m .window) a) in
-        choice (register.run (m .control)) _ _
-        (choice (eqb (a % 4) 0) _ _
-        (choice (inWindow (m .window) a 32) _ _
-        (choice (owned (d .control .0)) _ _ (choice (wantsLength (m .mode) && eqb (d .length) 0) _ _ refl refl) refl)
-        refl)
-        refl)
-        refl
+        choice (not (register.run (m .control))) _ _ refl (met-behind (lookAt (home m) (homeBytes w) (m .pointer .0)))
 
     module _ (k : Work) where
       copy-behind : copyStep (behind w) k ≡ answerBehind (copyStep w k)

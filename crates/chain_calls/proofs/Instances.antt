@@ -9,8 +9,9 @@ use native.Mathlib.Omega.{arith}
 use lib.ListN.{length, replicate, length-replicate}
 use borrow.Author.Tests.{eq-eqb, le-leb}
 use Rattle.words.specs.Slices.{putAt, AllBytes}
-use Rattle.bus.specs.Window.{keepsLimits, inWindow}
+use Rattle.bus.specs.Window.{keepsLimits, inWindow, locatedOf}
 use Rattle.descriptor.specs.Layout.{bytesFor, descriptorAt}
+use Rattle.descriptor.specs.Looking.{spotOf, namedIn, rawAt, lookAt}
 use Rattle.regs.specs.Control.{counted}
 use Rattle.image.specs.Layout.{image}
 use Rattle.image.proofs.RoundTrip.{image-bytes}
@@ -88,7 +89,7 @@ three-lent = well-lent three refl (omega arith) (omega arith)
 
 -- by computation over the step rules
 known-ends : (imageOf (run 100 (worldFor known) .world .machine) ≡ knownLeft .image) × (run 100 (worldFor known) .world .memory ≡ knownLeft .back .window)
-unfolding image bytesFor inWindow putAt descriptorAt controlWritten restStep fetched fetchStep sourceOf destinationOf onward copyStep beatFor sendStep writtenControl writtenBack counted completed writeBackStep step run
+unfolding image bytesFor inWindow locatedOf putAt descriptorAt spotOf namedIn rawAt lookAt controlWritten restStep fetched fetchStep sourceOf destinationOf onward copyStep beatFor sendStep writtenControl writtenBack counted completed writeBackStep step run
 known-ends = (refl, refl)
 
 -- Known run 1 through the C calls: each gives back 0, and these bytes are left.

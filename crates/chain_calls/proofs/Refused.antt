@@ -11,8 +11,8 @@ use Rattle.bus.specs.declared.Refusal.{Refusal}
 use Rattle.bus.specs.declared.Refusal.the-variants.{OtherWindow, BadSize, BadImage, OddStream, BadLedger}
 use Rattle.bus.specs.Refusal.{refusalNumber}
 use Rattle.bus.specs.Window.{keepsLimits, inWindow}
-use Rattle.descriptor.specs.Calls.{slotOf, slotNumber, descriptorNumber}
-use Rattle.descriptor.proofs.Slots.{by-tests, built-number, found-number}
+use Rattle.descriptor.specs.Calls.{seatOf, seatNumber, descriptorNumber}
+use Rattle.descriptor.proofs.Seats.{by-tests, built-number, found-number}
 use Rattle.regs.specs.Offsets.{isRegister}
 use Rattle.image.specs.declared.ReadImage.the-variants as read
 use Rattle.image.specs.Layout.{fields}
@@ -153,21 +153,21 @@ run-in-order xs l budget report r xs' b report' p =
 
 -- ---- descriptors
 
-slot-number : (window : List ℕ) (base a : ℕ) → slotNumber (slotOf (length window) base a) ≡ first (buildTests window base a)
-slot-number window base a =
+seat-number : (window : List ℕ) (base a : ℕ) → seatNumber (seatOf (length window) base a) ≡ first (buildTests window base a)
+seat-number window base a =
     by-tests (length window) base a
     ∙ unless (keepsLimits base (length window)) 3
     (unless (eqb (a % 4) 0) 5 (unless (inWindow (record { base = base; length = length window }) a 32) 6 refl))
 
 pub build-in-order : BuildInOrder
 build-in-order window base a j r window' p =
-    record { number = p .number ∙ built-number (slotOf (length window) base a) ∙ slot-number window base a; in-order = refl }
+    record { number = p .number ∙ built-number (seatOf (length window) base a) ∙ seat-number window base a; in-order = refl }
 
 pub descriptor-in-order : DescriptorInOrder
 unfolding descriptorCall
 descriptor-in-order window base a answer r answer' p =
     record {
       number = p .number ∙ chosen descriptorNumber (isSize 18 answer) _ _
-          ∙ unless (isSize 18 answer) 7 (found-number window (slotOf (length window) base a) ∙ slot-number window base a);
+          ∙ unless (isSize 18 answer) 7 (found-number window (seatOf (length window) base a) ∙ seat-number window base a);
       in-order = refl;
     }

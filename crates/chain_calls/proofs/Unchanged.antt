@@ -11,8 +11,8 @@ use borrow.Author.Tests.{ne-eqb}
 use Rattle.bus.specs.declared.Refusal.the-variants.{BadSize}
 use Rattle.descriptor.specs.declared.ReadDescriptor.{ReadDescriptor}
 use Rattle.descriptor.specs.declared.ReadDescriptor.the-variants as descriptor
-use Rattle.descriptor.specs.Calls.{slotOf, descriptorNumber}
-use Rattle.descriptor.proofs.Slots.{build-stays}
+use Rattle.descriptor.specs.Calls.{seatOf, descriptorNumber}
+use Rattle.descriptor.proofs.Seats.{build-stays}
 use Rattle.regs.specs.declared.ReadRegister.{ReadRegister}
 use Rattle.regs.specs.declared.ReadRegister.the-variants as register
 use Rattle.image.specs.Promise.{sized}
@@ -99,7 +99,7 @@ run-unchanged xs l budget report r xs' b report' c h =
 
 pub build-unchanged : BuildUnchanged
 build-unchanged window base a j r window' c h =
-    c .window-after ∙ build-stays (slotOf (length window) base a) window j (answer-refused (c .number) h)
+    c .window-after ∙ build-stays (seatOf (length window) base a) window j (answer-refused (c .number) h)
 
 pub descriptor-unchanged : DescriptorUnchanged
 descriptor-unchanged window base a answer r answer' c h =

@@ -1,4 +1,5 @@
-pub mod Slots
+pub mod Looks
+pub mod Seats
 pub mod Reading
 pub mod Writing
 pub mod RoundTrip

@@ -13,17 +13,17 @@ use Rattle.words.proofs.Bytes.{take-bytes, drop-bytes}
 use Rattle.words.proofs.Orders.{row-back, row-there}
 use Rattle.words.proofs.Slices.{length-put, part-put, put-part, row-from}
 use Rattle.bus.specs.declared.Place.{Place}
-use Rattle.descriptor.specs.declared.Slot.{Slot}
-use Rattle.descriptor.specs.declared.Slot.the-variants.{At, Refused}
+use Rattle.descriptor.specs.declared.Seat.{Seat}
+use Rattle.descriptor.specs.declared.Seat.the-variants.{At, Refused}
 use Rattle.descriptor.specs.declared.Job.{Job}
 use Rattle.descriptor.specs.declared.Descriptor.{Descriptor}
 use Rattle.descriptor.specs.declared.ReadDescriptor.the-variants.{Good}
 use Rattle.descriptor.specs.declared.BuiltDescriptor.the-variants.{Done}
 use Rattle.descriptor.specs.Layout.{widths, named, bytesFor, descriptorOf, descriptorAt}
-use Rattle.descriptor.specs.Calls.{slotOf, found, built, withJob}
+use Rattle.descriptor.specs.Calls.{seatOf, found, built, withJob}
 use Rattle.descriptor.specs.RoundTrip.{Typed, asBuilt, jobOf, OthersZero}
 use Rattle.descriptor.specs.Theorems.{ReadAfterBuild, BuildAfterRead}
-use Rattle.descriptor.proofs.Slots.{slot-is}
+use Rattle.descriptor.proofs.Seats.{seat-is}
 use Rattle.descriptor.proofs.Reading.{there}
 use Rattle.descriptor.proofs.Writing.{length-job}
 
@@ -35,22 +35,22 @@ fields-back j t =
     (row-back LeastFirst widths (j .source ∷ 0 ∷ j .destination ∷ 0 ∷ j .next ∷ 0 ∷ j .length ∷ 0 ∷ 0 ∷ 0 ∷ j .control .0 ∷ [])
     (t .source, (omega arith, (t .destination, (omega arith, (t .next, (omega arith, (t .length, (omega arith, (omega arith, (omega arith, (t .control, tt))))))))))))
 
--- a call that was done had a slot
-done-at : (s : Slot) → Done ≡ built s → (p : Place) × (s ≡ At p)
+-- a call that was done had a seat
+done-at : (s : Seat) → Done ≡ built s → (p : Place) × (s ≡ At p)
 done-at (At p) e = (p, refl)
 done-at (Refused why) e = absurd (let z : _≡_ {A = ℕ} 0 1 = cc in omega arith)
 
 -- Read after build gives the same fields.
 pub read-after-build : ReadAfterBuild
 read-after-build xs ys base a j r t b w =
-    let at = done-at (slotOf (length xs) base a) (b .answer) in
+    let at = done-at (seatOf (length xs) base a) (b .answer) in
     let p = at .0 in
-    let fits : p .0 + 32 ≤ length xs = slot-is a p (length xs) base (at .1) .1 in
+    let fits : p .0 + 32 ≤ length xs = seat-is a p (length xs) base (at .1) .1 in
     let after : ys ≡ put xs (p .0) (bytesFor j) = b .lent ∙ ap (withJob xs j) (at .1) in
     let same : length ys ≡ length xs = ap length after ∙ length-put xs (p .0) (bytesFor j) (omega (arith, length-job j)) in
     let stands : part ys (p .0) 32 ≡ bytesFor j =
     ap (λ (l : List ℕ). part l (p .0) 32) after ∙ part-put xs (p .0) (bytesFor j) 32 (omega (arith, length-job j)) (length-job j) in
-    w .answer ∙ ap (λ (n : ℕ). found ys (slotOf n base a)) same ∙ ap (found ys) (at .1)
+    w .answer ∙ ap (λ (n : ℕ). found ys (seatOf n base a)) same ∙ ap (found ys) (at .1)
     ∙ ap Good (there ys (p .0) (omega arith) ∙ ap descriptorOf stands ∙ fields-back j t)
 
 -- the bytes of a job have zeros in the others' places
@@ -74,21 +74,21 @@ bytes-back ys l g z =
     (all-numbers (ap n (z .reserved-4)) (ap n (z .reserved-12)) (ap n (z .reserved-20)) (ap n (z .reserved-26)) (ap n (z .actual)) (ap n (z .status)) ∙ sym row)
     ∙ row-there LeastFirst widths ys l g
 
-good-is : (xs : List ℕ) (d : Descriptor) (s : Slot) (p : Place) → s ≡ At p → Good d ≡ found xs s → d ≡ descriptorAt xs (p .0)
+good-is : (xs : List ℕ) (d : Descriptor) (s : Seat) (p : Place) → s ≡ At p → Good d ≡ found xs s → d ≡ descriptorAt xs (p .0)
 good-is xs d s p e f = let same : Good d ≡ Good (descriptorAt xs (p .0)) = f ∙ ap (found xs) e in cc
 
 -- Build after read gives the same bytes exactly when reserved, actual and status bytes were zero.
 pub build-after-read : BuildAfterRead
 build-after-read xs ys base a d g w b =
-    let at = done-at (slotOf (length xs) base a) (b .answer) in
+    let at = done-at (seatOf (length xs) base a) (b .answer) in
     let p = at .0 in
-    let is = slot-is a p (length xs) base (at .1) in
+    let is = seat-is a p (length xs) base (at .1) in
     let fits : p .0 + 32 ≤ length xs = is .1 in
     let after : ys ≡ put xs (p .0) (bytesFor (jobOf d)) = b .lent ∙ ap (withJob xs (jobOf d)) (at .1) in
     let stands : part ys (p .0) 32 ≡ bytesFor (jobOf d) =
     ap (λ (l : List ℕ). part l (p .0) 32) after
     ∙ part-put xs (p .0) (bytesFor (jobOf d)) 32 (omega (arith, length-job (jobOf d))) (length-job (jobOf d)) in
-    let was : d ≡ descriptorOf (part xs (p .0) 32) = good-is xs d (slotOf (length xs) base a) p (at .1) (w .answer) ∙ there xs (p .0) fits in
+    let was : d ≡ descriptorOf (part xs (p .0) 32) = good-is xs d (seatOf (length xs) base a) p (at .1) (w .answer) ∙ there xs (p .0) fits in
     let here : part xs (p .0) 32 ≡ part xs (a - base) 32 = ap (λ (n : ℕ). part xs n 32) (is .0) in
     let size : length (part xs (p .0) 32) ≡ 32 = length-take-le 32 (drop (p .0) xs) (simp length-drop (omega arith)) in (
       λ e. subst OthersZero (sym stands ∙ ap (λ (l : List ℕ). part l (p .0) 32) e ∙ here) (job-zero (jobOf d)),

@@ -12,9 +12,9 @@ use Rattle.words.proofs.Slices.{put-in}
 use Rattle.bus.specs.declared.Place.{Place}
 use Rattle.bus.specs.declared.Refusal.{Refusal}
 use Rattle.descriptor.specs.declared.Job.{Job}
-use Rattle.descriptor.specs.declared.Slot.the-variants.{At, Refused}
+use Rattle.descriptor.specs.declared.Seat.the-variants.{At, Refused}
 use Rattle.descriptor.specs.declared.BuiltDescriptor.the-variants as build
-use Rattle.descriptor.specs.Calls.{slotOf, withJob, WasBuilt}
+use Rattle.descriptor.specs.Calls.{seatOf, withJob, WasBuilt}
 use Rattle.descriptor.specs.Layout.{bytesFor, lastFour}
 use Rattle.descriptor.specs.Theorems.{LengthJob}
 
@@ -42,10 +42,10 @@ unfolding bytesFor
 length-job j = refl
 
 module _ (xs : List ℕ) (base a : ℕ) (j : Job) where
-  pub build-refused : (why : Refusal) → slotOf (length xs) base a ≡ Refused why → WasBuilt xs base a j (build.Refused why) xs
+  pub build-refused : (why : Refusal) → seatOf (length xs) base a ≡ Refused why → WasBuilt xs base a j (build.Refused why) xs
   build-refused why e = record { answer = rw e; number = rw e; lent = rw e }
 
-  pub build-done : (p : Place) → slotOf (length xs) base a ≡ At p → p .0 + 32 ≤ length xs
+  pub build-done : (p : Place) → seatOf (length xs) base a ≡ At p → p .0 + 32 ≤ length xs
       → (ys : List ℕ) → ys ≡ putAt xs (p .0) (bytesFor j) → WasBuilt xs base a j build.Done ys
   build-done p e h ys f =
       record {

@@ -1,13 +1,14 @@
-// A descriptor: 32 bytes, little-endian, at an address that is a multiple of 4. The builder, the reader, and what the core does
-// with one: read it at its place, and write its last four bytes back.
+// A descriptor: 32 bytes, little-endian, at an address that is a multiple of 4. The one look at such an address, the builder, the
+// reader, and what the core does with a descriptor: read it where the look finds it, and write its last four bytes back.
 ghost use mathlib.Core.Path.{_≡_};
 ghost use Prim.Native.Nat.{_+_, _≤_};
 ghost use lib.ListN.{length};
 ghost use Rattle.words.specs.Bits.{hasBit};
 ghost use Rattle.words.specs.Promise.{Gives, Leaves};
 ghost use Rattle.words.specs.Slices.{part, putAt};
-ghost use Rattle.descriptor.specs.Layout.{bytesFor, descriptorOf, descriptorAt, lastFour};
-ghost use Rattle.descriptor.specs.Calls.{Slotted, DescriptorWasRead, WasBuilt};
+ghost use Rattle.descriptor.specs.Layout.{bytesFor, lastFour};
+ghost use Rattle.descriptor.specs.Looking.{spotOf, rawOf, rawAt, namedIn, lookAt};
+ghost use Rattle.descriptor.specs.Calls.{seatOf, DescriptorWasRead, WasBuilt};
 use bus::BusAddress;
 use bus::CheckedWindow;
 use bus::Located;
@@ -15,7 +16,6 @@ use bus::Place;
 use bus::Refusal;
 use bus::Window;
 use words::Order;
-use words::get_u16;
 use words::get_u32;
 use words::has;
 use words::put_u32;
@@ -61,71 +61,139 @@ pub struct Descriptor {
     pub control: DescControl,
 }
 
-// The descriptor of zeros.
-const NONE: Descriptor = Descriptor {
-    source: 0,
-    destination: 0,
-    next: 0,
-    length: 0,
-    actual: 0,
-    status: 0,
-    control: DescControl(0),
+// Where the 32 bytes of a descriptor stand.
+pub enum Spot {
+    Misaligned,
+    Outside,
+    At(Place),
+}
+
+// One look at a descriptor's address: misaligned comes first, then that its 32 bytes are not wholly in the window.
+pub fn spot_of(window: Window, address: BusAddress) -> Spot
+    ensures { λ r. ⌜ Gives (spotOf window (address .0)) r ⌝ }
+{
+    if address.0 % 4 != 0 {
+        return Spot::Misaligned;
+    }
+    let found = window.locate(address, 32);
+    match found {
+        Located::Outside => Spot::Outside,
+        Located::At(place) => Spot::At(place),
+    }
+}
+
+// The 32 bytes of a descriptor as they stand in memory: eight words, the least significant byte of each first.
+pub struct Raw {
+    w0: u32,
+    w1: u32,
+    w2: u32,
+    w3: u32,
+    w4: u32,
+    w5: u32,
+    w6: u32,
+    w7: u32,
+}
+
+const ZEROS: Raw = Raw {
+    w0: 0,
+    w1: 0,
+    w2: 0,
+    w3: 0,
+    w4: 0,
+    w5: 0,
+    w6: 0,
+    w7: 0,
 };
 
+impl Raw {
+    // Every named field; reserved bytes are ignored.
+    pub fn named(self) -> Descriptor
+        ensures { λ r. ⌜ Gives (namedIn self) r ⌝ }
+    {
+        Descriptor {
+            source: self.w0,
+            destination: self.w2,
+            next: self.w4,
+            length: (self.w6 % 0x1_0000) as u16,
+            actual: (self.w7 % 0x1_0000) as u16,
+            status: (self.w7 / 0x1_0000 % 0x100) as u8,
+            control: DescControl((self.w7 / 0x100_0000 % 0x100) as u8),
+        }
+    }
+}
+
+// The words that stand at a place, which has 32 bytes behind it.
+fn words_at(window: &[u8], at: usize) -> Raw
+    requires { ⌜ at + 32 ≤ length (now window) ⌝ }
+    ensures { λ r. ⌜ r ≡ rawOf (part (now (window .entry)) at 32) ⌝ }
+{
+    Raw {
+        w0: get_u32(Order::LeastFirst, window, at),
+        w1: get_u32(Order::LeastFirst, window, at + 4),
+        w2: get_u32(Order::LeastFirst, window, at + 8),
+        w3: get_u32(Order::LeastFirst, window, at + 12),
+        w4: get_u32(Order::LeastFirst, window, at + 16),
+        w5: get_u32(Order::LeastFirst, window, at + 20),
+        w6: get_u32(Order::LeastFirst, window, at + 24),
+        w7: get_u32(Order::LeastFirst, window, at + 28),
+    }
+}
+
+// The bytes at a place; zeros where 32 do not stand there.
+fn raw_at(window: &[u8], place: Place) -> Raw
+    ensures { λ r. ⌜ Gives (rawAt (now (window .entry)) (place .0)) r ⌝ }
+{
+    let index = place.index();
+    if window.len() < 32 {
+        return ZEROS;
+    }
+    if window.len() - 32 < index {
+        return ZEROS;
+    }
+    words_at(window, index)
+}
+
+// What stands at a descriptor's address.
+pub enum Look {
+    Misaligned,
+    Outside,
+    There(Raw),
+}
+
+// The look at an address, and the bytes that it finds there.
+pub fn look_at(place: Window, window: &[u8], address: BusAddress) -> Look
+    ensures { λ r. ⌜ Gives (lookAt place (now (window .entry)) (address .0)) r ⌝ }
+{
+    let spot = spot_of(place, address);
+    match spot {
+        Spot::Misaligned => Look::Misaligned,
+        Spot::Outside => Look::Outside,
+        Spot::At(at) => Look::There(raw_at(window, at)),
+    }
+}
+
 // Where a descriptor stands in a lent window, or why it cannot.
-enum Slot {
+enum Seat {
     At(Place),
     Refused(Refusal),
 }
 
 // The paper's order: the window, the alignment, and that its 32 bytes are in the window.
-fn slot_of(length: usize, base: u64, address: BusAddress) -> Slot
-    ensures { λ r. ⌜ Slotted length base (address .0) r ⌝ }
+fn seat_of(length: usize, base: u64, address: BusAddress) -> Seat
+    ensures { λ r. ⌜ r ≡ seatOf length base (address .0) ⌝ }
 {
     let checked = Window::checked(base, length as u64);
     match checked {
-        CheckedWindow::Refused(why) => Slot::Refused(why),
+        CheckedWindow::Refused(why) => Seat::Refused(why),
         CheckedWindow::Good(window) => {
-            if address.0 % 4 != 0 {
-                return Slot::Refused(Refusal::Misaligned);
-            }
-            let found = window.locate(address, 32);
-            match found {
-                Located::Outside => Slot::Refused(Refusal::Outside),
-                Located::At(place) => Slot::At(place),
+            let spot = spot_of(window, address);
+            match spot {
+                Spot::Misaligned => Seat::Refused(Refusal::Misaligned),
+                Spot::Outside => Seat::Refused(Refusal::Outside),
+                Spot::At(place) => Seat::At(place),
             }
         }
     }
-}
-
-// The fields that stand at a place, which has 32 bytes behind it.
-fn fields(window: &[u8], at: usize) -> Descriptor
-    requires { ⌜ at + 32 ≤ length (now window) ⌝ }
-    ensures { λ r. ⌜ r ≡ descriptorOf (part (now (window .entry)) at 32) ⌝ }
-{
-    Descriptor {
-        source: get_u32(Order::LeastFirst, window, at),
-        destination: get_u32(Order::LeastFirst, window, at + 8),
-        next: get_u32(Order::LeastFirst, window, at + 16),
-        length: get_u16(Order::LeastFirst, window, at + 24),
-        actual: get_u16(Order::LeastFirst, window, at + 28),
-        status: window[at + 30],
-        control: DescControl(window[at + 31]),
-    }
-}
-
-// The descriptor at a place; one of zeros where 32 bytes do not stand there.
-pub fn at(window: &[u8], place: Place) -> Descriptor
-    ensures { λ r. ⌜ Gives (descriptorAt (now (window .entry)) (place .0)) r ⌝ }
-{
-    let index = place.index();
-    if window.len() < 32 {
-        return NONE;
-    }
-    if window.len() - 32 < index {
-        return NONE;
-    }
-    fields(window, index)
 }
 
 // What the reader answers.
@@ -138,10 +206,10 @@ pub enum ReadDescriptor {
 pub fn read(window: &[u8], base: u64, address: BusAddress) -> ReadDescriptor
     ensures { λ r. ⌜ DescriptorWasRead (now (window .entry)) base (address .0) r ⌝ }
 {
-    let slot = slot_of(window.len(), base, address);
-    match slot {
-        Slot::Refused(why) => ReadDescriptor::Refused(why),
-        Slot::At(place) => ReadDescriptor::Good(at(window, place)),
+    let seat = seat_of(window.len(), base, address);
+    match seat {
+        Seat::Refused(why) => ReadDescriptor::Refused(why),
+        Seat::At(place) => ReadDescriptor::Good(raw_at(window, place).named()),
     }
 }
 
@@ -175,10 +243,10 @@ pub enum BuiltDescriptor {
 pub fn build(window: &mut [u8], base: u64, address: BusAddress, job: Job) -> BuiltDescriptor
     ensures { λ r. ⌜ WasBuilt (now (window .entry)) base (address .0) job r (now (window .exit)) ⌝ }
 {
-    let slot = slot_of(window.len(), base, address);
-    match slot {
-        Slot::Refused(why) => BuiltDescriptor::Refused(why),
-        Slot::At(place) => {
+    let seat = seat_of(window.len(), base, address);
+    match seat {
+        Seat::Refused(why) => BuiltDescriptor::Refused(why),
+        Seat::At(place) => {
             put(window, place.index(), job);
             BuiltDescriptor::Done
         }

@@ -1,6 +1,7 @@
 pub mod Writes
 pub mod Answers
 pub mod Cases
+pub mod AtFetch
 pub mod Places
 pub mod Streams
 pub mod Logging

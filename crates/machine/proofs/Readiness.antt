@@ -1,6 +1,6 @@
 -- A machine that keeps the image rules is ready for a step, and a step leaves it ready for the next.
 -- Assumes nothing.
-use Prim.Native.Nat.{ℕ, zero, suc, _%_, _≤_, _<_}
+use Prim.Native.Nat.{ℕ, zero, suc, _≤_, _<_}
 use mathlib.Core.Path.{_≡_, refl, sym, ap, subst}
 use mathlib.Core.Bool.{Bool, true, false, not, cond, _&&_, _||_}
 use mathlib.Core.List.{List, [], _∷_}
@@ -9,7 +9,9 @@ use lib.Dec.{eqb, ltb}
 use borrow.Author.Tests.{eqb-true, eqb-false, ltb-true, lt-ltb, not-true}
 use Rattle.bus.specs.Window.{inWindow}
 use Rattle.descriptor.specs.declared.Descriptor.{Descriptor}
+use Rattle.descriptor.specs.declared.Look.{Look}
 use Rattle.descriptor.specs.Layout.{owned}
+use Rattle.descriptor.proofs.Looks.{Looked, misaligned, outside, there, looked}
 use Rattle.regs.specs.declared.Mode.{Mode}
 use Rattle.regs.specs.declared.Mode.the-variants.{MemoryToMemory, MemoryToStream, StreamToMemory}
 use Rattle.regs.specs.Modes.{modeNumber}
@@ -24,9 +26,9 @@ use Rattle.machine.specs.declared.Work.{Work}
 use Rattle.machine.specs.declared.Phase.{Phase}
 use Rattle.machine.specs.declared.Phase.the-variants.{Rest, Fetch, Move, WriteBack, Ended, Halted, Faulted}
 use Rattle.machine.specs.declared.Reason.{Reason}
-use Rattle.machine.specs.State.{phaseNumber, withPhase}
+use Rattle.machine.specs.State.{phaseNumber, home, withPhase}
 use Rattle.machine.specs.Saved.{inHand, fieldsOf, keeps}
-use Rattle.machine.specs.Step.{World, Answer, taken, stopped, step, stepIn, restStep, fetchStep, fetched, wantsLength, moveStep, copyStep, sendStep, sendTo, receiveFrom, backTo, writeBackStep, completed, afterBack, onward, withByte, whole, sourceOf, destinationOf}
+use Rattle.machine.specs.Step.{World, Answer, homeBytes, taken, stopped, step, stepIn, restStep, meets, fetchStep, fetched, wantsLength, moveStep, copyStep, sendStep, sendTo, receiveFrom, backTo, writeBackStep, completed, afterBack, onward, withByte, whole, sourceOf, destinationOf}
 use Rattle.machine.specs.Run.{readyIn, readyOf}
 use Rattle.machine.specs.Turns.{Left, Placed, Ready, stepsOn, steps}
 
@@ -54,24 +56,24 @@ module _ (n : ℕ) (w : World) (s : w .machine .window .length ≡ n) where
   fetched-stays : (d : Descriptor) → inWindow (w .machine .window) (w .machine .pointer .0) 32 ≡ true → Stays n (fetched w d)
   unfolding fetched
   fetched-stays d h =
-      either n (owned (d .control .0))
+      either n (not (owned (d .control .0)))
+      (λ e. goes (record { size = s; left = tt; placed = tt }))
       (λ e.
       either n (wantsLength (w .machine .mode) && eqb (d .length) 0)
       (λ f. goes (record { size = s; left = tt; placed = tt }))
       (λ f. goes (record { size = s; left = (begins (w .machine .mode) (d .length) f, refl); placed = h })))
-      (λ e. goes (record { size = s; left = tt; placed = tt }))
+
+  met-stays : {l : Look} → Looked (home (w .machine)) (homeBytes w) (w .machine .pointer .0) l → Stays n (meets w l)
+  met-stays (misaligned e) = goes (record { size = s; left = tt; placed = tt })
+  met-stays (outside e f) = goes (record { size = s; left = tt; placed = tt })
+  met-stays (there e f) = fetched-stays _ f
 
   fetch-stays : Stays n (fetchStep w)
   unfolding fetchStep
   fetch-stays =
-      either n (run (w .machine .control))
-      (λ e.
-      either n (eqb (w .machine .pointer .0 % 4) 0)
-      (λ f.
-      either n (inWindow (w .machine .window) (w .machine .pointer .0) 32) (λ g. fetched-stays _ g)
-      (λ g. goes (record { size = s; left = tt; placed = tt })))
-      (λ f. goes (record { size = s; left = tt; placed = tt })))
+      either n (not (run (w .machine .control)))
       (λ e. goes (record { size = s; left = tt; placed = tt }))
+      (λ e. met-stays (looked (home (w .machine)) (homeBytes w) (w .machine .pointer .0)))
 
 -- ---- Move
 

@@ -1,9 +1,9 @@
 -- The laws of a step: what it leaves of the machine and of what is lent, and which bytes of memory it names.
 -- Assumes nothing.
-use Prim.Native.Nat.{ℕ, zero, suc, _+_, _-_, _%_, _<_}
+use Prim.Native.Nat.{ℕ, zero, suc, _+_, _-_, _<_}
 use mathlib.Core.Path.{_≡_, refl, sym, ap, subst, _∙_}
 use mathlib.Core.Logic.{_≢_}
-use mathlib.Core.Bool.{Bool, true, false, cond, _&&_}
+use mathlib.Core.Bool.{Bool, true, false, not, cond, _&&_}
 use mathlib.Core.List.{List, [], _∷_, _++_, append-assoc, append-nil}
 use native.Mathlib.Nat.{add-zero}
 use native.Mathlib.Numerals.{add-one}
@@ -12,7 +12,10 @@ use lib.Dec.{eqb}
 use lib.ListN.{length, getD, drop, length-append, length-set, length-drop}
 use lib.Seq.{drop-drop, getD-set-other}
 use Rattle.bus.specs.Window.{inWindow, placeOf}
-use Rattle.descriptor.specs.Layout.{owned, descriptorAt}
+use Rattle.descriptor.specs.declared.Look.{Look}
+use Rattle.descriptor.specs.declared.Look.the-variants.{Misaligned, Outside, There}
+use Rattle.descriptor.specs.Layout.{owned}
+use Rattle.descriptor.specs.Looking.{namedIn, lookAt}
 use Rattle.regs.specs.declared.Mode.{Mode}
 use Rattle.regs.specs.declared.Mode.the-variants.{MemoryToMemory, MemoryToStream, StreamToMemory}
 use Rattle.regs.specs.Control.{run}
@@ -23,7 +26,8 @@ use Rattle.machine.specs.declared.Phase.{Phase}
 use Rattle.machine.specs.declared.Phase.the-variants.{Rest, Fetch, Move, WriteBack, Ended, Halted, Faulted}
 use Rattle.machine.specs.declared.Reason.{Reason}
 use Rattle.machine.specs.declared.Reason.the-variants as reason
-use Rattle.machine.specs.Step.{World, Answer, taken, stopped, became, stored, entryFor, backTo, restStep, fetched, fetchStep, wantsLength, sourceOf, destinationOf, beatFor, copyStep, sendTo, sendStep, receiveFrom, moveStep, onward, completed, writtenBack, writeBackStep, stepIn, step}
+use Rattle.machine.specs.State.{home}
+use Rattle.machine.specs.Step.{World, Answer, homeBytes, taken, stopped, became, stored, entryFor, backTo, restStep, fetched, meets, fetchStep, wantsLength, sourceOf, destinationOf, beatFor, copyStep, sendTo, sendStep, receiveFrom, moveStep, onward, completed, writtenBack, writeBackStep, stepIn, step}
 use Rattle.machine.specs.Saved.{inHand}
 use Rattle.machine.specs.Run.{reasonNumber, takenSince}
 use Rattle.machine.specs.Laws.{Passed, sparesMove, sparesIn}
@@ -84,18 +88,18 @@ pub fetch-turns : (w : World) (P : Answer → Type 0)
 unfolding fetchStep fetched
 fetch-turns w P turns =
     let m = w .machine in
-    let d = descriptorAt (w .memory) (placeOf (m .window) (m .pointer .0)) in
-    either (run (m .control))
-    (either (eqb (m .pointer .0 % 4) 0)
-    (either (inWindow (m .window) (m .pointer .0) 32)
-    (either (owned (d .control .0))
-    (either (wantsLength (m .mode) && eqb (d .length) 0) (turns _ refl refl refl) (turns _ refl refl refl)) (turns _ refl refl refl)) (turns _ refl refl refl))
-    (turns _ refl refl refl))
-    (turns _ refl refl refl)
+    either (not (run (m .control))) (turns _ refl refl refl) (met (lookAt (home m) (homeBytes w) (m .pointer .0)))
   where
     either : (b : Bool) {x y : Answer} → P x → P y → P (cond b x y)
     either true p q = p
     either false p q = q
+
+    met : (l : Look) → P (meets w l)
+    met Misaligned = turns _ refl refl refl
+    met Outside = turns _ refl refl refl
+    met (There r) =
+        either (not (owned (namedIn r .control .0))) (turns _ refl refl refl)
+        (either (wantsLength (w .machine .mode) && eqb (namedIn r .length) 0) (turns _ refl refl refl) (turns _ refl refl refl))
 
 -- ---- the bytes that a step names
 

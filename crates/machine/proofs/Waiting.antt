@@ -1,8 +1,8 @@
 -- When a step can be taken.
 -- Assumes nothing.
-use Prim.Native.Nat.{ℕ, zero, suc, _-_, _/_, _%_, _<_}
+use Prim.Native.Nat.{ℕ, zero, suc, _-_, _/_, _<_}
 use mathlib.Core.Path.{_≡_, refl, sym, ap, _∙_}
-use mathlib.Core.Bool.{Bool, true, false, cond, _&&_}
+use mathlib.Core.Bool.{Bool, true, false, not, cond, _&&_}
 use mathlib.Core.List.{List, [], _∷_}
 use native.Mathlib.Omega.{arith}
 use lib.Dec.{eqb, ltb}
@@ -10,7 +10,10 @@ use lib.ListN.{length, drop}
 use borrow.Author.Tests.{lt-ltb, ltb-true}
 use Rattle.bus.specs.Window.{inWindow}
 use Rattle.descriptor.specs.declared.Descriptor.{Descriptor}
+use Rattle.descriptor.specs.declared.Look.{Look}
+use Rattle.descriptor.specs.declared.Look.the-variants.{Misaligned, Outside, There}
 use Rattle.descriptor.specs.Layout.{owned}
+use Rattle.descriptor.specs.Looking.{namedIn, lookAt}
 use Rattle.regs.specs.declared.Mode.{Mode}
 use Rattle.regs.specs.declared.Mode.the-variants.{MemoryToMemory, MemoryToStream, StreamToMemory}
 use Rattle.regs.specs.Control.{run}
@@ -22,7 +25,8 @@ use Rattle.machine.specs.declared.Phase.{Phase}
 use Rattle.machine.specs.declared.Work.{Work}
 use Rattle.machine.specs.declared.steps.Wait.{Wait}
 use Rattle.machine.specs.declared.steps.Wait.the-variants.{Go, Stop}
-use Rattle.machine.specs.Step.{World, Answer, taken, stopped, step, stepIn, restStep, fetchStep, fetched, wantsLength, copyStep, sendStep, sendTo, receiveFrom, moveStep, backTo, writeBackStep, sourceOf, destinationOf}
+use Rattle.machine.specs.State.{home}
+use Rattle.machine.specs.Step.{World, Answer, homeBytes, taken, stopped, step, stepIn, restStep, meets, fetchStep, fetched, wantsLength, copyStep, sendStep, sendTo, receiveFrom, moveStep, backTo, writeBackStep, sourceOf, destinationOf}
 use Rattle.machine.specs.Turns.{midway, waitOf, some, Waits, Goes}
 use Rattle.machine.proofs.Streams.{some-beat, some-room}
 
@@ -39,17 +43,17 @@ step-goes goes = refl
 
 fetched-step : (w : World) (d : Descriptor) → Step (fetched w d)
 unfolding fetched
-fetched-step w d = both (owned (d .control .0)) (both (wantsLength (w .machine .mode) && eqb (d .length) 0) goes goes) goes
+fetched-step w d = both (not (owned (d .control .0))) goes (both (wantsLength (w .machine .mode) && eqb (d .length) 0) goes goes)
+
+met-step : (w : World) (l : Look) → Step (meets w l)
+met-step w Misaligned = goes
+met-step w Outside = goes
+met-step w (There r) = fetched-step w (namedIn r)
 
 pub fetch-goes : (w : World) → waitOf (fetchStep w) ≡ Go
 unfolding fetchStep
 fetch-goes w =
-    step-goes
-    (both (run (w .machine .control))
-    (both (eqb (w .machine .pointer .0 % 4) 0)
-    (both (inWindow (w .machine .window) (w .machine .pointer .0) 32) (fetched-step w _) goes)
-    goes)
-    goes)
+    step-goes (both (not (run (w .machine .control))) goes (met-step w (lookAt (home (w .machine)) (homeBytes w) (w .machine .pointer .0))))
 
 either-waits : (b : Bool) (x : Answer) (v : World) → waitOf (cond b x (taken v)) ≡ cond b (waitOf x) Go
 either-waits true x v = refl

@@ -37,6 +37,11 @@ sourceOutside = 13
 abbrev pub destinationOutside : ℕ
 destinationOutside = 14
 
+-- ---- the window that descriptors live in
+
+abbrev pub home : Machine → Window
+home m = m .window
+
 -- ---- the machine with one part changed
 
 -- these parts; mode and window stay. No other update of a machine names its parts

@@ -6,10 +6,14 @@ use mathlib.Core.List.{List, [], _∷_, _++_}
 use lib.Bits.{bitOr}
 use lib.Dec.{eqb}
 use lib.ListN.{getD, set}
+use Rattle.words.specs.Guards.{if_then_else_}
 use Rattle.words.specs.Slices.{putAt}
 use Rattle.bus.specs.Window.{inWindow, placeOf}
 use Rattle.descriptor.specs.declared.Descriptor.{Descriptor}
-use Rattle.descriptor.specs.Layout.{generateEop, readFixed, writeFixed, owned, descriptorAt, lastFour}
+use Rattle.descriptor.specs.declared.Look.{Look}
+use Rattle.descriptor.specs.declared.Look.the-variants.{Misaligned, Outside, There}
+use Rattle.descriptor.specs.Layout.{generateEop, readFixed, writeFixed, owned, lastFour}
+use Rattle.descriptor.specs.Looking.{namedIn, lookAt}
 use Rattle.regs.specs.declared.Mode.{Mode}
 use Rattle.regs.specs.declared.Mode.the-variants.{MemoryToMemory, MemoryToStream, StreamToMemory}
 use Rattle.regs.specs.declared.Count.{Count}
@@ -25,7 +29,7 @@ use Rattle.machine.specs.declared.Phase.{Phase}
 use Rattle.machine.specs.declared.Phase.the-variants.{Rest, Fetch, Move, WriteBack, Ended, Halted, Faulted}
 use Rattle.machine.specs.declared.Reason.{Reason}
 use Rattle.machine.specs.declared.Reason.the-variants as reason
-use Rattle.machine.specs.State.{misaligned, descriptorOutside, noLength, sourceOutside, destinationOutside, remade, withStatus, withPointer, withPhase, withBusy, pend, rested}
+use Rattle.machine.specs.State.{misaligned, descriptorOutside, noLength, sourceOutside, destinationOutside, home, remade, withStatus, withPointer, withPhase, withBusy, pend, rested}
 
 -- the world of a step: the machine; the window's bytes; the beats not yet taken; the beats made, and the room for more;
 -- the records made, and the room for more
@@ -37,6 +41,10 @@ pub record World : Type 0 where
   pub room : ℕ
   pub records : List Entry
   pub left : ℕ
+
+-- the bytes of the window that descriptors live in
+abbrev pub homeBytes : World → List ℕ
+homeBytes w = w .memory
 
 -- a step is taken, or it cannot be, and why
 pub data Answer : Type 0 where
@@ -124,27 +132,27 @@ begun a d =
       eop = false;
     }
 
--- OWNED 0, then length 0 in mode 0 or 1, fault 12; otherwise keep the fields, set the pointer to next_desc_ptr, go to Move
+-- OWNED 0; length 0 in mode 0 or 1, fault 12; otherwise keep the fields, set the pointer to next_desc_ptr, go to Move
 unfoldable pub fetched : World → Descriptor → Answer
 fetched w d =
     let m = w .machine in
     let a = w .machine .pointer .0 in
-    cond (owned (d .control .0))
-    (cond (wantsLength (m .mode) && eqb (d .length) 0) (faulted w noLength a)
-    (taken (became w (withPhase (Move (begun a d)) (withPointer (d .next) m)))))
-    (taken (became w (ended m)))
+    if not (owned (d .control .0)) then taken (became w (ended m))
+    else if wantsLength (m .mode) && eqb (d .length) 0 then faulted w noLength a
+    else taken (became w (withPhase (Move (begun a d)) (withPointer (d .next) m)))
 
--- RUN 0: Rest, BUSY 0. Otherwise read 32 bytes at the pointer: misaligned, fault 10; not wholly in the window, fault 11. A
--- descriptor is read here and nowhere else
+-- what the look at the pointer finds: misaligned, fault 10; not wholly in the window, fault 11; a descriptor
+abbrev pub meets : World → Look → Answer
+meets w Misaligned = faulted w misaligned (w .machine .pointer .0)
+meets w Outside = faulted w descriptorOutside (w .machine .pointer .0)
+meets w (There r) = fetched w (namedIn r)
+
+-- RUN 0: Rest, BUSY 0. Otherwise read 32 bytes at the pointer. A descriptor is read here and nowhere else
 unfoldable pub fetchStep : World → Answer
 fetchStep w =
     let m = w .machine in
-    let a = w .machine .pointer .0 in
-    cond (run (m .control))
-    (cond (eqb (a % 4) 0)
-    (cond (inWindow (m .window) a 32) (fetched w (descriptorAt (w .memory) (placeOf (m .window) a))) (faulted w descriptorOutside a))
-    (faulted w misaligned a))
-    (taken (became w (rested m)))
+    if not (run (m .control)) then taken (became w (rested m))
+    else meets w (lookAt (home m) (homeBytes w) (m .pointer .0))
 
 -- ---- Move
 
@@ -231,7 +239,7 @@ writtenControl m k = cond (park (m .control)) (k .control .0) (k .control .0 % 1
 -- says so of every machine that is served, so nothing is written past its end
 unfoldable pub writtenBack : World → Work → List ℕ
 writtenBack w k =
-    putAt (w .memory) (placeOf (w .machine .window) (k .at) + 28) (lastFour (k .moved) (k .errors) (writtenControl (w .machine) k))
+    putAt (homeBytes w) (placeOf (home (w .machine)) (k .at) + 28) (lastFour (k .moved) (k .errors) (writtenControl (w .machine) k))
 
 -- RUN 0: Rest, BUSY 0; errors with STOP_DMA_ER: Halted, BUSY 0; else Fetch
 abbrev pub afterBack : (run halts : Bool) → Phase

@@ -65,7 +65,7 @@ impl Machine {
         requires { ⌜ inWindow (self .window) (k .at) 32 ≡ true ⌝ }
         ensures { λ _. ⌜ ((w : World) → now (window .exit) ≡ writtenBack (stored w self (now (window .entry))) k) ⌝ }
     {
-        let found = self.window.locate(BusAddress(k.at as u64), 32);
+        let found = self.home().locate(BusAddress(k.at as u64), 32);
         let Located::At(place) = found else {
             return;
         };

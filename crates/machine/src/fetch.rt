@@ -11,9 +11,10 @@ use crate::Machine;
 use crate::Phase;
 use crate::Work;
 use bus::BusAddress;
-use bus::Located;
 use descriptor::DescControl;
 use descriptor::Descriptor;
+use descriptor::Look;
+use descriptor::look_at;
 use regs::Control;
 use regs::Mode;
 use regs::Pointer;
@@ -73,35 +74,29 @@ impl Machine {
     {
         let control = d.control;
         let mode = self.mode;
-        let empty = wants_length(mode) & (d.length == 0);
-        if control.has(DescControl::OWNED_BY_HW) {
-            if empty {
-                self.faulted(Fault::NO_LENGTH, self.pointer.0)
-            } else {
-                self.begun(d)
-            }
-        } else {
-            self.ended()
+        if !control.has(DescControl::OWNED_BY_HW) {
+            return self.ended();
         }
+        let empty = wants_length(mode) & (d.length == 0);
+        if empty {
+            return self.faulted(Fault::NO_LENGTH, self.pointer.0);
+        }
+        self.begun(d)
     }
 
-    // RUN 0: Rest. Otherwise the 32 bytes at the pointer: misaligned, fault 10; not in the window, fault 11.
+    // RUN 0: Rest. Otherwise what the look at the pointer finds: misaligned, fault 10; not in the window, fault 11; a descriptor.
     pub(crate) fn fetch_step(self, window: &[u8]) -> Machine
         ensures { λ r. ⌜ Still fetchStep self (now (window .entry)) r (now (window .entry)) ⌝ }
     {
+        if !has(self.control.0, Control::RUN) {
+            return self.rested();
+        }
         let pointer = self.pointer.0;
-        if has(self.control.0, Control::RUN) {
-            if pointer % 4 == 0 {
-                let found = self.window.locate(BusAddress(pointer as u64), 32);
-                match found {
-                    Located::Outside => self.faulted(Fault::DESCRIPTOR_OUTSIDE, pointer),
-                    Located::At(place) => self.fetched(descriptor::at(window, place)),
-                }
-            } else {
-                self.faulted(Fault::MISALIGNED, pointer)
-            }
-        } else {
-            self.rested()
+        let look = look_at(self.home(), window, BusAddress(pointer as u64));
+        match look {
+            Look::Misaligned => self.faulted(Fault::MISALIGNED, pointer),
+            Look::Outside => self.faulted(Fault::DESCRIPTOR_OUTSIDE, pointer),
+            Look::There(raw) => self.fetched(raw.named()),
         }
     }
 }

@@ -3,6 +3,7 @@ ghost use mathlib.Core.Path.{_≡_};
 ghost use Prim.Native.Nat.{_%_, _^_};
 ghost use lib.ListN.{length};
 ghost use Rattle.bus.specs.Window.{inWindow};
+ghost use Rattle.machine.specs.State.{home as homeOf};
 ghost use Rattle.machine.specs.Step.{step as stepOf};
 ghost use Rattle.machine.specs.Run.{lent, back, servedIf, servedOf, readyOf, Stepped};
 ghost use Rattle.machine.specs.Turns.{reachedAs, inFault, Waits, Goes, servedAs, Within, Turned, Ready};
@@ -17,6 +18,7 @@ use crate::moves::asked;
 use bus::BusAddress;
 use bus::Located;
 use bus::Refusal;
+use bus::Window;
 use ledger::has_room;
 use regs::Control;
 use words::has;
@@ -70,11 +72,18 @@ impl Machine {
 
 // What a step needs of the machine.
 impl Machine {
+    // The window that descriptors live in.
+    pub(crate) fn home(self) -> Window
+        ensures { λ r. ⌜ r ≡ homeOf self ⌝ }
+    {
+        self.window
+    }
+
     // Whether the descriptor in hand is in the window.
     fn holds(self, k: Work) -> bool
-        ensures { λ r. ⌜ r ≡ inWindow (self .window) (k .at) 32 ⌝ }
+        ensures { λ r. ⌜ r ≡ inWindow (homeOf self) (k .at) 32 ⌝ }
     {
-        match self.window.locate(BusAddress(k.at as u64), 32) {
+        match self.home().locate(BusAddress(k.at as u64), 32) {
             Located::At(_) => true,
             Located::Outside => false,
         }

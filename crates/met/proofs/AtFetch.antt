@@ -2,14 +2,17 @@
 -- Assumes nothing.
 use Prim.Native.Nat.{ℕ, _%_, _<_}
 use mathlib.Core.Path.{_≡_, refl, sym, ap, _∙_}
-use mathlib.Core.Bool.{Bool, true, false, _&&_}
+use mathlib.Core.Bool.{Bool, true, false, not, _&&_}
 use native.Mathlib.Omega.{arith}
 use lib.Dec.{eqb}
-use borrow.Author.Tests.{eqb-true, eqb-false}
+use borrow.Author.Tests.{eqb-true, eqb-false, not-false}
 use Rattle.bus.specs.Window.{inWindow, placeOf}
 use Rattle.descriptor.specs.declared.Descriptor.{Descriptor}
-use Rattle.descriptor.specs.Layout.{owned, descriptorAt}
+use Rattle.descriptor.specs.declared.Look.{Look}
+use Rattle.descriptor.specs.Layout.{owned}
+use Rattle.descriptor.specs.Looking.{namedIn, rawAt}
 use Rattle.descriptor.specs.RoundTrip.{Typed, jobOf}
+use Rattle.descriptor.proofs.Looks.{Looked, misaligned, outside, there, looked}
 use Rattle.regs.specs.declared.Mode.{Mode}
 use Rattle.regs.specs.declared.Mode.the-variants.{MemoryToMemory, MemoryToStream, StreamToMemory}
 use Rattle.regs.specs.Modes.{modeNumber}
@@ -18,10 +21,10 @@ use Rattle.image.specs.Rules.{asked, faultCode}
 use Rattle.image.proofs.Tests.{and-left}
 use Rattle.machine.specs.declared.Machine.{Machine}
 use Rattle.machine.specs.declared.Phase.the-variants.{Rest, Move}
-use Rattle.machine.specs.State.{withPhase, withPointer}
-use Rattle.machine.specs.Step.{World, ended, wantsLength, begun, fetched, fetchStep}
+use Rattle.machine.specs.State.{home, withPhase, withPointer}
+use Rattle.machine.specs.Step.{World, homeBytes, ended, wantsLength, begun, fetched, meets, fetchStep}
 use Rattle.met.proofs.Kept.{RulesKept, on}
-use Rattle.met.proofs.Memory.{descriptor-typed}
+use Rattle.met.proofs.Memory.{named-typed}
 use Rattle.met.proofs.Worlds.{KeptWorld, After, became-kept, phase-after, fault-after}
 
 -- OWNED 0 ends the chain
@@ -93,21 +96,22 @@ module _ {w : World} (h : KeptWorld w) (b : w .machine .status .busy ≡ true) (
   fetched-after : (d : Descriptor) → Typed (jobOf d) → a % 4 ≡ 0 → inWindow (m .window) a 32 ≡ true → After (fetched w d)
   unfolding fetched
   fetched-after d t aligned inside =
-      on After (owned (d .control .0))
+      on After (not (owned (d .control .0)))
+      (λ o. became-kept h (ended m) refl (ended-kept (h .machine) b r))
       (λ o. on After (wantsLength (m .mode) && eqb (d .length) 0)
       (λ z. fault-after h 12 a (twelve (m .mode) (and-left _ _ z)) (h .machine .pointer))
-      (λ z. became-kept h (withPhase (Move (begun a d)) (withPointer (d .next) m)) refl (begun-kept d t aligned inside o z)))
-      (λ o. became-kept h (ended m) refl (ended-kept (h .machine) b r))
+      (λ z. became-kept h (withPhase (Move (begun a d)) (withPointer (d .next) m)) refl (begun-kept d t aligned inside (not-false _ o) z)))
+
+  met-after : {l : Look} → Looked (home m) (homeBytes w) a l → After (meets w l)
+  met-after (misaligned e) = fault-after h 10 a refl (h .machine .pointer)
+  met-after (outside e i) = fault-after h 11 a refl (h .machine .pointer)
+  met-after (there e i) = fetched-after (namedIn (rawAt (homeBytes w) (placeOf (home m) a))) (named-typed _) (eqb-true _ _ e) i
 
 pub fetch-after : {w : World} → KeptWorld w → w .machine .status .busy ≡ true → After (fetchStep w)
 unfolding fetchStep
 fetch-after {w} h b =
     let m = w .machine in
     let a = w .machine .pointer .0 in
-    on After (run (m .control))
-    (λ r. on After (eqb (a % 4) 0)
-    (λ e. on After (inWindow (m .window) a 32)
-    (λ i. fetched-after h b r (descriptorAt (w .memory) (placeOf (m .window) a)) (descriptor-typed (w .memory) (placeOf (m .window) a) (h .memory)) (eqb-true _ _ e) i)
-    (λ i. fault-after h 11 a refl (h .machine .pointer)))
-    (λ e. fault-after h 10 a refl (h .machine .pointer)))
+    on After (not (run (m .control)))
     (λ r. phase-after h Rest false refl)
+    (λ r. met-after h b (not-false _ r) (looked (home m) (homeBytes w) a))

@@ -20,7 +20,8 @@ use Rattle.words.proofs.Bytes.{bytes-fit, take-bytes, drop-bytes, append-bytes,
 use Rattle.words.proofs.Orders.{length-order}
 use Rattle.words.proofs.Slices.{length-put}
 use Rattle.descriptor.specs.declared.Descriptor.{Descriptor}
-use Rattle.descriptor.specs.Layout.{descriptorOf, descriptorAt}
+use Rattle.descriptor.specs.declared.Raw.{Raw}
+use Rattle.descriptor.specs.Looking.{eightWords, rawWords, rawBytes, namedIn}
 use Rattle.descriptor.specs.RoundTrip.{Typed, jobOf}
 use Rattle.descriptor.proofs.Reading.{by-offset}
 use Rattle.met.proofs.Kept.{on}
@@ -74,21 +75,17 @@ part-lt xs at n g h =
     subst (λ (k : ℕ). numberOf LeastFirst (part xs at n) < 2 ^ total (bytes k)) l
     (number-lt LeastFirst (part xs at n) (take-bytes n (drop at xs) (drop-bytes at xs g)))
 
--- the numbers of a descriptor that was read are of their types' widths
-pub descriptor-typed : (xs : List ℕ) (at : ℕ) → AllBytes xs → Typed (jobOf (descriptorAt xs at))
-unfolding descriptorAt
-descriptor-typed xs at g =
-    on (λ (d : Descriptor). Typed (jobOf d)) (leb (at + 32) (length xs)) (λ e. there (leb-true _ _ e)) (λ e. omega arith)
-  where
-    there : at + 32 ≤ length xs → Typed (jobOf (descriptorOf (part xs at 32)))
-    there h =
-        let l : length (part xs at 32) ≡ 32 = length-take-le 32 (drop at xs) (simp length-drop (omega arith)) in
-        let b = take-bytes 32 (drop at xs) (drop-bytes at xs g) in
-        subst (λ (d : Descriptor). Typed (jobOf d)) (sym (by-offset (part xs at 32)))
-        (record {
-          source = part-lt (part xs at 32) 0 4 b (omega arith);
-          destination = part-lt (part xs at 32) 8 4 b (omega arith);
-          next = part-lt (part xs at 32) 16 4 b (omega arith);
-          length = part-lt (part xs at 32) 24 2 b (omega arith);
-          control = part-lt (part xs at 32) 31 1 b (omega arith);
-        })
+-- the numbers that a descriptor's bytes name are of their types' widths
+pub named-typed : (r : Raw) → Typed (jobOf (namedIn r))
+unfolding namedIn
+named-typed r =
+    let ys = rawBytes r in
+    let b : AllBytes ys = row-bytes LeastFirst eightWords (rawWords r) in
+    subst (λ (d : Descriptor). Typed (jobOf d)) (sym (by-offset ys))
+    (record {
+      source = part-lt ys 0 4 b (omega arith);
+      destination = part-lt ys 8 4 b (omega arith);
+      next = part-lt ys 16 4 b (omega arith);
+      length = part-lt ys 24 2 b (omega arith);
+      control = part-lt ys 31 1 b (omega arith);
+    })

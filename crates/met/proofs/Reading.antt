@@ -1,21 +1,24 @@
 -- "A descriptor is read only in its own Fetch": in every other phase what the window holds does not show in the machine, and in
 -- Fetch no more of it than the descriptor at the pointer.
 -- Assumes nothing.
-use Prim.Native.Nat.{ℕ, zero, suc, _%_}
+use Prim.Native.Nat.{ℕ, zero, suc}
 use mathlib.Core.Path.{_≡_, refl, subst}
-use mathlib.Core.Bool.{Bool, true, false, cond, _&&_}
+use mathlib.Core.Bool.{Bool, true, false, not, cond, _&&_}
 use mathlib.Core.List.{List, [], _∷_}
 use lib.Dec.{eqb}
 use Rattle.bus.specs.Window.{inWindow}
 use Rattle.descriptor.specs.declared.Descriptor.{Descriptor}
+use Rattle.descriptor.specs.declared.Look.{Look}
 use Rattle.descriptor.specs.Layout.{owned}
+use Rattle.descriptor.proofs.Looks.{looks-alike}
 use Rattle.regs.specs.declared.Mode.{Mode}
 use Rattle.regs.specs.declared.Mode.the-variants.{MemoryToMemory, MemoryToStream, StreamToMemory}
 use Rattle.regs.specs.Control.{run}
 use Rattle.machine.specs.declared.Work.{Work}
 use Rattle.machine.specs.declared.Phase.{Phase}
 use Rattle.machine.specs.declared.Phase.the-variants.{Rest, Fetch, Move, WriteBack, Ended, Halted, Faulted}
-use Rattle.machine.specs.Step.{World, Answer, wantsLength, restStep, fetched, fetchStep, sourceOf, destinationOf, copyStep, sendTo, sendStep, receiveFrom, moveStep, backTo, writeBackStep, stepIn, step}
+use Rattle.machine.specs.State.{home}
+use Rattle.machine.specs.Step.{World, Answer, wantsLength, restStep, fetched, meets, fetchStep, sourceOf, destinationOf, copyStep, sendTo, sendStep, receiveFrom, moveStep, backTo, writeBackStep, stepIn, step}
 use Rattle.met.specs.Reading.{over, atPointer, Alike, both, neither}
 use Rattle.met.specs.Theorems.{ReadInFetchAlone}
 
@@ -31,21 +34,17 @@ module _ (w : World) (memory : List ℕ) where
   fetched-alike : (d : Descriptor) → Alike (fetched w d) (fetched (over memory w) d)
   unfolding fetched
   fetched-alike d =
-      choice (owned (d .control .0))
+      choice (not (owned (d .control .0))) (both refl refl refl)
       (choice (wantsLength (w .machine .mode) && eqb (d .length) 0) (both refl refl refl) (both refl refl refl))
-      (both refl refl refl)
 
   fetch-alike : atPointer w ≡ atPointer (over memory w) → Alike (fetchStep w) (fetchStep (over memory w))
   unfolding fetchStep
   fetch-alike e =
       let m = w .machine in
-      choice (run (m .control))
-      (choice (eqb (m .pointer .0 % 4) 0)
-      (choice (inWindow (m .window) (m .pointer .0) 32)
-      (subst (λ (d : Descriptor). Alike (fetched w (atPointer w)) (fetched (over memory w) d)) e (fetched-alike (atPointer w)))
-      (both refl refl refl))
-      (both refl refl refl))
+      choice (not (run (m .control))) (both refl refl refl)
+      (looks-alike (home m) (m .pointer .0) (w .memory) memory (λ (l k : Look). Alike (meets w l) (meets (over memory w) k)) (both refl refl refl)
       (both refl refl refl)
+      (subst (λ (d : Descriptor). Alike (fetched w (atPointer w)) (fetched (over memory w) d)) e (fetched-alike (atPointer w))))
 
   module _ (k : Work) where
     copy-alike : Alike (copyStep w k) (copyStep (over memory w) k)

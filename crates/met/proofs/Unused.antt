@@ -2,14 +2,16 @@
 -- Assumes nothing.
 use Prim.Native.Nat.{ℕ, zero, suc, _/_, _%_}
 use mathlib.Core.Path.{_≡_, refl, sym, ap, subst, _∙_}
-use mathlib.Core.Bool.{Bool, true, false, cond, _&&_, _||_}
+use mathlib.Core.Bool.{Bool, true, false, not, cond, _&&_, _||_}
 use mathlib.Core.List.{List, [], _∷_}
 use native.Mathlib.Omega.{arith}
 use lib.Dec.{eqb}
 use Rattle.words.specs.Bits.{bit}
 use Rattle.bus.specs.Window.{inWindow}
 use Rattle.descriptor.specs.declared.Descriptor.{Descriptor}
+use Rattle.descriptor.specs.declared.Look.{Look}
 use Rattle.descriptor.specs.Layout.{owned}
+use Rattle.descriptor.proofs.Looks.{looks-alike}
 use Rattle.regs.specs.declared.Mode.{Mode}
 use Rattle.regs.specs.declared.Mode.the-variants.{MemoryToMemory, MemoryToStream, StreamToMemory}
 use Rattle.regs.specs.Control.{run, park}
@@ -18,8 +20,8 @@ use Rattle.machine.specs.declared.Machine.{Machine}
 use Rattle.machine.specs.declared.Work.{Work}
 use Rattle.machine.specs.declared.Phase.{Phase}
 use Rattle.machine.specs.declared.Phase.the-variants.{Fetch, Move, WriteBack}
-use Rattle.machine.specs.State.{withPhase}
-use Rattle.machine.specs.Step.{World, Answer, wantsLength, fetched, fetchStep, sourceOf, destinationOf, whole, withByte, onward, copyStep, beatFor, sendTo, sendStep, receiveFrom, moveStep, writtenControl, writtenBack, completed, backTo, writeBackStep, stepIn, step}
+use Rattle.machine.specs.State.{home, withPhase}
+use Rattle.machine.specs.Step.{World, Answer, wantsLength, fetched, meets, fetchStep, sourceOf, destinationOf, whole, withByte, onward, copyStep, beatFor, sendTo, sendStep, receiveFrom, moveStep, writtenControl, writtenBack, completed, backTo, writeBackStep, stepIn, step}
 use Rattle.met.specs.Reading.{over, atPointer}
 use Rattle.met.specs.Unused.{SameUse, descriptorUnder, workUnder, phaseUnder, worldUnder, answerUnder, answerOver}
 use Rattle.met.specs.Theorems.{NoEffectInFetch, NoEffectInMove, NoEffectInWriteBack, KeptAsGiven}
@@ -100,19 +102,17 @@ module _ (c : ℕ) (memory : List ℕ) (w : World) where
   unfolding fetched
   kept d e same =
       rw (same .own)
-      (either (owned (d .control .0)) _ _
-      (either (wantsLength (w .machine .mode) && eqb (d .length) 0) _ _ refl refl)
-      refl)
+      (either (not (owned (d .control .0))) _ _ refl
+      (either (wantsLength (w .machine .mode) && eqb (d .length) 0) _ _ refl refl))
 
   in-fetch : w .machine .phase ≡ Fetch → SameUse c (atPointer w .control .0) → atPointer (over memory w) ≡ descriptorUnder c (atPointer w)
       → fetchStep (over memory w) ≡ under (fetchStep w)
   unfolding fetchStep
   in-fetch e same reads =
       let m = w .machine in
-      either (run (m .control)) _ _
-      (either (eqb (m .pointer .0 % 4) 0) _ _
-      (either (inWindow (m .window) (m .pointer .0) 32) _ _ (ap (fetched (over memory w)) reads ∙ kept (atPointer w) e same) refl) refl)
-      refl
+      either (not (run (m .control))) _ _ refl
+      (looks-alike (home m) (m .pointer .0) memory (w .memory) (λ (l k : Look). meets (over memory w) l ≡ under (meets w k)) refl refl
+      (ap (fetched (over memory w)) reads ∙ kept (atPointer w) e same))
 
 pub no-effect-in-fetch : NoEffectInFetch
 unfolding step

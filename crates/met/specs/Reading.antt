@@ -6,9 +6,10 @@ use mathlib.Core.Path.{_≡_}
 use mathlib.Core.List.{List}
 use Rattle.bus.specs.Window.{placeOf}
 use Rattle.descriptor.specs.declared.Descriptor.{Descriptor}
-use Rattle.descriptor.specs.Layout.{descriptorAt}
+use Rattle.descriptor.specs.Looking.{namedIn, rawAt}
 use Rattle.machine.specs.declared.Reason.{Reason}
-use Rattle.machine.specs.Step.{World, Answer, taken, stopped, stored}
+use Rattle.machine.specs.State.{home}
+use Rattle.machine.specs.Step.{World, Answer, homeBytes, taken, stopped, stored}
 
 -- the same world over other bytes
 abbrev pub over : List ℕ → World → World
@@ -16,7 +17,7 @@ over memory w = stored w (w .machine) memory
 
 -- the descriptor at the pointer
 abbrev pub atPointer : World → Descriptor
-atPointer w = descriptorAt (w .memory) (placeOf (w .machine .window) (w .machine .pointer .0))
+atPointer w = namedIn (rawAt (homeBytes w) (placeOf (home (w .machine)) (w .machine .pointer .0)))
 
 -- both steps are taken, to the same machine, and leave the same beats and the same room; or both cannot be, for the same reason
 pub data Alike : Answer → Answer → Type 0 where

@@ -13,7 +13,7 @@ use Rattle.bus.specs.Window.{keepsLimits}
 use Rattle.descriptor.specs.declared.Job.{Job}
 use Rattle.descriptor.specs.declared.ReadDescriptor.{ReadDescriptor}
 use Rattle.descriptor.specs.declared.ReadDescriptor.the-variants as descriptor
-use Rattle.descriptor.specs.Calls.{slotOf, found, built, withJob, builtNumber, descriptorNumber}
+use Rattle.descriptor.specs.Calls.{seatOf, found, built, withJob, builtNumber, descriptorNumber}
 use Rattle.answers.specs.Answers.{valueBytes, reportBytes, descriptorBytes}
 use Rattle.regs.specs.declared.ReadRegister.{ReadRegister}
 use Rattle.regs.specs.declared.ReadRegister.the-variants as register
@@ -185,8 +185,8 @@ run-made-unique xs l budget report r s x1 b1 p1 x2 b2 p2 p q = (
 -- ---- sgdma_build_descriptor: 3, 5, 6
 
 pub record DescriptorBuilt (window : List ℕ) (base a : ℕ) (j : Job) (r : ℕ) (window' : List ℕ) : Type 0 where
-  pub number : r ≡ builtNumber (built (slotOf (length window) base a))
-  pub window-after : window' ≡ withJob window j (slotOf (length window) base a)
+  pub number : r ≡ builtNumber (built (seatOf (length window) base a))
+  pub window-after : window' ≡ withJob window j (seatOf (length window) base a)
 
 -- No second outcome of sgdma_build_descriptor keeps its promise.
 abbrev pub DescriptorBuiltUnique : Type 0
@@ -200,7 +200,7 @@ descriptor-built-unique window base a j r s ys zs p q = (p .number ∙ sym (q .n
 
 unfoldable pub descriptorCall : (window : List ℕ) (base a : ℕ) (answer : List ℕ) → ReadDescriptor
 descriptorCall window base a answer =
-    cond (isSize 18 answer) (found window (slotOf (length window) base a)) (descriptor.Refused BadSize)
+    cond (isSize 18 answer) (found window (seatOf (length window) base a)) (descriptor.Refused BadSize)
 
 abbrev pub answerOver : ReadDescriptor → List ℕ → List ℕ
 answerOver (descriptor.Good d) answer = descriptorBytes d

@@ -93,16 +93,6 @@ pub number-in-part : (order : Order) (xs : List ℕ) (at m k n : ℕ) → at + m
 number-in-part order xs at m k n h i =
     number-in xs (at + k) order n (omega arith) ∙ sym (ap (numberOf order) (part-part xs at m k n i))
 
-one-byte : (order : Order) (x : ℕ) → numberOf order (x ∷ []) ≡ x
-one-byte MostFirst x = simp (mul-one, add-zero)
-one-byte LeastFirst x = simp (mul-one, add-zero)
-
--- the byte at an offset of a part
-pub byte-in-part : (order : Order) (xs : List ℕ) (at m k : ℕ) → at + m ≤ length xs → k + 1 ≤ m
-    → getD xs (at + k) 0 ≡ numberOf order (part (part xs at m) k 1)
-byte-in-part order xs at m k h i =
-    sym (one-byte order (getD xs (at + k) 0)) ∙ elements-number order xs (at + k) 1 (omega arith) ∙ number-in-part order xs at m k 1 h i
-
 -- the numbers of a row by the offsets at which they start
 abbrev pub numbersFrom : Order → ℕ → List ℕ → List ℕ → List ℕ
 numbersFrom order at [] xs = []

@@ -1,3 +1,4 @@
+pub mod Guards
 pub mod Promise
 pub mod Numbers
 pub mod Bits

@@ -1,11 +1,16 @@
-use mathlib.Core.Path.{refl, sym}
 use Rattle.machine.proofs.Places.{inside, outside}
+use Rattle.bus.specs.Window.{inWindow}
+use Rattle.bus.specs.declared.Window.{Window}
+use mathlib.Core.Path.{refl, sym, ap, _∙_}
 use borrow.Author.Needs.{needs}
 use Rattle.machine.proofs.Machine.holds.Statement.{statement}
 use Rattle.machine.proofs.Machine.holds.Tie as tie
 
-cast-t4 : tie.Need-cast-t4
-cast-t4 c = search needs
+home-requires : tie.Need-home-requires
+home-requires c κs = search needs
+
+cast-t5 : tie.Need-cast-t5
+cast-t5 c = search needs
 
 locate-requires : tie.Need-locate-requires
 locate-requires c κs = search needs
@@ -17,10 +22,12 @@ enum-told-2 : tie.Need-enum-told-2
 enum-told-2 c = search needs
 
 returns : tie.Need-returns
-returns c = sym (inside (c .before .before .locate .ensures) refl (c .enum-told .given .1))
+returns c = sym (inside (c .before .before .locate .ensures) refl (c .enum-told .given .1)) ∙ ap (λ (v : Window). inWindow v (c .before .before .before .before .before .args .k .at) 32) (c .before .before .before .before .home .ensures)
 
 returns-2 : tie.Need-returns-2
-returns-2 c = sym (outside (c .before .before .locate .ensures) refl (c .enum-told2 .given .1))
+returns-2 c = sym (outside (c .before .before .locate .ensures) refl (c .enum-told2 .given .1)) ∙ ap (λ (v : Window). inWindow v (c .before .before .before .before .before .args .k .at) 32) (c .before .before .before .before .home .ensures)
 
 pub holds-spec : {M : Type 1} → statement M
-holds-spec = tie.close (tie.spec cast-t4 locate-requires enum-told enum-told-2 returns returns-2)
+holds-spec =
+    tie.close
+    (tie.spec home-requires cast-t5 locate-requires enum-told enum-told-2 returns returns-2)
