@@ -1,5 +1,5 @@
 # make bench   the main job: what the bench firmware does, against the model
-# make speed   how fast the library is, against a plain model and a plain copy
+# make speed   how fast the library is, against two models, the moves alone and a plain copy
 # make test    the gate: every proof, every edit that must fail, every test
 #
 # SGDMA_LIB_DIR is the directory of libsgdma.a, where it is not the one to which 'rt staticlib sgdma' writes it.

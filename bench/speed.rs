@@ -1,18 +1,23 @@
-//! How fast the library is over its C calls, against the harness's model, which
-//! takes step by step, and against a plain copy of the same bytes.
+//! How fast the library is over its C calls, against four others: the harness's
+//! model, which takes step by step; its bulk model, which is written for speed;
+//! the moves of a run alone, by loops written by hand, which is the limit; and a
+//! plain copy of so many bytes.
 //!
-//! Library and model are built for release and make the same calls on the same
-//! bytes in the same run, in turns; a call's bytes are laid anew, and touched,
-//! before it is timed. A time is the least of many, so that what else the machine
-//! does counts little. Nothing is judged here: the ratios are printed, beside
-//! what is aimed at.
+//! All are built for release and make the same calls on the same bytes in the same
+//! run, in turns; a call's bytes are laid anew, and touched, before it is timed. A
+//! time is the least of many, so that what else the machine does counts little.
+//! The ratios are printed beside what is aimed at, with a word where that is
+//! missed; nothing fails by it.
 
+use harness::bulk::Bulk;
 use harness::call::{libraries, Call, Lent, Party, Told};
 use harness::firmware::{stream, Firmware};
+use harness::limit::Limit;
 use harness::model::{
     control, descriptor_control, offset, Descriptor, Paper, Reason, DESCRIPTOR_SIZE, RECORD_SIZE,
     REPORT_SIZE, VALUE_SIZE,
 };
+use std::hint::black_box;
 use std::process::ExitCode;
 use std::time::{Duration, Instant};
 
@@ -24,40 +29,52 @@ const OWNED: u8 = descriptor_control::OWNED_BY_HW;
 const READ_FIXED: u8 = OWNED | descriptor_control::READ_FIXED_ADDRESS;
 const WRITE_FIXED: u8 = OWNED | descriptor_control::WRITE_FIXED_ADDRESS;
 
-/// How long a call is timed again and again, and how often at the least.
-const PATIENCE: Duration = Duration::from_millis(150);
-const LEAST_TURNS: usize = 9;
+/// How long each row of a table is measured, and by how many rounds at the least.
+const PATIENCE: Duration = Duration::from_millis(300);
+const LEAST_ROUNDS: usize = 9;
 /// A call that takes no step is too short to time: so many are made at once. It
 /// may take so many times as long as the model's.
 const CALLS_AT_ONCE: u32 = 1_000;
-const AIM_OF_A_CALL: f64 = 1.5;
-
-/// The library and the model.
-type Both<'party> = [&'party dyn Party; 2];
+const AIM_OF_A_CALL: f64 = 1.2;
 
 /// A run to time.
 struct Case {
     name: &'static str,
     /// How many times as fast as the model the library is to be.
     aim: f64,
+    /// .. and as the bulk model, where that is aimed at.
+    bulk_aim: Option<f64>,
     call: Call,
     copy: PlainCopy,
 }
 
-/// The bytes that a mode moves, as a plain loop moves them. A beat is two bytes,
-/// of which the second is data.
+/// So many bytes, as a plain loop copies them. A beat is two bytes, of which the
+/// second is data.
 struct PlainCopy {
     mode: u32,
-    bytes: usize,
+    from: Vec<u8>,
+    to: Vec<u8>,
 }
 
 impl PlainCopy {
-    fn time(&self) -> Duration {
-        match self.mode {
-            0 => time_copy::<1, 1>(self.bytes),
-            1 => time_copy::<1, 2>(self.bytes),
-            _ => time_copy::<2, 1>(self.bytes),
+    fn new(mode: u32, bytes: usize) -> PlainCopy {
+        let [from, to] = [[1, 1], [1, 2], [2, 1]][mode as usize];
+        PlainCopy {
+            mode,
+            from: vec![0x55; bytes * from],
+            to: vec![0; bytes * to],
         }
+    }
+
+    fn time(&self) -> Duration {
+        let (from, mut to) = (self.from.clone(), self.to.clone());
+        let started = Instant::now();
+        match self.mode {
+            0 => copy::<1, 1>(&from, &mut to),
+            1 => copy::<1, 2>(&from, &mut to),
+            _ => copy::<2, 1>(&from, &mut to),
+        }
+        started.elapsed()
     }
 }
 
@@ -70,44 +87,41 @@ fn copy<const FROM: usize, const TO: usize>(from: &[u8], to: &mut [u8]) {
     }
 }
 
-fn time_copy<const FROM: usize, const TO: usize>(bytes: usize) -> Duration {
-    let from = vec![0x55; bytes * FROM];
-    let mut to = vec![0; bytes * TO];
-    least(|| {
-        let started = Instant::now();
-        copy::<FROM, TO>(&from, &mut to);
-        started.elapsed()
-    })
-}
-
-/// The least time of many turns.
-fn least(mut turn: impl FnMut() -> Duration) -> Duration {
+/// The least time of each, taken in turns, in seconds.
+fn least<const COUNT: usize>(turns: [&dyn Fn() -> Duration; COUNT]) -> [f64; COUNT] {
+    let mut times = [Duration::MAX; COUNT];
     let started = Instant::now();
-    let mut times = Vec::new();
-    while times.len() < LEAST_TURNS || started.elapsed() < PATIENCE {
-        times.push(turn());
+    let mut rounds = 0;
+    while rounds < LEAST_ROUNDS || started.elapsed() < PATIENCE {
+        for (time, turn) in times.iter_mut().zip(turns) {
+            *time = turn().min(*time);
+        }
+        rounds += 1;
     }
-    times.into_iter().min().expect("there were turns")
+    times.map(|time| time.as_secs_f64())
 }
 
-/// The time of so many calls, one after the other on bytes of their own.
-fn timed(party: &dyn Party, call: &Call, times: u32) -> Duration {
+/// The time in which a call is answered so many times, on bytes of its own.
+fn timed(call: &Call, times: u32, answer: impl Fn(&mut Call)) -> Duration {
     let mut call = call.clone();
     let started = Instant::now();
     for _ in 0..times {
-        party.answer(&mut call);
+        answer(&mut call);
     }
     started.elapsed()
 }
 
-/// The least times of library and model, taken in turns, in seconds a call.
-fn least_of_both(both: Both, call: &Call, times: u32) -> [f64; 2] {
-    let mut model = Duration::MAX;
-    let library = least(|| {
-        model = model.min(timed(both[1], call, times));
-        timed(both[0], call, times)
-    });
-    [library, model].map(|time| time.as_secs_f64() / f64::from(times))
+fn timed_party(party: &dyn Party, call: &Call, times: u32) -> Duration {
+    timed(call, times, |call| {
+        party.answer(call);
+    })
+}
+
+/// The least times of library and model, in seconds a call.
+fn least_of_both(library: &dyn Party, call: &Call, times: u32) -> [f64; 2] {
+    let ours = || timed_party(library, call, times);
+    let models = || timed_party(&Paper, call, times);
+    least([&ours, &models]).map(|seconds| seconds / f64::from(times))
 }
 
 /// The bytes of a stream: no sample has its upper bit set, so that no place where
@@ -240,68 +254,138 @@ fn cases() -> Vec<Case> {
     let eop_of_each = |number: usize| if number % 32 == 31 { 1 << 8 } else { 0 };
     let error_each_tenth = |number: usize| if number % 10 == 9 { 1 << 9 } else { 0 };
     let (next, far) = (SOURCE + 1, SOURCE + 31_000);
-    let case = |name, aim, call, mode, bytes| Case {
-        name, aim, call, copy: PlainCopy { mode, bytes },
+    let case = |name, aim, bulk_aim, call, mode, bytes| Case {
+        name, aim, bulk_aim, call, copy: PlainCopy::new(mode, bytes),
     };
     vec![
-        case("mode 2, one of 65,535",           5.0, fill(OWNED, no_mark), 2, 65_535),
-        case("mode 2, .. an error each tenth",  3.0, fill(OWNED, error_each_tenth), 2, 65_535),
-        case("mode 2, .. WRITE_FIXED",          1.0, fill(WRITE_FIXED, no_mark), 2, 65_535),
-        case("mode 2, 1,000 of 32",             2.0, chain(no_mark), 2, 32_000),
-        case("mode 2, .. an EOP in each",       2.0, chain(eop_of_each), 2, 32_000),
-        case("mode 0, one of 30,000",           5.0, from_memory(0, OWNED, far), 0, 30_000),
-        case("mode 0, .. READ_FIXED",           1.0, from_memory(0, READ_FIXED, far), 0, 30_000),
-        case("mode 0, .. WRITE_FIXED",          1.0, from_memory(0, WRITE_FIXED, far), 0, 30_000),
-        case("mode 0, .. overlapping by one",   1.0, from_memory(0, OWNED, next), 0, 30_000),
-        case("mode 1, one of 30,000",           5.0, from_memory(1, OWNED, 0), 1, 30_000),
+        case("mode 2, one of 65,535",          5.0, Some(0.8), fill(OWNED, no_mark), 2, 65_535),
+        case("mode 2, .. an error each tenth", 3.0, None, fill(OWNED, error_each_tenth), 2, 65_535),
+        case("mode 2, .. WRITE_FIXED",         1.0, None, fill(WRITE_FIXED, no_mark), 2, 65_535),
+        case("mode 2, 1,000 of 32",            2.0, Some(0.7), chain(no_mark), 2, 32_000),
+        case("mode 2, .. an EOP in each",      2.0, None, chain(eop_of_each), 2, 32_000),
+        case("mode 0, one of 30,000",          5.0, Some(0.7), from_memory(0, OWNED, far), 0, 30_000),
+        case("mode 0, .. READ_FIXED",          1.0, None, from_memory(0, READ_FIXED, far), 0, 30_000),
+        case("mode 0, .. WRITE_FIXED",         1.0, None, from_memory(0, WRITE_FIXED, far), 0, 30_000),
+        case("mode 0, .. overlapping by one",  1.0, None, from_memory(0, OWNED, next), 0, 30_000),
+        case("mode 1, one of 30,000",          5.0, Some(0.7), from_memory(1, OWNED, 0), 1, 30_000),
     ]
 }
 
-/// Makes the call by both and gives its steps; both must have done the same.
-fn agreed_steps(both: Both, name: &str, call: &Call) -> u32 {
-    let [library, model] = both.map(|party| {
+/// Makes the call by the library and by both models, and gives what it left; all
+/// must have done the same.
+fn agreed(library: &dyn Party, name: &str, call: &Call) -> Call {
+    let [left, others @ ..] = [library, &Paper, &Bulk].map(|party| {
         let mut after = call.clone();
         assert_eq!(party.answer(&mut after), 0, "{name} was refused");
         after
     });
-    assert!(library == model, "{name}: library and model differ");
-    let Call::Run { report, .. } = library else {
-        return 0;
+    let same = others.iter().all(|other| *other == left);
+    assert!(same, "{name}: library and models differ");
+    left
+}
+
+/// The steps of a run that went to its end.
+fn steps_told(name: &str, ran: &Call) -> u32 {
+    let Call::Run { report, .. } = ran else {
+        panic!("{name} is no run");
     };
-    let told = Told::of(&report);
+    let told = Told::of(report);
     let full = Reason::LedgerFull as u16;
     assert_ne!(told.reason, full, "{name}: too few records lent");
     told.steps
 }
 
-fn millions(steps: u32, seconds: f64) -> f64 {
-    f64::from(steps) / seconds / 1e6
+/// The least times of a run, in seconds.
+struct Times {
+    library: f64,
+    model: f64,
+    bulk: f64,
+    limit: f64,
+    copy: f64,
 }
 
-fn compare_runs(both: Both) {
-    println!("Runs, in million steps a second, and how many times as fast as model and copy\n");
-    println!(
-        "{:<32}{:>8}{:>9}{:>9}{:>9}{:>6}{:>7}",
-        "", "steps", "library", "model", "x model", "aim", "x copy"
-    );
-    for case in cases() {
-        let steps = agreed_steps(both, case.name, &case.call);
-        let [library, model] = least_of_both(both, &case.call, 1);
-        println!(
-            "{:<32}{:>8}{:>9.0}{:>9.0}{:>9.2}{:>6.1}{:>7.3}",
-            case.name,
-            steps,
-            millions(steps, library),
-            millions(steps, model),
-            model / library,
-            case.aim,
-            case.copy.time().as_secs_f64() / library,
-        );
+impl Times {
+    fn of(library: &dyn Party, case: &Case, limit: &Limit) -> Times {
+        let call = &case.call;
+        let moves = |call: &mut Call| {
+            black_box(limit.make(call));
+        };
+        let [library, model, bulk, limit, copy] = least([
+            &|| timed_party(library, call, 1),
+            &|| timed_party(&Paper, call, 1),
+            &|| timed_party(&Bulk, call, 1),
+            &|| timed(call, 1, moves),
+            &|| case.copy.time(),
+        ]);
+        Times {
+            library,
+            model,
+            bulk,
+            limit,
+            copy,
+        }
     }
 }
 
+fn compare_runs(library: &dyn Party) {
+    println!("Runs, in million steps a second, and how many times as fast as the others\n");
+    println!(
+        "{:<31}{:>6}{:>9}{:>7}{:>7}{:>9}{:>5}{:>8}{:>9}{:>8}{:>5}",
+        "",
+        "steps",
+        "library",
+        "model",
+        "bulk",
+        "x model",
+        "aim",
+        "x copy",
+        "x limit",
+        "x bulk",
+        "aim"
+    );
+    for case in cases() {
+        let ran = agreed(library, case.name, &case.call);
+        let limit = Limit::of(&case.call);
+        let same = limit.moves_as(&case.call, &ran);
+        assert!(same, "{}: the limit moves otherwise", case.name);
+        let steps = steps_told(case.name, &ran);
+        let times = Times::of(library, &case, &limit);
+        println!("{}", shown(&case, steps, &times));
+    }
+}
+
+/// A run's row of the table.
+fn shown(case: &Case, steps: u32, times: &Times) -> String {
+    let millions = |seconds| f64::from(steps) / seconds / 1e6;
+    let ratio = |other| other / times.library;
+    let speeds = format!(
+        "{steps:>6}{:>9.0}{:>7.0}{:>7.0}",
+        millions(times.library),
+        millions(times.model),
+        millions(times.bulk)
+    );
+    let (model, bulk) = (ratio(times.model), ratio(times.bulk));
+    let (copy, limit) = (ratio(times.copy), ratio(times.limit));
+    let aim = case.aim;
+    let bulk_aim = case
+        .bulk_aim
+        .map_or("-".to_owned(), |aim| format!("{aim:.1}"));
+    let missed = missed(&[
+        ("x model", model >= aim),
+        ("x bulk", case.bulk_aim.is_none_or(|aim| bulk >= aim)),
+    ]);
+    let ratios = format!("{model:>9.2}{aim:>5.1}{copy:>8.3}{limit:>9.2}{bulk:>8.2}{bulk_aim:>5}");
+    format!("{:<31}{speeds}{ratios}{missed}", case.name)
+}
+
+/// The words for the aims that are not reached.
+fn missed(aims: &[(&str, bool)]) -> String {
+    let names = aims.iter().filter(|(_, reached)| !reached);
+    names.map(|(name, _)| format!("  {name} missed")).collect()
+}
+
 /// Calls on a core in Move, whose image has every field.
-fn calls() -> [(&'static str, Call); 3] {
+fn calls() -> [(&'static str, Call); 4] {
     let mut core = Firmware::new(&Paper, 2, BASE, 256);
     let fields = Descriptor {
         destination: BASE + 128,
@@ -329,6 +413,10 @@ fn calls() -> [(&'static str, Call); 3] {
         offset: offset::STATUS,
         value: Lent::zeros(VALUE_SIZE),
     };
+    let line = Call::Line {
+        image: image.clone(),
+        value: Lent::zeros(VALUE_SIZE),
+    };
     let write = Call::WriteRegister {
         image,
         offset: offset::CONTROL,
@@ -338,44 +426,46 @@ fn calls() -> [(&'static str, Call); 3] {
         ("run, budget 0", run),
         ("read register", read),
         ("write register", write),
+        ("line", line),
     ]
 }
 
-fn compare_calls(both: Both) {
+fn compare_calls(library: &dyn Party) {
     println!("\nCalls, in nanoseconds, and how many times as long as the model's\n");
     println!(
-        "{:<32}{:>17}{:>9}{:>9}{:>6}",
+        "{:<31}{:>15}{:>7}{:>16}{:>5}",
         "", "library", "model", "x model", "aim"
     );
     for (name, call) in calls() {
-        agreed_steps(both, name, &call);
-        let [library, model] = least_of_both(both, &call, CALLS_AT_ONCE);
+        agreed(library, name, &call);
+        let [ours, models] = least_of_both(library, &call, CALLS_AT_ONCE);
+        let ratio = ours / models;
         println!(
-            "{name:<32}{:>17.1}{:>9.1}{:>9.2}{:>6.1}",
-            library * 1e9,
-            model * 1e9,
-            library / model,
-            AIM_OF_A_CALL
+            "{name:<31}{:>15.1}{:>7.1}{ratio:>16.2}{AIM_OF_A_CALL:>5.1}{}",
+            ours * 1e9,
+            models * 1e9,
+            missed(&[("x model", ratio <= AIM_OF_A_CALL)]),
         );
     }
 }
 
 /// The cost of a step does not depend on the stream's length or the window's.
-fn show_growth(both: Both) {
+fn show_growth(library: &dyn Party) {
     println!("\nA step, in nanoseconds, by the stream's length and the window's\n");
-    println!("{:<32}{:>17}{:>18}", "", "library", "model");
+    println!("{:<31}{:>15}{:>18}", "", "library", "model");
     println!(
-        "{:<32}{:>8}{:>9}{:>9}{:>9}",
+        "{:<31}{:>6}{:>9}{:>9}{:>9}",
         "beats", "256", "65,536", "256", "65,536"
     );
     for beats in [1_000, 10_000, 100_000, 1_000_000, 10_000_000] {
         let costs = [256, WINDOW].map(|window| {
             let call = endless(window, beats);
-            let steps = f64::from(agreed_steps(both, "growth", &call));
-            least_of_both(both, &call, 1).map(|seconds| seconds * 1e9 / steps)
+            let ran = agreed(library, "growth", &call);
+            let steps = f64::from(steps_told("growth", &ran));
+            least_of_both(library, &call, 1).map(|seconds| seconds * 1e9 / steps)
         });
         println!(
-            "{beats:<32}{:>8.2}{:>9.2}{:>9.2}{:>9.2}",
+            "{beats:<31}{:>6.2}{:>9.2}{:>9.2}{:>9.2}",
             costs[0][0], costs[1][0], costs[0][1], costs[1][1]
         );
     }
@@ -387,9 +477,8 @@ fn main() -> ExitCode {
         eprintln!("libsgdma.a was not found: nothing to measure");
         return ExitCode::FAILURE;
     };
-    let both: Both = [library.as_ref(), &Paper];
-    compare_runs(both);
-    compare_calls(both);
-    show_growth(both);
+    compare_runs(library.as_ref());
+    compare_calls(library.as_ref());
+    show_growth(library.as_ref());
     ExitCode::SUCCESS
 }

@@ -4,6 +4,7 @@
 //! holds every byte and number that goes in, and afterwards every byte that came
 //! back.
 
+use crate::bulk::Bulk;
 use crate::model::{Calls, Paper};
 use std::fmt::{self, Display, Formatter};
 use std::ops::{Deref, DerefMut};
@@ -313,7 +314,7 @@ pub trait Party {
 /// A model answers with its own seven calls.
 impl<Model: Calls> Party for Model {
     fn name(&self) -> &'static str {
-        "model"
+        Model::NAME
     }
 
     #[rustfmt::skip]
@@ -352,10 +353,12 @@ pub fn libraries() -> Vec<Box<dyn Party>> {
     Vec::new()
 }
 
-/// The model, and the library where there is one: all must give the same answers.
+/// Both models, and the library where there is one: all must give the same
+/// answers.
 pub fn parties() -> Vec<Box<dyn Party>> {
     let mut parties = libraries();
     parties.push(Box::new(Paper));
+    parties.push(Box::new(Bulk));
     parties
 }
 

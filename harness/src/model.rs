@@ -23,7 +23,7 @@ pub use images::{Image, ImageRule, Images, IMAGE_SIZE};
 pub use ledgers::{Ledger, Ledgers, Record, RECORD_SIZE};
 pub use machine::{Fault, Kept, Machine, Mode, Phase};
 pub use registers::{control, offset, status, Registers};
-pub use steps::{InputBeat, Ports, Reason, Report, Steps};
+pub use steps::{InputBeat, Ports, Reason, Report, Steps, OUTPUT_EOP, OUTPUT_SOP};
 pub use windows::{Window, Windows};
 
 /// The model that keeps every rule of the paper.

@@ -1,8 +1,9 @@
-//! Random sequences of calls, each put to the model and to the library, with a
-//! count of what they reached.
+//! Random sequences of calls, each put to the model and to the library or the bulk
+//! model, with a count of what they reached.
 //!
 //! `SGDMA_CALLS` gives another number of calls, and `SGDMA_SEED` another seed.
 
+use harness::bulk::Bulk;
 use harness::call::{libraries, Party};
 use harness::compare::compare;
 use harness::coverage::{first_applying, Coverage};
@@ -49,4 +50,10 @@ fn random_calls_agree_and_reach_everything() {
     if libraries().is_empty() {
         compare_and_cover(&Paper, seed);
     }
+}
+
+/// The calls that are put to the library first.
+#[test]
+fn the_bulk_model_agrees_on_the_same_random_calls() {
+    compare_and_cover(&Bulk, from_environment("SGDMA_SEED", SEED));
 }

@@ -73,6 +73,9 @@ fn window_at(base: u64, memory: &[u8]) -> Window {
 }
 
 pub trait Calls: Steps + Images {
+    /// What the model is called where its answers differ from another's.
+    const NAME: &'static str = "model";
+
     fn sgdma_create(self, image: &mut [u8], mode: u32, base: u64, length: u64) -> u32 {
         number((|| {
             let image = sized_mut(image)?;

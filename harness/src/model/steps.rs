@@ -57,11 +57,22 @@ impl<'lent> Ports<'lent> {
         self.made += 1;
         self.out[place..place + 2].copy_from_slice(&beat.to_be_bytes());
     }
+
+    /// What a run tells that has come so far, by so many steps.
+    pub fn report(&self, reason: Reason, steps: u32) -> Report {
+        Report {
+            reason,
+            steps,
+            taken: self.taken as u32,
+            made: self.made as u32,
+            used: self.ledger.used,
+        }
+    }
 }
 
 /// "An output beat: zero 6, SOP 1, EOP 1, data 8."
-const OUTPUT_SOP: u16 = 1 << 9;
-const OUTPUT_EOP: u16 = 1 << 8;
+pub const OUTPUT_SOP: u16 = 1 << 9;
+pub const OUTPUT_EOP: u16 = 1 << 8;
 
 /// "An input beat is 16 bits, most significant first: error 7, EOP 1, data 8."
 #[derive(Clone, Copy, Debug, PartialEq, Eq)]
@@ -124,13 +135,7 @@ pub trait Steps: Registers + Descriptors + Ledgers {
             }
             steps += 1;
         };
-        Report {
-            reason,
-            steps,
-            taken: ports.taken as u32,
-            made: ports.made as u32,
-            used: ports.ledger.used,
-        }
+        ports.report(reason, steps)
     }
 
     /// One step, or the reason why there is none. A fault is a step.
@@ -139,6 +144,13 @@ pub trait Steps: Registers + Descriptors + Ledgers {
         if let Some(reason) = self.obstacle(machine, ports) {
             return Err(reason);
         }
+        self.take_step(machine, ports);
+        Ok(())
+    }
+
+    /// The step of a machine that has no obstacle before it.
+    #[inline]
+    fn take_step(self, machine: &mut Machine, ports: &mut Ports) {
         let mut outcome = Ok(());
         match machine.phase {
             Phase::Rest => self.leave_rest(machine),
@@ -150,7 +162,6 @@ pub trait Steps: Registers + Descriptors + Ledgers {
         if let Err(fault) = outcome {
             self.fail(machine, fault);
         }
-        Ok(())
     }
 
     /// Why no step can be taken here, if none can.
