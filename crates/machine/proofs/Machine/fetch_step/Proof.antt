@@ -1,7 +1,7 @@
 use mathlib.Core.Path.{refl, _∙_, sym}
 use borrow.Author.Tests.{eq-eqb, ne-eqb}
 use Rattle.machine.proofs.Places.{inside, outside, place}
-use Rattle.machine.proofs.Cases.{not-running, misaligned, no-descriptor, fetches}
+use Rattle.machine.proofs.AtFetch.{not-running, not-aligned, no-descriptor, fetches}
 use borrow.Author.Needs.{needs}
 use Rattle.machine.proofs.Machine.fetch_step.Statement.{statement}
 use Rattle.machine.proofs.Machine.fetch_step.Tie as tie
@@ -59,7 +59,7 @@ returns-3 : tie.Need-returns-3
 returns-3 c =
     let h = c .before .before .before in
     let a = h .before .before .args in
-    misaligned (a .self) (a .window .now) (sym (h .has .ensures .value) ∙ c .before .before .if1 .taken) (ne-eqb _ _ (c .before .if2 .left)) (c .faulted2 .ensures)
+    not-aligned (a .self) (a .window .now) (sym (h .has .ensures .value) ∙ c .before .before .if1 .taken) (ne-eqb _ _ (c .before .if2 .left)) (c .faulted2 .ensures)
 
 returns-4 : tie.Need-returns-4
 returns-4 c =

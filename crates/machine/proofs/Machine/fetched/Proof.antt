@@ -1,4 +1,4 @@
-use Rattle.machine.proofs.Cases.{not-owned, no-length, begins}
+use Rattle.machine.proofs.AtFetch.{not-owned, no-length, begins}
 use borrow.Author.Needs.{needs}
 use Rattle.machine.proofs.Machine.fetched.Statement.{statement}
 use Rattle.machine.proofs.Machine.fetched.Tie as tie
