@@ -14,7 +14,8 @@ use Rattle.machine.specs.declared.Machine.{Machine}
 use Rattle.machine.specs.declared.Phase.the-variants.{Move}
 use Rattle.machine.specs.State.{misaligned, descriptorOutside, noLength, rested, withPhase, withPointer}
 use Rattle.machine.specs.Step.{World, stored, wantsLength, begun, ended, fetched, fetchStep}
-use Rattle.machine.specs.Turns.{inFault, Still}
+use Rattle.machine.specs.Helpers.Worlds.{inFault}
+use Rattle.machine.specs.Helpers.Turns.{Still}
 use Rattle.machine.proofs.Answers.{both}
 
 -- the descriptor at the pointer

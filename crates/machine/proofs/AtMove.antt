@@ -21,7 +21,8 @@ use Rattle.machine.specs.declared.Phase.the-variants.{Move, WriteBack}
 use Rattle.machine.specs.declared.steps.Reached.{Reached}
 use Rattle.machine.specs.State.{sourceOutside, destinationOutside, withPhase}
 use Rattle.machine.specs.Step.{World, whole, sourceOf, destinationOf, withByte, onward, copyStep, beatFor, sendStep, receiveFrom}
-use Rattle.machine.specs.Turns.{reachedAs, inFault, Still, Went}
+use Rattle.machine.specs.Helpers.Worlds.{reachedAs, inFault}
+use Rattle.machine.specs.Helpers.Turns.{Still, Went}
 use Rattle.machine.proofs.Streams.{beat-made}
 use Rattle.machine.proofs.Turning.{went-none}
 

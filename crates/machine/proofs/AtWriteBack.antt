@@ -11,7 +11,9 @@ use Rattle.machine.specs.declared.Work.{Work}
 use Rattle.machine.specs.declared.Phase.the-variants.{WriteBack}
 use Rattle.machine.specs.declared.steps.Wait.the-variants.{Go}
 use Rattle.machine.specs.Step.{World, taken, noted, entryFor, backTo, writeBackStep, step}
-use Rattle.machine.specs.Turns.{worldAt, midway, reachedAs, waitOf, logged, Backs, Turned}
+use Rattle.machine.specs.Helpers.Worlds.{worldAt, midway, reachedAs}
+use Rattle.machine.specs.Helpers.Waiting.{waitOf}
+use Rattle.machine.specs.Helpers.Turns.{logged, Backs, Turned}
 use Rattle.machine.proofs.Streams.{none-made}
 use Rattle.machine.proofs.Waiting.{at-phase, never-goes}
 use Rattle.machine.proofs.Logging.{log-back}

@@ -13,7 +13,8 @@ use Rattle.machine.specs.declared.steps.Reached.{Reached}
 use Rattle.machine.specs.declared.Phase.the-variants.{Fetch}
 use Rattle.machine.specs.State.{withPhase, withBusy}
 use Rattle.machine.specs.Step.{World, Answer, taken, became, restStep}
-use Rattle.machine.specs.Turns.{worldAt, midway, reachedAs, Still, Went, logged, Turned}
+use Rattle.machine.specs.Helpers.Worlds.{worldAt, midway, reachedAs}
+use Rattle.machine.specs.Helpers.Turns.{Still, Went, logged, Turned}
 use Rattle.machine.proofs.Streams.{none-made}
 
 module _ (rule : World → Answer) (m m' : Machine) (window window' beats : List ℕ) (took : ℕ) (out : List ℕ) (made : ℕ) where

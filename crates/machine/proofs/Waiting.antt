@@ -23,7 +23,8 @@ use Rattle.machine.specs.declared.Work.{Work}
 use Rattle.machine.specs.declared.steps.Wait.{Wait}
 use Rattle.machine.specs.declared.steps.Wait.the-variants.{Go, Stop}
 use Rattle.machine.specs.Step.{World, Answer, taken, stopped, step, stepIn, restStep, fetchStep, fetched, wantsLength, copyStep, sendStep, sendTo, receiveFrom, moveStep, backTo, writeBackStep, sourceOf, destinationOf}
-use Rattle.machine.specs.Turns.{midway, waitOf, some, Waits, Goes}
+use Rattle.machine.specs.Helpers.Worlds.{midway}
+use Rattle.machine.specs.Helpers.Waiting.{waitOf, some, Waits, Goes}
 use Rattle.machine.proofs.Streams.{some-beat, some-room}
 
 -- an answer that is a step; a choice of two of them is one

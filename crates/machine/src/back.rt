@@ -3,7 +3,7 @@ ghost use mathlib.Core.Path.{_≡_};
 ghost use mathlib.Core.Bool.{true};
 ghost use Rattle.bus.specs.Window.{inWindow};
 ghost use Rattle.machine.specs.Step.{World, stored, writtenControl, writtenBack, afterBack, completed as completedOf};
-ghost use Rattle.machine.specs.Turns.{Logs, Backs};
+ghost use Rattle.machine.specs.Helpers.Turns.{Logs, Backs};
 use crate::Machine;
 use crate::Phase;
 use crate::Work;

@@ -7,7 +7,7 @@ ghost use lib.ListN.{length};
 ghost use Rattle.descriptor.specs.Layout.{readFixed, writeFixed};
 ghost use Rattle.regs.specs.declared.Mode.the-variants.{MemoryToMemory, MemoryToStream, StreamToMemory};
 ghost use Rattle.machine.specs.Step.{sourceOf, destinationOf};
-ghost use Rattle.machine.specs.Turns.{Reaches, Bursts, Unmarked};
+ghost use Rattle.machine.specs.Helpers.AtOnce.{Reaches, Bursts, Unmarked};
 use crate::Work;
 use bus::BusAddress;
 use bus::Located;
