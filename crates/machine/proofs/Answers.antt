@@ -24,7 +24,8 @@ use Rattle.machine.specs.declared.registers.WroteRegister.{WroteRegister
 use Rattle.machine.specs.declared.registers.WroteRegister.the-variants as done
 use Rattle.machine.specs.declared.registers.Line.{Line}
 use Rattle.machine.specs.declared.registers.Line.the-variants as line
-use Rattle.machine.specs.Saved.{fieldsOf, keeps, loadedAs, loadOf, savedAs, saveOf, putOf, loadNumber, saveNumber, WasLoaded, WasSaved, MachineWasPut}
+use Rattle.machine.specs.Saved.{fieldsOf, keeps, loadedAs, loadOf, savedAs, saveOf, loadNumber, saveNumber, WasLoaded, WasSaved}
+use Rattle.machine.specs.Helpers.Put.{putOf, MachineWasPut}
 use Rattle.machine.specs.Registers.{writtenTo, writeOf, lineOf, lineNumber, registerNumber, WasWritten, WasLine}
 use Rattle.machine.specs.Registers as registers
 use Rattle.machine.specs.Step.{World, Answer, taken, stopped}

@@ -16,7 +16,8 @@ use Rattle.machine.specs.declared.Machine.{Machine}
 use Rattle.machine.specs.declared.Phase.the-variants.{Move}
 use Rattle.machine.specs.State.{misaligned, descriptorOutside, noLength, home, rested, withPhase, withPointer}
 use Rattle.machine.specs.Step.{World, wantsLength, begun, ended, fetched, meets, fetchStep}
-use Rattle.machine.specs.Turns.{inFault, Still}
+use Rattle.machine.specs.Helpers.Worlds.{inFault}
+use Rattle.machine.specs.Helpers.Turns.{Still}
 use Rattle.machine.proofs.Answers.{both}
 
 module _ (m : Machine) {m' : Machine} (memory : List ℕ) where

@@ -34,7 +34,9 @@ use Rattle.machine.specs.declared.bursts.Reach.{Reach}
 use Rattle.machine.specs.declared.runs.Advanced.{Advanced}
 use Rattle.machine.specs.Step.{World, taken, became, received, step, whole, sourceOf, destinationOf, onward, beatFor}
 use Rattle.machine.specs.Run.{lent, worldOf}
-use Rattle.machine.specs.Turns.{worldAt, midway, reachedAs, Within, steps, Went, Turned, Advances, movedBy, Moving, Bursts, Reaches, Unmarked}
+use Rattle.machine.specs.Helpers.Worlds.{worldAt, midway, reachedAs, Within}
+use Rattle.machine.specs.Helpers.Turns.{steps, Went, Turned, Advances}
+use Rattle.machine.specs.Helpers.AtOnce.{movedBy, Moving, Bursts, Reaches, Unmarked}
 use Rattle.machine.proofs.Places.{inside, place, fits}
 use Rattle.machine.proofs.Streams.{none-made}
 use Rattle.machine.proofs.Turning.{went-none}

@@ -26,7 +26,8 @@ use Rattle.machine.specs.declared.Phase.{Phase}
 use Rattle.machine.specs.declared.Phase.the-variants.{Move}
 use Rattle.machine.specs.State.{withPhase}
 use Rattle.machine.specs.Step.{World, taken, became, stored, received, sent, step, whole, byteAddress, sourceOf, destinationOf, withByte, onward, copyStep, sendStep, receiveFrom, moveStep, beatFor}
-use Rattle.machine.specs.Turns.{stepsOn, steps, movedBy, Moving, Row, Unmarked}
+use Rattle.machine.specs.Helpers.Turns.{stepsOn, steps}
+use Rattle.machine.specs.Helpers.AtOnce.{movedBy, Moving, Row, Unmarked}
 use Rattle.machine.specs.Theorems.{RowSteps, CopySteps, SendSteps, ReceiveSteps}
 use Rattle.machine.proofs.Places.{further}
 

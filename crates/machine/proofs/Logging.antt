@@ -18,7 +18,8 @@ use Rattle.machine.specs.declared.Phase.{Phase}
 use Rattle.machine.specs.declared.Phase.the-variants.{WriteBack}
 use Rattle.machine.specs.declared.Reason.the-variants as reason
 use Rattle.machine.specs.Step.{World, became, noted, entryFor}
-use Rattle.machine.specs.Turns.{waitOf, loggedIn, logged, Logs}
+use Rattle.machine.specs.Helpers.Waiting.{waitOf}
+use Rattle.machine.specs.Helpers.Turns.{loggedIn, logged, Logs}
 use Rattle.machine.proofs.Streams.{none-made}
 use Rattle.machine.proofs.Waiting.{at-phase, back-waits, go-true}
 

@@ -27,8 +27,11 @@ use Rattle.machine.specs.declared.steps.Wait.the-variants.{Go, Stop}
 use Rattle.machine.specs.Saved.{keeps}
 use Rattle.machine.specs.Step.{World, Answer, taken, stopped, noted, step}
 use Rattle.machine.specs.Run.{Lent, Returned, back, asLent, Served, serves, refused, even, servedIf, servedOf, worldOf, outputOver, returned}
-use Rattle.machine.specs.Run.{steppedAs, worldAfter, stepAnswer, stepNumber, servedNumber, Stepped, RunsIf, readyOf}
-use Rattle.machine.specs.Turns.{worldAt, midway, waitOf, Within, Logs, Turned, Ready}
+use Rattle.machine.specs.Run.{steppedAs, worldAfter, stepAnswer, stepNumber, servedNumber, Stepped}
+use Rattle.machine.specs.Helpers.Worlds.{worldAt, midway, Within}
+use Rattle.machine.specs.Helpers.Waiting.{waitOf}
+use Rattle.machine.specs.Helpers.Turns.{Logs, Turned}
+use Rattle.machine.specs.Helpers.Resume.{RunsIf, readyOf, Ready}
 use Rattle.machine.specs.Theorems.{ResumedRuns}
 use Rattle.machine.proofs.Answers.{stepped-number}
 use Rattle.machine.proofs.Readiness.{keeps-ready, keeps-tested}

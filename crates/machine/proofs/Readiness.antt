@@ -29,8 +29,8 @@ use Rattle.machine.specs.declared.Reason.{Reason}
 use Rattle.machine.specs.State.{phaseNumber, home, withPhase}
 use Rattle.machine.specs.Saved.{inHand, fieldsOf, keeps}
 use Rattle.machine.specs.Step.{World, Answer, homeBytes, taken, stopped, step, stepIn, restStep, meets, fetchStep, fetched, wantsLength, moveStep, copyStep, sendStep, sendTo, receiveFrom, backTo, writeBackStep, completed, afterBack, onward, withByte, whole, sourceOf, destinationOf}
-use Rattle.machine.specs.Run.{readyIn, readyOf}
-use Rattle.machine.specs.Turns.{Left, Placed, Ready, stepsOn, steps}
+use Rattle.machine.specs.Helpers.Turns.{stepsOn, steps}
+use Rattle.machine.specs.Helpers.Resume.{readyIn, readyOf, Left, Placed, Ready}
 
 -- what a step leads to is ready
 data Stays (n : ℕ) : Answer → Type 0 where

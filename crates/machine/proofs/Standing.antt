@@ -23,10 +23,13 @@ use Rattle.machine.specs.declared.steps.Wait.the-variants.{Go, Stop}
 use Rattle.machine.specs.Step.{World, taken, noted, step}
 use Rattle.machine.specs.Run.{Report, run, Lent, Returned, back, asLent, Served, serves, refused, worldOf, outputOver, returned}
 use Rattle.machine.specs.Run.{ranAs, runAnswer, servedNumber, Runs}
-use Rattle.machine.specs.Turns.{worldAt, reachedAs, waitOf, steps, Within, Logs, Turned, Ready}
+use Rattle.machine.specs.Helpers.Worlds.{worldAt, reachedAs, Within}
+use Rattle.machine.specs.Helpers.Waiting.{waitOf}
+use Rattle.machine.specs.Helpers.Turns.{steps, Logs, Turned}
+use Rattle.machine.specs.Helpers.Resume.{Ready}
 use Rattle.machine.proofs.Streams.{beat-bytes-append, none-made}
 use Rattle.machine.proofs.Readiness.{steps-ready}
-use Rattle.machine.proofs.LoopLaws.{report, moreBy, run-stops, run-out, run-steps, more-none, more-more}
+use Rattle.machine.proofs.Loop.{report, moreBy, run-stops, run-out, run-steps, more-none, more-more}
 use Rattle.machine.proofs.Outcomes.{took-since, over}
 
 -- so many steps led here, with what stands in the lent bytes now, and the run goes on from here as it would have gone on

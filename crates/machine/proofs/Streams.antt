@@ -15,7 +15,7 @@ use Rattle.words.specs.Slices.{put, putAt}
 use Rattle.words.proofs.Slices.{put-in}
 use Rattle.flow.specs.Beats.{beatsIn, beatBytes}
 use Rattle.flow.proofs.Streams.{length-beats, next-beat}
-use Rattle.machine.specs.Turns.{some}
+use Rattle.machine.specs.Helpers.Waiting.{some}
 
 -- there is a beat, and there is room
 some-by : (b : Bool) (xs : List ℕ) (i : ℕ) → ltb i (length xs / 2) ≡ b → some (drop i (beatsIn xs)) ≡ b

@@ -27,7 +27,8 @@ use Rattle.machine.specs.declared.steps.Wait.{Wait}
 use Rattle.machine.specs.declared.steps.Wait.the-variants.{Go, Stop}
 use Rattle.machine.specs.State.{home}
 use Rattle.machine.specs.Step.{World, Answer, homeBytes, taken, stopped, step, stepIn, restStep, meets, fetchStep, fetched, wantsLength, copyStep, sendStep, sendTo, receiveFrom, moveStep, backTo, writeBackStep, sourceOf, destinationOf}
-use Rattle.machine.specs.Turns.{midway, waitOf, some, Waits, Goes}
+use Rattle.machine.specs.Helpers.Worlds.{midway}
+use Rattle.machine.specs.Helpers.Waiting.{waitOf, some, Waits, Goes}
 use Rattle.machine.proofs.Streams.{some-beat, some-room}
 
 -- an answer that is a step; a choice of two of them is one

@@ -13,7 +13,7 @@ use Rattle.machine.specs.declared.Phase.the-variants.{Rest, Fetch, Move,
 use Rattle.machine.specs.Saved.{keeps}
 use Rattle.machine.specs.State.{withControl, rested, fresh}
 use Rattle.machine.specs.Registers.{controlStored, released, controlWritten, writtenTo, wroteTo, writeOf}
-use Rattle.machine.specs.Turns.{stands}
+use Rattle.machine.specs.Helpers.Worlds.{stands}
 
 -- RUN 0 leads to Rest from the phases that stand, and leaves the others
 released-if : (p : Phase) (m : Machine) → released p m ≡ cond (stands p) (rested m) m

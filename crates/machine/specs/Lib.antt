@@ -4,5 +4,5 @@ pub mod Registers
 pub mod Step
 pub mod Run
 pub mod Laws
-pub mod Turns
+pub mod Helpers
 pub mod Theorems

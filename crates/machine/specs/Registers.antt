@@ -25,7 +25,7 @@ use Rattle.machine.specs.Saved.{keeps}
 abbrev pub statusWritten : ℕ → Machine → Machine
 statusWritten v m = withStatus (clearedBy v (m .status)) m
 
--- bits 0..17 are controlStored; bit 31 clears the pending interrupt; RUN going 0 to 1 sets the descriptor count to 0
+-- bits 0..17 are stored; bit 31 clears the pending interrupt; RUN going 0 to 1 sets the descriptor count to 0
 abbrev pub controlStored : ℕ → Machine → Machine
 controlStored v m =
     withControl (v % 2 ^ 18) (m .pending && not (clearInterrupt (asControl v))) (countFrom v (m .control) (m .count)) m
@@ -41,7 +41,7 @@ released Halted m = rested m
 released (Faulted f) m = m
 
 -- in order: the reset, where bit 16 is written and already reads 1, and then the rest of the value is ignored; otherwise what
--- is controlStored, and RUN 0
+-- is stored, and RUN 0
 unfoldable pub controlWritten : ℕ → Machine → Machine
 controlWritten v m =
     cond (resetBy v (m .control)) (fresh (m .mode) (m .window))

@@ -2,20 +2,17 @@
 -- Assumes nothing.
 use Prim.Native.Nat.{ℕ, zero, suc, _+_, _-_, _*_, _/_, _%_}
 use mathlib.Core.Path.{_≡_, sym, _∙_}
-use mathlib.Core.Bool.{Bool, true, not, cond, _&&_}
+use mathlib.Core.Bool.{Bool, cond, _&&_}
 use mathlib.Core.List.{List, _++_}
-use lib.Dec.{eqb, ltb}
+use lib.Dec.{eqb}
 use lib.ListN.{length, drop}
 use Rattle.bus.specs.declared.Refusal.{Refusal}
 use Rattle.bus.specs.declared.Refusal.the-variants.{BadImage, OddStream, BadLedger, OtherWindow}
 use Rattle.bus.specs.Refusal.{refusalNumber}
-use Rattle.bus.specs.Window.{inWindow}
 use Rattle.words.specs.Slices.{put}
 use Rattle.ledger.specs.Records.{ledgerBytes, capacity, isLedger}
 use Rattle.flow.specs.Beats.{beatsIn, beatBytes}
 use Rattle.machine.specs.declared.Machine.{Machine}
-use Rattle.machine.specs.declared.Phase.{Phase}
-use Rattle.machine.specs.declared.Phase.the-variants as phase
 use Rattle.machine.specs.declared.Reason.{Reason}
 use Rattle.machine.specs.declared.Reason.the-variants.{Rest, Ended, Halted, Faulted, NeedsInput, OutputFull, Budget, LedgerFull}
 use Rattle.machine.specs.declared.Progress.{Progress}
@@ -25,7 +22,7 @@ use Rattle.machine.specs.declared.StepAnswer.the-variants as one
 use Rattle.machine.specs.declared.RunAnswer.{RunAnswer}
 use Rattle.machine.specs.declared.RunAnswer.the-variants as many
 use Rattle.machine.specs.Saved.{keeps}
-use Rattle.machine.specs.Step.{World, Answer, taken, stopped, opened, whole, step}
+use Rattle.machine.specs.Step.{World, Answer, taken, stopped, opened, step}
 
 -- ---- the run
 
@@ -193,36 +190,14 @@ pub record Runs (served : Served) (m : Machine) (l : Lent) (budget : ℕ) (r : R
   pub number : runNumber r ≡ servedNumber served
   pub back : b ≡ returned l served (run budget (worldOf m l) .world)
 
--- by whether the machine is good
-abbrev pub RunsIf : (good : Bool) → Machine → Lent → (budget : ℕ) → RunAnswer → Returned → Type 0
-RunsIf good m l budget r b = Runs (servedIf good m l) m l budget r b
-
 -- run
 abbrev pub HasRun : Machine → Lent → (budget : ℕ) → RunAnswer → Returned → Type 0
 HasRun m l budget r b = Runs (servedOf m l) m l budget r b
 
--- what a step needs of a machine: in Move a byte is left to move and no EOP was seen, and the descriptor in hand is in the window.
--- One that keeps the rules has it
-abbrev pub readyIn : Machine → Phase → Bool
-readyIn m phase.Rest = true
-readyIn m phase.Fetch = true
-readyIn m (phase.Move k) = ltb (k .moved) (whole m k) && not (k .eop) && inWindow (m .window) (k .at) 32
-readyIn m (phase.WriteBack k) = inWindow (m .window) (k .at) 32
-readyIn m phase.Ended = true
-readyIn m phase.Halted = true
-readyIn m (phase.Faulted f) = true
-
-unfoldable pub readyOf : Machine → Bool
-readyOf m = readyIn m (m .phase)
-
--- resume: good is a machine that has what a step needs
-abbrev pub Resumed : Machine → Lent → (budget : ℕ) → RunAnswer → Returned → Type 0
-Resumed m l budget r b = RunsIf (readyOf m) m l budget r b
-
 pub stepped-unique : {m : Machine} {l : Lent} {r s : StepAnswer} {b d : Returned} → Stepped m l r b → Stepped m l s d → (r ≡ s) × (b ≡ d)
 stepped-unique p q = (p .answer ∙ sym (q .answer), p .back ∙ sym (q .back))
 
--- of both
+-- of `HasRun`, and of `Resumed` (Helpers/Resume.antt)
 pub run-unique : {served : Served} {m : Machine} {l : Lent} {budget : ℕ} {r s : RunAnswer} {b d : Returned}
     → Runs served m l budget r b → Runs served m l budget s d → (r ≡ s) × (b ≡ d)
 run-unique p q = (p .answer ∙ sym (q .answer), p .back ∙ sym (q .back))

@@ -1,4 +1,10 @@
--- The paper's "Steps": the rule of one step, by phase, in the paper's order and words.
+-- The paper's "Steps": the rule of one step, by phase, in the paper's order and words. The paper's sections are read in this order:
+--   "Window and stream", "Descriptor"   in the crates bus, flow and descriptor, whose words are used here
+--   "Steps"                             here: the world of a step (`World`); Rest, Fetch, Move, WriteBack; and `step`, by the phase
+--   its run                             Run.antt, with what a step and a run promise
+--   "Registers"                         Registers.antt
+--   "Saved image"                       Saved.antt
+-- The machine and its parts are named in State.antt.
 -- Assumes nothing.
 use Prim.Native.Nat.{ℕ, zero, suc, _+_, _%_, _^_}
 use mathlib.Core.Bool.{Bool, true, false, not, cond, _&&_, _||_}

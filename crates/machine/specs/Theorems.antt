@@ -16,8 +16,10 @@ use Rattle.machine.specs.declared.Reason.the-variants.{Budget}
 use Rattle.machine.specs.declared.RunAnswer.{RunAnswer}
 use Rattle.machine.specs.Saved.{keeps}
 use Rattle.machine.specs.Step.{World, taken, became, stored, received, sent, sourceOf, destinationOf, onward, step}
-use Rattle.machine.specs.Run.{run, Lent, Returned, HasRun, Resumed}
-use Rattle.machine.specs.Turns.{steps, movedBy, Moving, Row, Unmarked}
+use Rattle.machine.specs.Run.{run, Lent, Returned, HasRun}
+use Rattle.machine.specs.Helpers.Turns.{steps}
+use Rattle.machine.specs.Helpers.AtOnce.{movedBy, Moving, Row, Unmarked}
+use Rattle.machine.specs.Helpers.Resume.{Resumed}
 use Rattle.machine.specs.Laws.{Passed, sparesIn, Tells, onTop}
 
 -- ---- runs

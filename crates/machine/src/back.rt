@@ -2,8 +2,9 @@
 ghost use mathlib.Core.Path.{_≡_};
 ghost use mathlib.Core.Bool.{true};
 ghost use Rattle.bus.specs.Window.{inWindow};
+ghost use Rattle.machine.specs.State.{home as homeOf};
 ghost use Rattle.machine.specs.Step.{World, stored, writtenControl, writtenBack, afterBack, completed as completedOf};
-ghost use Rattle.machine.specs.Turns.{Logs, Backs};
+ghost use Rattle.machine.specs.Helpers.Turns.{Logs, Backs};
 use crate::Machine;
 use crate::Phase;
 use crate::Work;
@@ -62,7 +63,7 @@ impl Machine {
 
     // The last four descriptor bytes: actual, errors, control.
     fn put_back(self, k: Work, window: &mut [u8])
-        requires { ⌜ inWindow (self .window) (k .at) 32 ≡ true ⌝ }
+        requires { ⌜ inWindow (homeOf self) (k .at) 32 ≡ true ⌝ }
         ensures { λ _. ⌜ ((w : World) → now (window .exit) ≡ writtenBack (stored w self (now (window .entry))) k) ⌝ }
     {
         let found = self.home().locate(BusAddress(k.at as u64), 32);
@@ -75,7 +76,7 @@ impl Machine {
 
     // All but its record.
     pub(crate) fn write_back_step(self, k: Work, window: &mut [u8]) -> Machine
-        requires { ⌜ inWindow (self .window) (k .at) 32 ≡ true ⌝ }
+        requires { ⌜ inWindow (homeOf self) (k .at) 32 ≡ true ⌝ }
         ensures { λ r. ⌜ Backs self k (now (window .entry)) r (now (window .exit)) ⌝ }
     {
         self.put_back(k, window);

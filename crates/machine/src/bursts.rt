@@ -7,7 +7,7 @@ ghost use lib.ListN.{length};
 ghost use Rattle.descriptor.specs.Layout.{readFixed, writeFixed};
 ghost use Rattle.regs.specs.declared.Mode.the-variants.{MemoryToMemory, MemoryToStream, StreamToMemory};
 ghost use Rattle.machine.specs.Step.{sourceOf, destinationOf};
-ghost use Rattle.machine.specs.Turns.{Reaches, Bursts, Unmarked};
+ghost use Rattle.machine.specs.Helpers.AtOnce.{Reaches, Bursts, Unmarked};
 use crate::Work;
 use bus::BusAddress;
 use bus::Located;
@@ -94,7 +94,9 @@ impl Work {
     pub(crate) fn copy_many(self, place: Window, window: &mut [u8], most: usize) -> usize
         requires { ⌜ place .length ≡ length (now window) ⌝ }
         ensures { λ r. ⌜ r ≤ most ⌝ }
-        ensures { λ r. ⌜ ((beats : List ℕ) (took : ℕ) (out : List ℕ) (made : ℕ) → Bursts MemoryToMemory place self most r (self .errors) (now (window .entry)) beats took out made took made (now (window .exit)) out) ⌝ }
+        ensures { λ r. ⌜
+            ((beats : List ℕ) (took : ℕ) (out : List ℕ) (made : ℕ) → Bursts MemoryToMemory place self most r (self .errors)
+            (now (window .entry)) beats took out made took made (now (window .exit)) out) ⌝ }
     {
         let from = self.reads(place);
         let to = self.writes(place);
@@ -132,7 +134,9 @@ impl Work {
         requires { ⌜ made ≤ length (now out) / 2 ⌝ }
         requires { ⌜ 1 ≤ most ⌝ }
         ensures { λ r. ⌜ (r ≤ most) × (made + r ≤ length (now (out .entry)) / 2) ⌝ }
-        ensures { λ r. ⌜ ((beats : List ℕ) (took : ℕ) → Bursts MemoryToStream place self most r (self .errors) (now (window .entry)) beats took (now (out .entry)) made took (made + r) (now (window .entry)) (now (out .exit))) ⌝ }
+        ensures { λ r. ⌜
+            ((beats : List ℕ) (took : ℕ) → Bursts MemoryToStream place self most r (self .errors)
+            (now (window .entry)) beats took (now (out .entry)) made took (made + r) (now (window .entry)) (now (out .exit))) ⌝ }
     {
         let from = self.reads(place);
         let room = least(from.bytes, out.len() / 2 - made);
@@ -153,7 +157,9 @@ impl Work {
         requires { ⌜ place .length ≡ length (now window) ⌝ }
         requires { ⌜ taken ≤ length (now beats) / 2 ⌝ }
         ensures { λ r. ⌜ (r .count ≤ most) × (taken + r .count ≤ length (now (beats .entry)) / 2) ⌝ }
-        ensures { λ r. ⌜ ((out : List ℕ) (made : ℕ) → Bursts StreamToMemory place self most (r .count) (r .errors) (now (window .entry)) (now (beats .entry)) taken out made (taken + r .count) made (now (window .exit)) out) ⌝ }
+        ensures { λ r. ⌜
+            ((out : List ℕ) (made : ℕ) → Bursts StreamToMemory place self most (r .count) (r .errors)
+            (now (window .entry)) (now (beats .entry)) taken out made (taken + r .count) made (now (window .exit)) out) ⌝ }
     {
         let to = self.writes(place);
         let some = least(to.bytes, beats.len() / 2 - taken);

@@ -5,7 +5,7 @@ ghost use Prim.Native.Nat.{ℕ};
 ghost use Rattle.machine.specs.declared.Phase.the-variants.{Move};
 ghost use Rattle.machine.specs.State.{withPhase, withPointer};
 ghost use Rattle.machine.specs.Step.{World, ended as endedOf, wantsLength, begun as begunOf, fetched as fetchedOf, fetchStep};
-ghost use Rattle.machine.specs.Turns.{Still};
+ghost use Rattle.machine.specs.Helpers.Turns.{Still};
 use crate::Fault;
 use crate::Machine;
 use crate::Phase;

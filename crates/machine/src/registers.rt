@@ -4,7 +4,7 @@ ghost use Rattle.words.specs.Promise.{Gives};
 ghost use Rattle.regs.specs.Control.{lineUp};
 ghost use Rattle.regs.specs.Offsets.{registerAt};
 ghost use Rattle.machine.specs.State.{fresh as freshOf, withPhase, withBusy, rested as restedOf};
-ghost use Rattle.machine.specs.Turns.{stands};
+ghost use Rattle.machine.specs.Helpers.Worlds.{stands};
 ghost use Rattle.machine.specs.Registers.{writtenTo, wroteTo, RegisterWasRead, WasWritten, WasLine};
 use crate::Machine;
 use crate::Phase;

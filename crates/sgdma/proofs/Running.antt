@@ -18,7 +18,8 @@ use Rattle.machine.specs.declared.LoadedMachine.{LoadedMachine}
 use Rattle.machine.specs.declared.LoadedMachine.the-variants.{Good, Refused}
 use Rattle.machine.specs.Saved.{keeps, loadOf}
 use Rattle.machine.specs.Step.{World}
-use Rattle.machine.specs.Run.{run, Lent, Returned, asLent, Served, serves, refused, servedIf, worldOf, ranAs, runAnswer, runNumber, HasRun, readyOf, Resumed}
+use Rattle.machine.specs.Run.{run, Lent, Returned, asLent, Served, serves, refused, servedIf, worldOf, ranAs, runAnswer, runNumber, HasRun}
+use Rattle.machine.specs.Helpers.Resume.{readyOf, Resumed}
 use Rattle.machine.proofs.Answers.{was-loaded}
 use Rattle.machine.proofs.StepLaws.{took-since}
 use Rattle.machine.proofs.RunLaws.{run-tells}

@@ -3,7 +3,9 @@ use Prim.Native.Nat.{ℕ, _≤_}
 use mathlib.Core.List.{List}
 use lib.ListN.{length}
 use Rattle.machine.specs.Step.{step}
-use Rattle.machine.specs.Turns.{Ready, Within, Goes}
+use Rattle.machine.specs.Helpers.Worlds.{Within}
+use Rattle.machine.specs.Helpers.Waiting.{Goes}
+use Rattle.machine.specs.Helpers.Resume.{Ready}
 use Rattle.machine.proofs.Bulk.{as-before, then-step}
 use Rattle.machine.proofs.Turning.{turned-quietly}
 use borrow.Author.Needs.{needs}

@@ -1,7 +1,7 @@
 use native.Mathlib.Omega.{arith}
 use mathlib.Core.Path.{refl, subst}
 use Rattle.machine.specs.declared.Phase.{Phase}
-use Rattle.machine.specs.Turns.{Left}
+use Rattle.machine.specs.Helpers.Resume.{Left}
 use Rattle.machine.proofs.Bulk.{went-nowhere}
 use Rattle.machine.proofs.Logging.{quiet-in}
 use borrow.Author.Needs.{needs}

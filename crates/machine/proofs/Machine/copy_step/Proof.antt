@@ -1,6 +1,6 @@
 use native.Mathlib.Omega.{arith}
 use Rattle.machine.proofs.Places.{inside, outside, place, fits}
-use Rattle.machine.proofs.Cases.{fault-at, no-source, no-destination, copies}
+use Rattle.machine.proofs.AtMove.{fault-at, no-source, no-destination, copies}
 use mathlib.Core.Path.{_∙_}
 use borrow.Author.Needs.{needs}
 use Rattle.machine.proofs.Machine.copy_step.Statement.{statement}

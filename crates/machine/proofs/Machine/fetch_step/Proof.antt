@@ -6,7 +6,7 @@ use Rattle.descriptor.specs.declared.Look.{Look}
 use Rattle.descriptor.specs.Looking.{lookAt}
 use Rattle.machine.specs.declared.Machine.{Machine}
 use Rattle.machine.specs.Step.{World, meets, fetchStep}
-use Rattle.machine.specs.Turns.{Still}
+use Rattle.machine.specs.Helpers.Turns.{Still}
 use Rattle.machine.proofs.AtFetch.{not-running, running, no-address, no-descriptor}
 use Rattle.machine.proofs.Machine.fetch_step.Statement.{statement}
 use Rattle.machine.proofs.Machine.fetch_step.Tie as tie

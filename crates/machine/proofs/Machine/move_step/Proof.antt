@@ -1,7 +1,7 @@
 use Rattle.regs.specs.declared.Mode.{Mode}
 use Rattle.machine.proofs.Waiting.{goes-room, goes-beat}
 use Rattle.machine.proofs.Turning.{went-still, went-as}
-use Rattle.machine.specs.Turns.{Went}
+use Rattle.machine.specs.Helpers.Turns.{Went}
 use Rattle.machine.specs.Step.{World, became, moveStep}
 use mathlib.Core.Path.{_≡_, ap}
 use mathlib.Core.List.{List}

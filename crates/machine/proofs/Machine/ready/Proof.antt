@@ -1,7 +1,7 @@
 use mathlib.Core.Path.{sym, ap, _∙_}
 use mathlib.Core.Bool.{not, _&&_}
 use lib.Dec.{ltb}
-use Rattle.machine.specs.Run.{readyIn, readyOf}
+use Rattle.machine.specs.Helpers.Resume.{readyIn, readyOf}
 use borrow.Author.Needs.{needs}
 use Rattle.machine.proofs.Machine.ready.Statement.{statement}
 use Rattle.machine.proofs.Machine.ready.Tie as tie

@@ -3,8 +3,8 @@ use Prim.Native.Nat.{_/_, _<_}
 use lib.ListN.{length}
 use native.Mathlib.Omega.{arith}
 use Rattle.machine.proofs.Places.{inside, outside, place, fits}
-use Rattle.machine.proofs.Cases.{fault-at}
-use Rattle.machine.proofs.Turning.{past, within, receive-in, receive-out}
+use Rattle.machine.proofs.Turning.{past, within}
+use Rattle.machine.proofs.AtMove.{fault-at, receive-in, receive-out}
 use Rattle.machine.specs.declared.steps.Reached.{Reached}
 use borrow.Author.Needs.{needs}
 use Rattle.machine.proofs.Machine.receive_step.Statement.{statement}

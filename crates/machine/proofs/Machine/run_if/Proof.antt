@@ -2,7 +2,8 @@ use Rattle.machine.proofs.Standing.{Stands, here, stands-first, stands-
 use Rattle.machine.proofs.Outcomes.{serves-good, good-ready}
 use Rattle.machine.proofs.Streams.{some-room}
 use Rattle.machine.proofs.Waiting.{waits-at}
-use Rattle.machine.specs.Turns.{waitOf, servedAs}
+use Rattle.machine.specs.Helpers.Worlds.{servedAs}
+use Rattle.machine.specs.Helpers.Waiting.{waitOf}
 use mathlib.Core.Path.{_≡_, sym, ap, _∙_}
 use native.Mathlib.Omega.{arith}
 use Prim.Native.Nat.{_-_}

@@ -3,8 +3,8 @@ use native.Mathlib.Omega.{arith}
 use Prim.Native.Nat.{ℕ, _/_, _<_}
 use lib.ListN.{length, getD}
 use Rattle.machine.proofs.Places.{inside, outside, place, fits}
-use Rattle.machine.proofs.Cases.{fault-at}
-use Rattle.machine.proofs.Turning.{past, send-in, send-out}
+use Rattle.machine.proofs.Turning.{past}
+use Rattle.machine.proofs.AtMove.{fault-at, send-in, send-out}
 use Rattle.machine.specs.declared.steps.Reached.{Reached}
 use Rattle.machine.specs.Step.{beatFor}
 use borrow.Author.Needs.{needs}

@@ -1,7 +1,8 @@
 use Rattle.machine.proofs.Waiting.{waits-at}
 use Rattle.machine.proofs.Outcomes.{serves-ready, wait-stopped, step-refused, step-stopped, step-taken}
 use Rattle.machine.proofs.Streams.{some-beat, some-room}
-use Rattle.machine.specs.Turns.{servedAs, waitOf}
+use Rattle.machine.specs.Helpers.Worlds.{servedAs}
+use Rattle.machine.specs.Helpers.Waiting.{waitOf}
 use mathlib.Core.Path.{_≡_, refl, sym, ap, _∙_}
 use lib.ListN.{length}
 use Rattle.ledger.specs.Records.{capacity}

@@ -1,9 +1,12 @@
 use native.Mathlib.Omega.{arith}
 use Rattle.machine.proofs.Readiness.{left-lt}
 use Rattle.machine.proofs.Waiting.{at-phase, goes-in, rest-runs, never-goes}
-use Rattle.machine.proofs.Turning.{went-still, went-as, turned-quietly, turned-back, rest-starts}
+use Rattle.machine.proofs.Turning.{went-still, went-as, turned-quietly, rest-starts}
+use Rattle.machine.proofs.AtWriteBack.{turned-back}
 use Rattle.machine.proofs.Logging.{quiet-in}
-use Rattle.machine.specs.Turns.{Left, Placed, Goes, Went, loggedIn, Turned}
+use Rattle.machine.specs.Helpers.Waiting.{Goes}
+use Rattle.machine.specs.Helpers.Turns.{Went, loggedIn, Turned}
+use Rattle.machine.specs.Helpers.Resume.{Left, Placed}
 use Rattle.machine.specs.Step.{World, Answer, became, step, stepIn, restStep, fetchStep, moveStep}
 use Rattle.machine.specs.declared.Phase.{Phase}
 use mathlib.Core.Path.{_≡_, refl, subst, _∙_}

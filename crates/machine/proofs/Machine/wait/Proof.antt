@@ -1,6 +1,6 @@
 use Rattle.machine.proofs.Waiting.{fetch-goes, back-waits, at-phase}
 use Rattle.machine.specs.Step.{became, restStep}
-use Rattle.machine.specs.Turns.{waitOf}
+use Rattle.machine.specs.Helpers.Waiting.{waitOf}
 use Rattle.machine.specs.declared.Reason.the-variants as reason
 use Rattle.machine.specs.declared.steps.Wait.the-variants.{Go, Stop}
 use mathlib.Core.Bool.{Bool, cond}

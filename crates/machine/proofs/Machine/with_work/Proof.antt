@@ -1,4 +1,4 @@
-use Rattle.machine.proofs.Cases.{onward-by}
+use Rattle.machine.proofs.AtMove.{onward-by}
 use borrow.Author.Needs.{needs}
 use Rattle.machine.proofs.Machine.with_work.Statement.{statement}
 use Rattle.machine.proofs.Machine.with_work.Tie as tie

@@ -9,7 +9,8 @@ use Rattle.machine.specs.declared.Reason.the-variants as reason
 use Rattle.machine.specs.declared.steps.Wait.the-variants.{Go, Stop}
 use Rattle.machine.specs.Step.{World, Answer, taken, stopped, step}
 use Rattle.machine.specs.Run.{Report, oneMore, runOn, run}
-use Rattle.machine.specs.Turns.{waitOf, stepsOn, steps}
+use Rattle.machine.specs.Helpers.Waiting.{waitOf}
+use Rattle.machine.specs.Helpers.Turns.{stepsOn, steps}
 
 abbrev pub report : World → ℕ → Reason → Report
 report w n r = record { reason = r; steps = n; world = w }

@@ -1,0 +1,30 @@
+-- Whether a step can be taken.
+-- Assumes nothing.
+use Prim.Native.Nat.{ℕ}
+use mathlib.Core.Path.{_≡_}
+use mathlib.Core.Bool.{Bool, true, false}
+use mathlib.Core.List.{List, [], _∷_}
+use lib.Dec.{ltb}
+use Rattle.machine.specs.declared.Machine.{Machine}
+use Rattle.machine.specs.declared.steps.Wait.{Wait}
+use Rattle.machine.specs.declared.steps.Wait.the-variants.{Go, Stop}
+use Rattle.machine.specs.Step.{World, Answer, taken, stopped, became}
+use Rattle.machine.specs.Helpers.Worlds.{midway}
+
+abbrev pub waitOf : Answer → Wait
+waitOf (taken v) = Go
+waitOf (stopped r) = Stop r
+
+abbrev pub some : List ℕ → Bool
+some [] = false
+some (b ∷ bs) = true
+
+-- what a rule's waiting depends on: whether there is a beat, whether there is room for one, and whether there is for a record
+abbrev pub Waits : (World → Answer) → Machine → (more room keeps : Bool) → Wait → Type 0
+Waits rule m more room keeps r =
+    (w : World) → more ≡ some (w .input) → room ≡ ltb 0 (w .room) → keeps ≡ ltb 0 (w .left) → r ≡ waitOf (rule (became w m))
+
+-- a rule can be applied, in the middle of lent slices, in some world
+pub record Goes (rule : World → Answer) (m : Machine) (window beats : List ℕ) (took : ℕ) (out : List ℕ) (made : ℕ) : Type 0 where
+  pub around : World
+  pub can : waitOf (rule (midway around m window beats took out made)) ≡ Go
