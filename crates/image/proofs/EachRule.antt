@@ -9,6 +9,7 @@ use lib.ListN.{getD}
 use lib.Dec.{eqb}
 use Rattle.bus.specs.Window.{keepsLimits}
 use Rattle.image.specs.declared.Fields.{Fields}
+use Rattle.image.specs.Layout.{latest}
 use Rattle.image.specs.Rules.{_outside_, zeroOutside, inFaulted, working, editionKept, modeKept, phaseKept, faultKept, statusKept, countKept, controlKept, addressKept, sizeKept, dcontrolKept, errorsKept, asked, movedKept, eopKept, rules, firstFalse, lowestBroken}
 
 -- where no test fails, each holds
@@ -37,7 +38,7 @@ rules-kept f h = none 1 (rules f) (λ i. h (suc i))
 
 -- each rule under its field's name
 pub record Each (f : Fields) : Type 0 where
-  pub edition : editionKept (f .edition) ≡ true
+  pub edition : editionKept latest (f .edition) ≡ true
   pub mode : modeKept (f .mode) ≡ true
   pub phase : phaseKept (f .mode) (f .phase) ≡ true
   pub fault : faultKept (f .mode) (f .phase) (f .fault) ≡ true

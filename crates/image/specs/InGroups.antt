@@ -4,12 +4,13 @@ use mathlib.Core.Bool.{Bool, not, _&&_}
 use lib.Dec.{eqb}
 use Rattle.bus.specs.Window.{keepsLimits}
 use Rattle.image.specs.declared.Fields.{Fields}
+use Rattle.image.specs.Layout.{latest}
 use Rattle.image.specs.Rules.{_outside_, inFaulted, editionKept, modeKept, phaseKept, faultKept, statusKept, countKept, controlKept, zeroOutside, addressKept, sizeKept, dcontrolKept, errorsKept, asked, movedKept, eopKept}
 
 -- those of every phase
 abbrev pub coreKept : Fields → Bool
 coreKept f =
-    editionKept (f .edition)
+    editionKept latest (f .edition)
     && modeKept (f .mode)
     && phaseKept (f .mode) (f .phase)
     && faultKept (f .mode) (f .phase) (f .fault)

@@ -1,4 +1,6 @@
+pub mod Lines
 pub mod Layout
+pub mod Tests
 pub mod Rules
 pub mod Promise
 pub mod InWords

@@ -13,12 +13,12 @@ use Rattle.image.specs.declared.ReadImage.{ReadImage}
 use Rattle.image.specs.declared.ReadImage.the-variants as read
 use Rattle.image.specs.declared.WroteImage.{WroteImage}
 use Rattle.image.specs.declared.WroteImage.the-variants as wrote
-use Rattle.image.specs.Layout.{image, fields}
+use Rattle.image.specs.Layout.{sizeOf, latest, image, fields}
 use Rattle.image.specs.Rules.{zeroFrom, keepsRules}
 
 -- a lent image of the right size
 abbrev pub sized : List ℕ → Bool
-sized xs = eqb (length xs) 44
+sized xs = eqb (length xs) (sizeOf latest)
 
 -- 7 where the size is wrong; else 8 where a rule is broken; else the fields
 unfoldable pub readOf : List ℕ → ReadImage
