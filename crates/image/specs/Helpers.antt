@@ -3,3 +3,4 @@
 -- Assumes nothing.
 pub mod InWords
 pub mod ByPhase
+pub mod WasPut

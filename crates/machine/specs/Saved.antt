@@ -15,8 +15,8 @@ use Rattle.image.specs.declared.ReadImage.the-variants as read
 use Rattle.image.specs.declared.WroteImage.{WroteImage}
 use Rattle.image.specs.declared.WroteImage.the-variants as wrote
 use Rattle.image.specs.Rules.{keepsRules}
-use Rattle.image.specs.Promise.{readOf, wroteOf, imageOver, imagePut, imageReadNumber, imageWroteNumber}
-use Rattle.image.specs.Promise as image
+use Rattle.image.specs.Promise.{readOf, wroteOf, imageOver, imageReadNumber, imageWroteNumber}
+use Rattle.image.specs.Helpers.WasPut.{imagePutOf, imagePut}
 use Rattle.machine.specs.declared.Machine.{Machine}
 use Rattle.machine.specs.declared.Work.{Work}
 use Rattle.machine.specs.declared.Fault.{Fault}
@@ -150,7 +150,7 @@ saveOf m xs = savedAs (wroteOf (fieldsOf m) xs)
 
 -- the same of a machine that may break a rule: else 7, or 8 where a number does not fit its width
 unfoldable pub putOf : Machine → List ℕ → SavedMachine
-putOf m xs = savedAs (image.imagePutOf (fieldsOf m) xs)
+putOf m xs = savedAs (imagePutOf (fieldsOf m) xs)
 
 -- the paper's number of each answer
 abbrev pub loadNumber : LoadedMachine → ℕ
@@ -174,7 +174,7 @@ pub record WasSaved (m : Machine) (xs : List ℕ) (r : SavedMachine) (after : Li
 
 pub record MachineWasPut (m : Machine) (xs : List ℕ) (r : SavedMachine) (after : List ℕ) : Type 0 where
   pub answer : r ≡ putOf m xs
-  pub number : saveNumber r ≡ imageWroteNumber (image.imagePutOf (fieldsOf m) xs)
+  pub number : saveNumber r ≡ imageWroteNumber (imagePutOf (fieldsOf m) xs)
   pub lent : after ≡ imagePut (fieldsOf m) xs
 
 pub loaded-unique : {xs : List ℕ} {r s : LoadedMachine} → WasLoaded xs r → WasLoaded xs s → r ≡ s
