@@ -73,7 +73,7 @@ pub enum CheckedWindow {
 }
 
 // Whether `n` bytes at an address lie among `length` bytes at `base`. No sum of addresses is taken, so none can wrap.
-pub fn lies_in(base: u32, length: u32, address: BusAddress, n: u64) -> bool
+fn lies_in(base: u32, length: u32, address: BusAddress, n: u64) -> bool
     ensures { λ r. ⌜ Gives (inWindow (record { base = base; length = length }) (address .0) n) r ⌝ }
 {
     let first = base as u64;

@@ -17,7 +17,8 @@ use Rattle.image.specs.declared.WroteImage.{WroteImage}
 use Rattle.image.specs.declared.WroteImage.the-variants as wrote
 use Rattle.image.specs.Layout.{values, widths, image, fields, Typed}
 use Rattle.image.specs.Rules.{lowestBroken, keepsRules}
-use Rattle.image.specs.Promise.{sized, readOf, wroteOf, imageOver, fits, imagePutOf, imagePut, imageReadNumber, imageWroteNumber, imageNumber, ImageWasRead, Wrote, ImageWasPut}
+use Rattle.image.specs.Promise.{sized, readOf, wroteIf, imageIf, imageReadNumber, imageWroteNumber, imageNumber, ImageWasRead, WroteIf, Wrote}
+use Rattle.image.specs.Helpers.WasPut.{fits}
 use Rattle.image.specs.Theorems.{ReadExactly}
 use Rattle.image.proofs.Facts.{edition-is, mode-le, phase-le, fault-le, zero15-is}
 use Rattle.image.proofs.RoundTrip.{length-image, fields-image, image-fields, fields-fit}
@@ -108,24 +109,26 @@ answer-number true true = refl
 answer-number true false = refl
 answer-number false k = refl
 
-pub was-wrote : {f : Fields} {xs ys : List ℕ} {r : WroteImage} → r ≡ wroteOf f xs → ys ≡ imageOver f xs → Wrote f xs r ys
-unfolding wroteOf
-was-wrote {f} {xs} e h = record { answer = e; number = ap imageWroteNumber e ∙ answer-number (sized xs) (keepsRules f); lent = h }
+module _ {good : Bool} (f : Fields) (xs : List ℕ) where
+  pub was-wrote : {ys : List ℕ} {r : WroteImage} → r ≡ wroteIf good xs → ys ≡ imageIf good f xs → WroteIf good f xs r ys
+  unfolding wroteIf
+  was-wrote e h = record { answer = e; number = ap imageWroteNumber e ∙ answer-number (sized xs) good; lent = h }
 
-module _ (f : Fields) (xs : List ℕ) where
-  pub wrote-size : (length xs ≡ 44 → ⊥) → Wrote f xs (wrote.Refused BadSize) xs
-  unfolding wroteOf imageOver
+  pub wrote-size : (length xs ≡ 44 → ⊥) → WroteIf good f xs (wrote.Refused BadSize) xs
+  unfolding wroteIf imageIf
   wrote-size h = was-wrote (rw (ne-eqb (length xs) 44 h)) (rw (ne-eqb (length xs) 44 h))
 
-  pub wrote-broken : length xs ≡ 44 → keepsRules f ≡ false → Wrote f xs (wrote.Refused BadImage) xs
-  unfolding wroteOf imageOver
+  pub wrote-broken : length xs ≡ 44 → good ≡ false → WroteIf good f xs (wrote.Refused BadImage) xs
+  unfolding wroteIf imageIf
   wrote-broken l h = was-wrote (rw (eq-eqb (length xs) 44 l, h)) (rw (eq-eqb (length xs) 44 l, h))
 
-  pub wrote-done : length xs ≡ 44 → keepsRules f ≡ true → (ys : List ℕ) → ys ≡ image f → Wrote f xs wrote.Done ys
-  unfolding wroteOf imageOver
-  wrote-done l h ys e = was-wrote (rw (eq-eqb (length xs) 44 l, h)) (e ∙ rw (eq-eqb (length xs) 44 l, h))
+  pub image-good : length xs ≡ 44 → good ≡ true → imageIf good f xs ≡ image f
+  unfolding imageIf
+  image-good l h = rw (eq-eqb (length xs) 44 l, h)
 
--- ---- putting
+  pub wrote-done : length xs ≡ 44 → good ≡ true → (ys : List ℕ) → ys ≡ image f → WroteIf good f xs wrote.Done ys
+  unfolding wroteIf
+  wrote-done l h ys e = was-wrote (rw (eq-eqb (length xs) 44 l, h)) (e ∙ sym (image-good l h))
 
 -- fields that keep the rules fit
 pub keeps-fits : (f : Fields) → lowestBroken f ≡ 0 → fits f ≡ true
@@ -138,28 +141,6 @@ keeps-fits f e = rw (
   zero15-is f e,
 )
 
-was-put : {f : Fields} {xs ys : List ℕ} {r : WroteImage} → r ≡ imagePutOf f xs → ys ≡ imagePut f xs → ImageWasPut f xs r ys
-unfolding imagePutOf
-was-put {f} {xs} e h = record { answer = e; number = ap imageWroteNumber e ∙ answer-number (sized xs) (fits f); lent = h }
-
-module _ (f : Fields) (xs : List ℕ) where
-  pub put-size : (length xs ≡ 44 → ⊥) → ImageWasPut f xs (wrote.Refused BadSize) xs
-  unfolding imagePutOf imagePut
-  put-size h = was-put (rw (ne-eqb (length xs) 44 h)) (rw (ne-eqb (length xs) 44 h))
-
-  pub put-wide : length xs ≡ 44 → fits f ≡ false → ImageWasPut f xs (wrote.Refused BadImage) xs
-  unfolding imagePutOf imagePut
-  put-wide l h = was-put (rw (eq-eqb (length xs) 44 l, h)) (rw (eq-eqb (length xs) 44 l, h))
-
-  module _ (l : length xs ≡ 44) (h : fits f ≡ true) where
-    pub put-fits : imagePut f xs ≡ image f
-    unfolding imagePut
-    put-fits = rw (eq-eqb (length xs) 44 l, h)
-
-    pub put-done : (ys : List ℕ) → ys ≡ image f → ImageWasPut f xs wrote.Done ys
-    unfolding imagePutOf
-    put-done ys e = was-put (rw (eq-eqb (length xs) 44 l, h)) (e ∙ sym put-fits)
-
 -- what a done answer tells
 done-from : (t k : Bool) → wrote.Done ≡ cond t (cond k wrote.Done (wrote.Refused BadImage)) (wrote.Refused BadSize) → (t ≡ true) × (k ≡ true)
 done-from true true e = (refl, refl)
@@ -168,15 +149,14 @@ done-from false k e = absurd (let z : _≡_ {A = ℕ} 0 1 = cc in omega arith)
 
 module _ (f : Fields) (xs ys : List ℕ) (w : Wrote f xs wrote.Done ys) where
   done-told : (sized xs ≡ true) × (keepsRules f ≡ true)
-  unfolding wroteOf
+  unfolding wroteIf
   done-told = done-from (sized xs) (keepsRules f) (w .answer)
 
   pub done-keeps : lowestBroken f ≡ 0
   done-keeps = kept-none f (done-told .1)
 
   pub done-image : ys ≡ image f
-  unfolding imageOver
-  done-image = w .lent ∙ rw (done-told .0, done-told .1)
+  done-image = w .lent ∙ image-good f xs (eqb-true _ _ (done-told .0)) (done-told .1)
 
   -- what was written is read back
   pub done-read : Typed f → readOf ys ≡ read.Good f

@@ -9,7 +9,9 @@ use lib.ListN.{getD}
 use lib.Dec.{eqb}
 use Rattle.bus.specs.Window.{keepsLimits}
 use Rattle.image.specs.declared.Fields.{Fields}
+use Rattle.image.specs.Layout.{latest}
 use Rattle.image.specs.Rules.{_outside_, zeroOutside, inFaulted, working, editionKept, modeKept, phaseKept, faultKept, statusKept, countKept, controlKept, addressKept, sizeKept, dcontrolKept, errorsKept, asked, movedKept, eopKept, rules, firstFalse, lowestBroken}
+use Rattle.image.specs.Helpers.ByPhase.{ruleAt}
 
 -- where no test fails, each holds
 each : (k : ℕ) (bs : List Bool) → firstFalse (suc k) bs ≡ 0 → (i : ℕ) → getD bs i true ≡ true
@@ -25,19 +27,19 @@ none k (true ∷ bs) h = none (suc k) bs (λ i. h (suc i))
 none k (false ∷ bs) h = absurd (true≢false (sym (h 0)))
 
 -- the rule of the field with the number i
-pub rule : (f : Fields) → lowestBroken f ≡ 0 → (i : ℕ) → getD (true ∷ rules f) i true ≡ true
+pub rule : (f : Fields) → lowestBroken f ≡ 0 → (i : ℕ) → ruleAt f i ≡ true
 unfolding lowestBroken
 rule f e zero = refl
 rule f e (suc i) = each 0 (rules f) e i
 
 -- and back
-pub rules-kept : (f : Fields) → ((i : ℕ) → getD (true ∷ rules f) i true ≡ true) → lowestBroken f ≡ 0
+pub rules-kept : (f : Fields) → ((i : ℕ) → ruleAt f i ≡ true) → lowestBroken f ≡ 0
 unfolding lowestBroken
 rules-kept f h = none 1 (rules f) (λ i. h (suc i))
 
 -- each rule under its field's name
 pub record Each (f : Fields) : Type 0 where
-  pub edition : editionKept (f .edition) ≡ true
+  pub edition : editionKept latest (f .edition) ≡ true
   pub mode : modeKept (f .mode) ≡ true
   pub phase : phaseKept (f .mode) (f .phase) ≡ true
   pub fault : faultKept (f .mode) (f .phase) (f .fault) ≡ true

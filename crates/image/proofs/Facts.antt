@@ -1,7 +1,7 @@
 -- What is known of the numbers of fields that break no rule.
 -- Assumes nothing.
 use Prim.Native.Nat.{ℕ, _+_, _%_, _≤_, _<_}
-use mathlib.Core.Path.{_≡_, _∙_}
+use mathlib.Core.Path.{_≡_, sym, _∙_}
 use mathlib.Core.Bool.{Bool, true, false, not, _&&_, _||_, or-comm}
 use native.Mathlib.Omega.{arith}
 use lib.Dec.{leb, ltb, eqb}
@@ -12,6 +12,7 @@ use Rattle.image.specs.declared.Fields.{Fields}
 use Rattle.image.specs.Rules.{_⇒_, _exactly_, _outside_, either, between, zeroFrom, zeroOutside, inMove, inWriteBack, inEnded, inHalted, inFaulted, working, error, eopEncountered, busy, run, swReset, faultCode, asked, movedKept, eopKept, lowestBroken}
 use Rattle.image.proofs.Tests.{and-left, and-right, second, three, four, both, then, else, exactly-same}
 use Rattle.image.proofs.EachRule.{each-rule}
+use Rattle.image.proofs.Windows.{stands-in}
 
 whole-or : (n m : ℕ) {b : Bool} → (eqb n m || b) ≡ true → b ≡ false → n ≡ m
 whole-or n m {b} e z = eqb-true n m (else b (eqb n m) (or-comm b (eqb n m) ∙ e) z)
@@ -137,7 +138,9 @@ module _ (f : Fields) (e : lowestBroken f ≡ 0) where
   -- there: address aligned and in the window, control bit 7 set
   module _ (h : working (f .phase) ≡ true) where
     placed : (eqb (f .address % 4) 0 && inWindow (record { base = f .base; length = f .window }) (f .address) 32) ≡ true
-    placed = then _ _ (and-right (zeroOutside (working (f .phase)) (f .address)) _ (each-rule f e .address)) h
+    placed =
+        sym (stands-in (f .base) (f .window) (f .address) (each-rule f e .window))
+        ∙ then _ _ (and-right (zeroOutside (working (f .phase)) (f .address)) _ (each-rule f e .address)) h
 
     pub address-aligned : f .address % 4 ≡ 0
     address-aligned = eqb-true _ _ (and-left _ _ placed)

@@ -11,7 +11,7 @@ use Rattle.words.specs.Numbers.{Fit}
 use Rattle.image.specs.declared.Fields.{Fields}
 use Rattle.image.specs.Layout.{values, widths, Typed}
 use Rattle.image.specs.Rules.{zeroFrom, lowestBroken}
-use Rattle.image.specs.Promise.{fits}
+use Rattle.image.specs.Helpers.WasPut.{fits}
 use Rattle.image.proofs.Tests.{and-left, and-right}
 use Rattle.image.proofs.Facts.{edition-is, mode-le, phase-le, fault-le, status-lt, count-le, control-lt, base-le, window-le, errors-lt, zero15-is}
 

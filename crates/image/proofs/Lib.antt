@@ -7,4 +7,4 @@ pub mod EachRule
 pub mod Facts
 pub mod Fitting
 pub mod Answers
-pub mod Groups
+pub mod ByPhase

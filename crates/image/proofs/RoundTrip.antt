@@ -1,4 +1,4 @@
--- The fields of an image are those that it was made of, and the image of the fields of 44 bytes is these bytes.
+-- The fields of an image are those that it was made of, and the image of the fields of its bytes is these bytes.
 -- Assumes nothing.
 use Prim.Native.Nat.{ℕ, zero, suc, _%_, _<_}
 use mathlib.Core.Path.{_≡_, refl, sym, ap, subst, _∙_}
@@ -6,16 +6,16 @@ use mathlib.Core.Bool.{Bool, true, false}
 use mathlib.Core.List.{List, [], _∷_}
 use native.Mathlib.Nat.{mod-lt}
 use native.Mathlib.Omega.{arith}
-use lib.ListN.{length}
+use lib.ListN.{length, length-replicate}
 use lib.Dec.{eqb}
 use Rattle.words.specs.Bits.{flag}
-use Rattle.words.specs.Numbers.{join, split, recode, bytes, Fit}
+use Rattle.words.specs.Numbers.{total, join, split, recode, bytes, Fit}
 use Rattle.words.specs.Slices.{AllBytes}
 use Rattle.words.proofs.Recode.{recode-back, recode-fit}
 use Rattle.words.proofs.Orders.{length-split}
 use Rattle.words.proofs.Bytes.{bytes-fit}
 use Rattle.image.specs.declared.Fields.{Fields}
-use Rattle.image.specs.Layout.{values, widths, fromNumbers, image, fields}
+use Rattle.image.specs.Layout.{fromNumbers, valuesOf, widthsOf, sizeOf, imageOf, fieldsIn, latest, values, widths, image, fields}
 
 pub flag-back : (b : Bool) → eqb (flag b) 1 ≡ b
 flag-back true = refl
@@ -33,35 +33,71 @@ flag-bit n = flag-there (n % 2) (mod-lt n (omega arith))
 of-values : (f : Fields) → fromNumbers (values f) ≡ f
 of-values f = rw (flag-back (f .armed), flag-back (f .pending), flag-back (f .eop))
 
--- the 22 numbers that a number is cut into are the values of the fields that they are
-values-of : (n : ℕ) → values (fromNumbers (split widths n)) ≡ split widths n
-values-of n = simp flag-bit
+-- ---- any edition. One past the latest has the same lines: hence the last case of each
 
-pub length-image : (f : Fields) → length (image f) ≡ 44
-unfolding image
-length-image f = length-split (bytes 44) (join widths (values f))
+-- its lines fill its bytes
+pub fills : (edition : ℕ) → total (bytes (sizeOf edition)) ≡ total (widthsOf edition)
+fills zero = refl
+fills (suc zero) = refl
+fills (suc (suc more)) = refl
 
-pub fields-image : (f : Fields) → Fit widths (values f) → fields (image f) ≡ f
-unfolding image fields
-fields-image f p = ap fromNumbers (recode-back widths (bytes 44) (values f) refl p) ∙ of-values f
-
-pub image-fields : (xs : List ℕ) → length xs ≡ 44 → AllBytes xs → image (fields xs) ≡ xs
-unfolding image fields
-image-fields xs l g =
-    ap (recode widths (bytes 44)) (values-of (join (bytes 44) xs))
-    ∙ recode-back (bytes 44) widths xs refl (subst (λ (n : ℕ). Fit (bytes n) xs) l (bytes-fit xs g))
-
--- every field of 44 bytes has no more bits than its width
-pub fields-fit : (xs : List ℕ) → Fit widths (values (fields xs))
-unfolding fields
-fields-fit xs =
-    subst (λ (vs : List ℕ). Fit widths vs) (sym (values-of (join (bytes 44) xs)))
-    (recode-fit (bytes 44) widths xs)
+-- the numbers that a number is cut into are the values of the fields that they are
+values-of : (edition n : ℕ) → valuesOf edition (fromNumbers (split (widthsOf edition) n)) ≡ split (widthsOf edition) n
+values-of zero n = refl
+values-of (suc zero) n = simp flag-bit
+values-of (suc (suc more)) n = simp flag-bit
 
 fit-bytes : (n : ℕ) (xs : List ℕ) → Fit (bytes n) xs → AllBytes xs
 fit-bytes zero [] p = tt
 fit-bytes (suc n) (x ∷ xs) p = (p .0, fit-bytes n xs (p .1))
 
+module _ (edition : ℕ) where
+  pub length-of : (f : Fields) → length (imageOf edition f) ≡ sizeOf edition
+  unfolding imageOf
+  length-of f = length-split (bytes (sizeOf edition)) (join (widthsOf edition) (valuesOf edition f)) ∙ length-replicate (sizeOf edition) 8
+
+  pub bytes-of : (f : Fields) → AllBytes (imageOf edition f)
+  unfolding imageOf
+  bytes-of f = fit-bytes (sizeOf edition) (imageOf edition f) (recode-fit (widthsOf edition) (bytes (sizeOf edition)) (valuesOf edition f))
+
+  -- the numbers come back from its image
+  pub numbers-back : (f : Fields) → Fit (widthsOf edition) (valuesOf edition f)
+      → recode (bytes (sizeOf edition)) (widthsOf edition) (imageOf edition f) ≡ valuesOf edition f
+  unfolding imageOf
+  numbers-back f p = recode-back (widthsOf edition) (bytes (sizeOf edition)) (valuesOf edition f) (fills edition) p
+
+  -- and the bytes from their fields
+  pub bytes-back : (xs : List ℕ) → length xs ≡ sizeOf edition → AllBytes xs → imageOf edition (fieldsIn edition xs) ≡ xs
+  unfolding imageOf fieldsIn
+  bytes-back xs l g =
+      ap (recode (widthsOf edition) (bytes (sizeOf edition))) (values-of edition (join (bytes (sizeOf edition)) xs))
+      ∙ recode-back (bytes (sizeOf edition)) (widthsOf edition) xs (sym (fills edition)) (subst (λ (n : ℕ). Fit (bytes n) xs) l (bytes-fit xs g))
+
+  -- every field of its bytes has no more bits than its width
+  pub fit-in : (xs : List ℕ) → Fit (widthsOf edition) (valuesOf edition (fieldsIn edition xs))
+  unfolding fieldsIn
+  fit-in xs =
+      subst (λ (vs : List ℕ). Fit (widthsOf edition) vs) (sym (values-of edition (join (bytes (sizeOf edition)) xs)))
+      (recode-fit (bytes (sizeOf edition)) (widthsOf edition) xs)
+
+-- ---- the latest
+
+pub length-image : (f : Fields) → length (image f) ≡ 44
+unfolding image
+length-image f = length-of latest f
+
+pub fields-image : (f : Fields) → Fit widths (values f) → fields (image f) ≡ f
+unfolding image fields
+fields-image f p = ap fromNumbers (numbers-back latest f p) ∙ of-values f
+
+pub image-fields : (xs : List ℕ) → length xs ≡ 44 → AllBytes xs → image (fields xs) ≡ xs
+unfolding image fields
+image-fields xs l g = bytes-back latest xs l g
+
+pub fields-fit : (xs : List ℕ) → Fit widths (values (fields xs))
+unfolding fields
+fields-fit xs = fit-in latest xs
+
 pub image-bytes : (f : Fields) → AllBytes (image f)
 unfolding image
-image-bytes f = fit-bytes 44 (image f) (recode-fit widths (bytes 44) (values f))
+image-bytes f = bytes-of latest f

@@ -1,7 +1,10 @@
 -- What tests put together tell of their parts.
 -- Assumes nothing.
+use Prim.Native.Nat.{ℕ}
 use mathlib.Core.Path.{_≡_, refl, sym}
 use mathlib.Core.Bool.{Bool, true, false, not, _&&_, _||_, true≢false}
+use lib.Dec.{eqb, ltb}
+use borrow.Author.Tests.{eqb-true}
 use Rattle.image.specs.Rules.{_⇒_, _exactly_}
 
 pub and-left : (a b : Bool) → (a && b) ≡ true → a ≡ true
@@ -59,3 +62,9 @@ no-mark false true true = refl
 no-mark false true false = refl
 no-mark false false true = refl
 no-mark false false false = refl
+
+-- no errors are below 128
+pub no-errors : (reads : Bool) (n : ℕ) (zero? : Bool) → eqb n 0 ≡ zero? → (eqb n 0 && (not reads || eqb n 0) && ltb n 128) ≡ eqb n 0
+no-errors true n true z = rw (eqb-true n 0 z)
+no-errors false n true z = rw (eqb-true n 0 z)
+no-errors reads n false z = rw (z)

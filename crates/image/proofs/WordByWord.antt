@@ -18,7 +18,7 @@ use Rattle.words.proofs.Slices.{number-in}
 use Rattle.words.proofs.Groups.{recodes, Even, joins, Alike, parts, fours, recode-groups, fits-of, recodes-words, parts-all, parts-fit}
 use Rattle.image.specs.declared.Fields.{Fields}
 use Rattle.image.specs.Layout.{values, widths, fromNumbers, image, fields}
-use Rattle.image.specs.InWords.{headWidths, sizesWidths, doneWidths, ofWords}
+use Rattle.image.specs.Helpers.InWords.{headWidths, sizesWidths, doneWidths, ofWords}
 
 -- ---- words of bytes
 

@@ -1,25 +1,19 @@
--- The paper's "Saved image": 44 bytes, the fields side by side in this order, bits most significant first.
+-- The paper's "Saved image": the fields side by side in this order, bits most significant first. The table is a list of parts: the
+-- image of edition e has the first e of them, so that a later edition appends a part and moves no line. Fields are numbered by
+-- their places in the table, from 1.
 -- Assumes nothing.
-use Prim.Native.Nat.{ℕ, _<_}
+use Prim.Native.Nat.{ℕ, _/_, _<_}
 use mathlib.Core.List.{List, [], _∷_, map}
-use lib.ListN.{getD}
+use lib.ListN.{length, getD}
 use lib.Dec.{eqb}
 use Rattle.words.specs.Bits.{flag}
-use Rattle.words.specs.Numbers.{recode, bytes}
+use Rattle.words.specs.Numbers.{total, recode, bytes}
 use Rattle.image.specs.declared.Fields.{Fields}
+use Rattle.image.specs.Lines.{Field, _bits_, firstParts}
 
--- a field of the layout: its width, and the number that stands there
-pub record Field : Type 0 where
-  pub width : ℕ
-  pub value : ℕ
-
-infix 70 _bits_
-abbrev pub _bits_ : ℕ → ℕ → Field
-w bits v = record { width = w; value = v }
-
--- the table: each field's width and value
-abbrev pub layout : Fields → List Field
-layout f =
+-- the first part: each field's width and value
+abbrev pub coreLines : Fields → List Field
+coreLines f =
     4 bits f .edition ∷  --  1 edition
     2 bits f .mode ∷  --  2 mode
     3 bits f .phase ∷  --  3 phase: Rest 0, Fetch, Move, WriteBack, Ended, Halted, Faulted 6
@@ -44,7 +38,11 @@ layout f =
     32 bits f .faultat ∷  -- 22 fault address
     []
 
--- the fields that 22 numbers are, each by its place in the table
+-- the parts, in the order in which the editions added them
+abbrev pub parts : Fields → List (List Field)
+parts f = coreLines f ∷ []
+
+-- the fields that numbers are, each by its place in the table; a field past their end is zero
 abbrev pub fromNumbers : List ℕ → Fields
 fromNumbers vs =
     let at : ℕ → ℕ = λ n. getD (0 ∷ vs) n 0 in
@@ -73,12 +71,51 @@ fromNumbers vs =
       faultat = at 22;
     }
 
--- the numbers of the table's lines, and their widths, which are the same whatever the fields
+-- ---- an edition
+
+-- its lines
+abbrev pub layoutOf : (edition : ℕ) → Fields → List Field
+layoutOf edition f = firstParts edition (parts f)
+
+-- their numbers, and their widths, which are the same whatever the fields
+abbrev pub valuesOf : (edition : ℕ) → Fields → List ℕ
+valuesOf edition f = map (λ x. x .value) (layoutOf edition f)
+
+abbrev pub widthsOf : (edition : ℕ) → List ℕ
+widthsOf edition = map (λ x. x .width) (layoutOf edition (fromNumbers []))
+
+-- how many bytes they fill
+abbrev pub sizeOf : (edition : ℕ) → ℕ
+sizeOf edition = total (widthsOf edition) / 8
+
+-- its image of the fields, and the fields of such an image
+unfoldable pub imageOf : (edition : ℕ) → Fields → List ℕ
+imageOf edition f = recode (widthsOf edition) (bytes (sizeOf edition)) (valuesOf edition f)
+
+unfoldable pub fieldsIn : (edition : ℕ) → List ℕ → Fields
+fieldsIn edition xs = fromNumbers (recode (bytes (sizeOf edition)) (widthsOf edition) xs)
+
+-- ---- the edition that is read and written: all parts
+
+abbrev pub latest : ℕ
+latest = length (parts (fromNumbers []))
+
+abbrev pub layout : Fields → List Field
+layout = layoutOf latest
+
 abbrev pub values : Fields → List ℕ
-values f = map (λ x. x .value) (layout f)
+values = valuesOf latest
 
 abbrev pub widths : List ℕ
-widths = map (λ x. x .width) (layout (fromNumbers []))
+widths = widthsOf latest
+
+unfoldable pub image : Fields → List ℕ
+unfolding imageOf
+image f = imageOf latest f
+
+unfoldable pub fields : List ℕ → Fields
+unfolding fieldsIn
+fields xs = fieldsIn latest xs
 
 -- the numbers that no image rule bounds fit their widths in the table; their types in the code see to that
 pub record Typed (f : Fields) : Type 0 where
@@ -90,10 +127,3 @@ pub record Typed (f : Fields) : Type 0 where
   pub dcontrol : f .dcontrol < 256
   pub moved : f .moved < 65536
   pub faultat : f .faultat < 4294967296
-
--- the image of the fields, and the fields of 44 bytes
-unfoldable pub image : Fields → List ℕ
-image f = recode widths (bytes 44) (values f)
-
-unfoldable pub fields : List ℕ → Fields
-fields xs = fromNumbers (recode (bytes 44) widths xs)

@@ -1,6 +1,7 @@
+pub mod Lines
 pub mod Layout
+pub mod Tests
 pub mod Rules
 pub mod Promise
-pub mod InWords
-pub mod InGroups
+pub mod Helpers
 pub mod Theorems

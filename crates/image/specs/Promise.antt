@@ -13,37 +13,32 @@ use Rattle.image.specs.declared.ReadImage.{ReadImage}
 use Rattle.image.specs.declared.ReadImage.the-variants as read
 use Rattle.image.specs.declared.WroteImage.{WroteImage}
 use Rattle.image.specs.declared.WroteImage.the-variants as wrote
-use Rattle.image.specs.Layout.{image, fields}
-use Rattle.image.specs.Rules.{zeroFrom, keepsRules}
+use Rattle.image.specs.Layout.{sizeOf, latest, image, fields}
+use Rattle.image.specs.Rules.{keepsRules}
 
 -- a lent image of the right size
 abbrev pub sized : List ℕ → Bool
-sized xs = eqb (length xs) 44
+sized xs = eqb (length xs) (sizeOf latest)
 
 -- 7 where the size is wrong; else 8 where a rule is broken; else the fields
 unfoldable pub readOf : List ℕ → ReadImage
 readOf xs =
     cond (sized xs) (cond (keepsRules (fields xs)) (read.Good (fields xs)) (read.Refused BadImage)) (read.Refused BadSize)
 
--- 7 where the size is wrong; else 8 where the fields break a rule; else done
-unfoldable pub wroteOf : Fields → List ℕ → WroteImage
-wroteOf f xs = cond (sized xs) (cond (keepsRules f) wrote.Done (wrote.Refused BadImage)) (wrote.Refused BadSize)
+-- what is written where fields are good: 7 where the size is wrong; else 8 where they are not; else done
+unfoldable pub wroteIf : (good : Bool) → List ℕ → WroteImage
+wroteIf good xs = cond (sized xs) (cond good wrote.Done (wrote.Refused BadImage)) (wrote.Refused BadSize)
 
 -- the lent bytes after: the image, or what they were where the call is refused
-unfoldable pub imageOver : Fields → List ℕ → List ℕ
-imageOver f xs = cond (sized xs && keepsRules f) (image f) xs
+unfoldable pub imageIf : (good : Bool) → Fields → List ℕ → List ℕ
+imageIf good f xs = cond (sized xs && good) (image f) xs
 
--- each number fits its width; those that are not named do by their types
-unfoldable pub fits : Fields → Bool
-fits f = zeroFrom 4 (f .edition) && zeroFrom 2 (f .mode) && zeroFrom 3 (f .phase) && zeroFrom 5 (f .fault) && zeroFrom 15 (f .zero15)
+-- writing wants the rules kept: 8 where the fields break one
+abbrev pub wroteOf : Fields → List ℕ → WroteImage
+wroteOf f xs = wroteIf (keepsRules f) xs
 
--- fields are put that may break a rule: 7 where the size is wrong; else 8 where a number does not fit its width; else done
-unfoldable pub imagePutOf : Fields → List ℕ → WroteImage
-imagePutOf f xs = cond (sized xs) (cond (fits f) wrote.Done (wrote.Refused BadImage)) (wrote.Refused BadSize)
-
--- the lent bytes after: the image, or what they were where the call is refused
-unfoldable pub imagePut : Fields → List ℕ → List ℕ
-imagePut f xs = cond (sized xs && fits f) (image f) xs
+abbrev pub imageOver : Fields → List ℕ → List ℕ
+imageOver f xs = imageIf (keepsRules f) f xs
 
 -- the paper's number of each answer
 abbrev pub imageReadNumber : ReadImage → ℕ
@@ -65,23 +60,19 @@ pub record ImageWasRead (xs : List ℕ) (r : ReadImage) : Type 0 where
   pub answer : r ≡ readOf xs
   pub number : imageReadNumber r ≡ imageNumber (sized xs) (keepsRules (fields xs))
 
--- write
-pub record Wrote (f : Fields) (xs : List ℕ) (r : WroteImage) (xs' : List ℕ) : Type 0 where
-  pub answer : r ≡ wroteOf f xs
-  pub number : imageWroteNumber r ≡ imageNumber (sized xs) (keepsRules f)
-  pub lent : xs' ≡ imageOver f xs
+-- written where fields are good
+pub record WroteIf (good : Bool) (f : Fields) (xs : List ℕ) (r : WroteImage) (xs' : List ℕ) : Type 0 where
+  pub answer : r ≡ wroteIf good xs
+  pub number : imageWroteNumber r ≡ imageNumber (sized xs) good
+  pub lent : xs' ≡ imageIf good f xs
 
--- put
-pub record ImageWasPut (f : Fields) (xs : List ℕ) (r : WroteImage) (xs' : List ℕ) : Type 0 where
-  pub answer : r ≡ imagePutOf f xs
-  pub number : imageWroteNumber r ≡ imageNumber (sized xs) (fits f)
-  pub lent : xs' ≡ imagePut f xs
+-- write
+abbrev pub Wrote : Fields → List ℕ → WroteImage → List ℕ → Type 0
+Wrote f xs r xs' = WroteIf (keepsRules f) f xs r xs'
 
 pub image-read-unique : {xs : List ℕ} {r s : ReadImage} → ImageWasRead xs r → ImageWasRead xs s → r ≡ s
 image-read-unique p q = p .answer ∙ sym (q .answer)
 
-pub wrote-unique : {f : Fields} {xs ys zs : List ℕ} {r s : WroteImage} → Wrote f xs r ys → Wrote f xs s zs → (r ≡ s) × (ys ≡ zs)
+pub wrote-unique : {good : Bool} {f : Fields} {xs ys zs : List ℕ} {r s : WroteImage}
+    → WroteIf good f xs r ys → WroteIf good f xs s zs → (r ≡ s) × (ys ≡ zs)
 wrote-unique p q = (p .answer ∙ sym (q .answer), p .lent ∙ sym (q .lent))
-
-pub image-put-unique : {f : Fields} {xs ys zs : List ℕ} {r s : WroteImage} → ImageWasPut f xs r ys → ImageWasPut f xs s zs → (r ≡ s) × (ys ≡ zs)
-image-put-unique p q = (p .answer ∙ sym (q .answer), p .lent ∙ sym (q .lent))

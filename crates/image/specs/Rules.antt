@@ -1,87 +1,22 @@
 -- The paper's "Image rules": a test for each field, in layout order. A rule over several fields stands at the last of them,
--- one that makes several zero at each of them.
+-- one that makes several zero at each of them. The rules are a list of parts, as the table is.
 -- Assumes nothing.
-use Prim.Native.Nat.{ℕ, suc, _%_, _^_}
-use mathlib.Core.Bool.{Bool, true, false, not, cond, _&&_, _||_, Bool·beq}
+use Prim.Native.Nat.{ℕ, suc}
+use mathlib.Core.Bool.{Bool, true, false, not, cond, _&&_, _||_}
 use mathlib.Core.List.{List, [], _∷_}
 use lib.Dec.{eqb, leb, ltb}
-use Rattle.bus.specs.Window.{keepsLimits, inWindow}
+use Rattle.bus.specs.Window.{keepsLimits, checkedOf}
 use Rattle.descriptor.specs.Layout.{owned}
-use Rattle.regs.specs.Status.{statusOf}
-use Rattle.regs.specs.Control as register
 use Rattle.image.specs.declared.Fields.{Fields}
-
--- ---- tests put together
-
-infix 25 _⇒_
-infix 25 _exactly_
-infix 25 _outside_
--- a where b
-abbrev pub _⇒_ : Bool → Bool → Bool
-b ⇒ a = not b || a
-
--- a where b, and nowhere else
-abbrev pub _exactly_ : Bool → Bool → Bool
-a exactly b = Bool·beq a b
-
--- a where not b
-abbrev pub _outside_ : Bool → Bool → Bool
-a outside b = b || a
-
--- n is a or b
-abbrev pub either : (a b n : ℕ) → Bool
-either a b n = eqb n a || eqb n b
-
--- n is at least a and at most b
-abbrev pub between : (a b n : ℕ) → Bool
-between a b n = leb a n && leb n b
-
--- the bits of x from i on are zero
-abbrev pub zeroFrom : (i x : ℕ) → Bool
-zeroFrom i x = ltb x (2 ^ i)
-
--- ---- phases, and bits of the registers
-
-abbrev pub inMove : ℕ → Bool
-inMove phase = eqb phase 2
-
-abbrev pub inWriteBack : ℕ → Bool
-inWriteBack phase = eqb phase 3
-
-abbrev pub inEnded : ℕ → Bool
-inEnded phase = eqb phase 4
-
-abbrev pub inHalted : ℕ → Bool
-inHalted phase = eqb phase 5
-
-abbrev pub inFaulted : ℕ → Bool
-inFaulted phase = eqb phase 6
-
--- Move and WriteBack, where a descriptor is in hand
-abbrev pub working : ℕ → Bool
-working phase = inMove phase || inWriteBack phase
-
--- bits of the registers, of their numbers
-abbrev pub error : ℕ → Bool
-error status = statusOf status .error
-
-abbrev pub eopEncountered : ℕ → Bool
-eopEncountered status = statusOf status .eop
-
-abbrev pub busy : ℕ → Bool
-busy status = statusOf status .busy
-
-abbrev pub run : ℕ → Bool
-run control = register.run (register.asControl control)
-
-abbrev pub swReset : ℕ → Bool
-swReset control = register.swReset (register.asControl control)
+use Rattle.image.specs.Lines.{firstParts}
+use Rattle.image.specs.Layout.{latest}
+pub use Rattle.image.specs.Tests.{_⇒_, _exactly_, _outside_, either, between, zeroFrom, standsIn, inMove, inWriteBack, inEnded, inHalted, inFaulted, working, zeroOutside, error, eopEncountered, busy, run, swReset}
 
 -- ---- the rules
 
--- edition 1
-abbrev pub editionKept : ℕ → Bool
-editionKept edition = eqb edition 1
+-- the edition is the one that is read
+abbrev pub editionKept : (read edition : ℕ) → Bool
+editionKept read edition = eqb edition read
 
 -- mode at most 2
 abbrev pub modeKept : ℕ → Bool
@@ -114,14 +49,10 @@ abbrev pub controlKept : (phase : ℕ) (armed : Bool) (control : ℕ) → Bool
 controlKept phase armed control =
     zeroFrom 18 control && (swReset control exactly armed) && (inEnded phase || inHalted phase ⇒ run control)
 
--- zero outside Move and WriteBack
-abbrev pub zeroOutside : (hand : Bool) → ℕ → Bool
-zeroOutside hand x = eqb x 0 outside hand
-
--- zero outside; there: address aligned and in the window, with all 32 bytes
+-- zero outside; there: address aligned and in the window, with all 32 bytes, as the one look at a descriptor's address finds it
 abbrev pub addressKept : (hand : Bool) (base window address : ℕ) → Bool
 addressKept hand base window address =
-    zeroOutside hand address && (hand ⇒ eqb (address % 4) 0 && inWindow (record { base = base; length = window }) address 32)
+    zeroOutside hand address && (hand ⇒ standsIn (checkedOf base window) address)
 
 -- zero outside; there, in modes 0 and 1, length not 0
 abbrev pub sizeKept : (mode : ℕ) (hand : Bool) (size : ℕ) → Bool
@@ -149,10 +80,10 @@ abbrev pub eopKept : (mode phase L moved : ℕ) (eop : Bool) → Bool
 eopKept mode phase L moved eop =
     (not eop outside working phase) && (either 0 1 mode ⇒ not eop) && (inMove phase ⇒ not eop) && (inWriteBack phase ⇒ eqb moved L || eop)
 
--- the table
-unfoldable pub rules : Fields → List Bool
-rules f =
-    editionKept (f .edition) ∷  --  1 edition
+-- the first part, of the fields that the table's first part has; the edition is the one that is read
+abbrev pub coreRules : (edition : ℕ) → Fields → List Bool
+coreRules edition f =
+    editionKept edition (f .edition) ∷  --  1 edition
     modeKept (f .mode) ∷  --  2 mode
     phaseKept (f .mode) (f .phase) ∷  --  3 phase
     true ∷  --  4 armed
@@ -175,6 +106,18 @@ rules f =
     eqb (f .zero15) 0 ∷  -- 21 zero: zero bits are zero
     (eqb (f .faultat) 0 outside inFaulted (f .phase)) ∷  -- 22 fault address: 0 outside Faulted
     []
+
+-- a part for each part of the table
+abbrev pub ruleParts : (edition : ℕ) → Fields → List (List Bool)
+ruleParts edition f = coreRules edition f ∷ []
+
+-- the rules of an edition
+abbrev pub rulesOf : (edition : ℕ) → Fields → List Bool
+rulesOf edition f = firstParts edition (ruleParts edition f)
+
+-- those of the latest
+unfoldable pub rules : Fields → List Bool
+rules f = rulesOf latest f
 
 -- the place, counted from k, of the first test that fails, or 0
 abbrev pub firstFalse : (k : ℕ) → List Bool → ℕ

@@ -1,5 +1,5 @@
 // The saved image of a machine: 44 bytes, its fields as numbers, and the rule that each field keeps.
-ghost use mathlib.Core.Bool.{true};
+ghost use mathlib.Core.Bool.{true, false};
 ghost use mathlib.Core.Path.{_≡_};
 ghost use mathlib.Core.List.{[], _∷_};
 ghost use lib.ListN.{length};
@@ -8,17 +8,20 @@ ghost use Rattle.words.specs.Promise.{Gives, Leaves};
 ghost use Rattle.words.specs.Slices.{numberAt};
 ghost use Rattle.words.specs.declared.Order.the-variants.{MostFirst};
 ghost use Rattle.bus.specs.Window.{keepsLimits};
+ghost use Rattle.descriptor.specs.Looking.{spotOf, stands};
 ghost use Rattle.image.specs.Layout.{values, widths, image, fields};
-ghost use Rattle.image.specs.InGroups.{coreKept, handKept, nothingKept};
-ghost use Rattle.image.specs.InWords.{headWidths, sizesWidths, doneWidths, ofWords};
-ghost use Rattle.image.specs.Rules.{zeroOutside, phaseKept, faultKept, statusKept, controlKept, addressKept, sizeKept, dcontrolKept, errorsKept, asked, movedKept, eopKept, rules, firstFalse, lowestBroken, keepsRules};
-ghost use Rattle.image.specs.Promise.{fits, ImageWasRead, Wrote, ImageWasPut};
+ghost use Rattle.image.specs.Helpers.ByPhase.{keptAt, always, byPhase};
+ghost use Rattle.image.specs.Helpers.InWords.{headWidths, sizesWidths, doneWidths, ofWords};
+ghost use Rattle.image.specs.Rules.{working, zeroOutside, phaseKept, faultKept, statusKept, controlKept, addressKept, sizeKept, dcontrolKept, errorsKept, asked, movedKept, eopKept, rules, firstFalse, lowestBroken, keepsRules};
+ghost use Rattle.image.specs.Helpers.WasPut.{fits, ImageWasPut};
+ghost use Rattle.image.specs.Promise.{ImageWasRead, Wrote};
 use bus::BusAddress;
 use bus::CheckedWindow;
 use bus::Refusal;
 use bus::Window;
-use bus::lies_in;
 use descriptor::DescControl;
+use descriptor::Spot;
+use descriptor::spot_of;
 use regs::Control;
 use regs::Status;
 use words::Order;
@@ -62,6 +65,9 @@ pub enum WroteImage {
     Done,
     Refused(Refusal),
 }
+
+// The edition that is read and written.
+const EDITION: u8 = 1;
 
 // The phases that the rules speak of.
 const FETCH: u8 = 1;
@@ -128,14 +134,27 @@ fn limits_kept(base: u32, window: u32) -> bool
     }
 }
 
+// Whether the one look at a descriptor's address finds its 32 bytes.
+fn stands_at(place: Window, address: u32) -> bool
+    ensures { λ r. ⌜ r ≡ stands (spotOf place address) ⌝ }
+{
+    match spot_of(place, BusAddress(address as u64)) {
+        Spot::Misaligned => false,
+        Spot::Outside => false,
+        Spot::At(_) => true,
+    }
+}
+
 fn address_kept(hand: bool, base: u32, window: u32, address: u32) -> bool
     ensures { λ r. ⌜ r ≡ addressKept hand base window address ⌝ }
 {
     if !hand {
         return address == 0;
     }
-    let inside = lies_in(base, window, BusAddress(address as u64), 32);
-    (address % 4 == 0) & inside
+    match Window::checked(base as u64, window as u64) {
+        CheckedWindow::Good(place) => stands_at(place, address),
+        CheckedWindow::Refused(_) => false,
+    }
 }
 
 fn zero_outside(hand: bool, x: u32) -> bool
@@ -202,7 +221,7 @@ fn kept(f: Fields) -> [bool; 22]
     let hand = (f.phase == MOVE) | (f.phase == WRITE_BACK);
     let whole = whole(f.mode, f.size);
     [
-        f.edition == 1,
+        f.edition == EDITION,
         f.mode <= 2,
         phase_kept(f.mode, f.phase),
         true, // armed
@@ -248,39 +267,44 @@ pub fn broken(f: Fields) -> u32
     first_false(kept(f))
 }
 
-// The same rules in two groups, for `keeps`, which asks whether each is kept and not which is not: it looks at the phase once.
-// Those of every phase.
-fn core_kept(f: Fields) -> bool
-    ensures { λ r. ⌜ r ≡ coreKept f ⌝ }
+// The same rules for `keeps`, which every call that is given an image or a machine asks: whether each is kept, and not which is not. It
+// looks at the phase once; in a function to which a phase is given as a constant, what the other phases ask falls away.
+
+// Those that do not look at the phase.
+fn always_kept(f: Fields) -> bool
+    ensures { λ r. ⌜ r ≡ keptAt always f ⌝ }
 {
-    (f.edition == 1)
+    (f.edition == EDITION)
         & (f.mode <= 2)
-        & phase_kept(f.mode, f.phase)
-        & fault_kept(f.mode, f.phase, f.fault)
-        & status_kept(f.mode, f.phase, f.status)
         & (f.count <= 254)
-        & control_kept(f.phase, f.armed, f.control)
         & limits_kept(f.base, f.window)
         & (f.zero15 == 0)
-        & ((f.phase == FAULTED) | (f.faultat == 0))
 }
 
-// Those of the descriptor in hand.
-fn work_kept(f: Fields) -> bool
-    ensures { λ r. ⌜ r ≡ handKept true f ⌝ }
+// Those that do, where a descriptor is in hand: its source and destination are free.
+fn hand_kept(phase: u8, f: Fields) -> bool
+    requires { ⌜ f .phase ≡ phase ⌝ }
+    requires { ⌜ working phase ≡ true ⌝ }
+    ensures { λ r. ⌜ r ≡ keptAt byPhase f ⌝ }
 {
     let whole = whole(f.mode, f.size);
     address_kept(true, f.base, f.window, f.address)
         & size_kept(f.mode, true, f.size)
         & dcontrol_kept(true, f.dcontrol)
         & errors_kept(f.mode, true, f.errors)
-        & moved_kept(f.phase, whole, f.errors, f.moved)
-        & eop_kept(f.mode, f.phase, whole, f.moved, f.eop)
+        & moved_kept(phase, whole, f.errors, f.moved)
+        & eop_kept(f.mode, phase, whole, f.moved, f.eop)
+        & phase_kept(f.mode, phase)
+        & fault_kept(f.mode, phase, f.fault)
+        & status_kept(f.mode, phase, f.status)
+        & control_kept(phase, f.armed, f.control)
+        & ((phase == FAULTED) | (f.faultat == 0))
 }
 
-// Where none is in hand, all of it is zero.
-fn nothing_kept(f: Fields) -> bool
-    ensures { λ r. ⌜ r ≡ nothingKept f ⌝ }
+// Those that do, where none is in hand: all of it is zero.
+fn idle_kept(f: Fields) -> bool
+    requires { ⌜ working (f .phase) ≡ false ⌝ }
+    ensures { λ r. ⌜ r ≡ keptAt byPhase f ⌝ }
 {
     (f.source == 0)
         & (f.destination == 0)
@@ -290,20 +314,27 @@ fn nothing_kept(f: Fields) -> bool
         & (f.errors == 0)
         & (f.moved == 0)
         & !f.eop
+        & phase_kept(f.mode, f.phase)
+        & fault_kept(f.mode, f.phase, f.fault)
+        & status_kept(f.mode, f.phase, f.status)
+        & control_kept(f.phase, f.armed, f.control)
+        & ((f.phase == FAULTED) | (f.faultat == 0))
 }
 
 // Whether the fields keep the rules.
 pub fn keeps(f: Fields) -> bool
     ensures { λ r. ⌜ Gives (keepsRules f) r ⌝ }
 {
-    let hand = (f.phase == MOVE) | (f.phase == WRITE_BACK);
-    if !core_kept(f) {
+    if !always_kept(f) {
         return false;
     }
-    if hand {
-        return work_kept(f);
+    if f.phase == MOVE {
+        return hand_kept(MOVE, f);
     }
-    nothing_kept(f)
+    if f.phase == WRITE_BACK {
+        return hand_kept(WRITE_BACK, f);
+    }
+    idle_kept(f)
 }
 
 // The first word's fields side by side, in order.

@@ -7,7 +7,8 @@ use mathlib.Core.Path.{_≡_, refl}
 use mathlib.Core.Bool.{Bool, true, false}
 use mathlib.Core.List.{List, [], _∷_, map}
 use lib.ListN.{getD, set}
-use Rattle.bus.specs.Window.{keepsLimits, inWindow}
+use Rattle.bus.specs.Window.{keepsLimits, checkedOf, inWindow, locatedOf}
+use Rattle.descriptor.specs.Looking.{spotOf}
 use Rattle.image.specs.declared.Fields.{Fields}
 use Rattle.image.specs.declared.ReadImage.{ReadImage}
 use Rattle.image.specs.declared.ReadImage.the-variants.{Good}
@@ -229,7 +230,7 @@ abbrev pub RowsHold : Type 0
 RowsHold = map found rows ≡ map wanted rows
 
 pub rows-hold : RowsHold
-unfolding image fields rules lowestBroken keepsRules readOf keepsLimits inWindow
+unfolding image fields rules lowestBroken keepsRules readOf keepsLimits checkedOf inWindow locatedOf spotOf
 rows-hold = refl
 
 -- ---- one image byte by byte, written out by hand from the layout
@@ -272,5 +273,5 @@ unfolding image
 sample-written = refl
 
 pub sample-read : SampleRead
-unfolding fields rules lowestBroken keepsRules readOf keepsLimits inWindow
+unfolding fields rules lowestBroken keepsRules readOf keepsLimits checkedOf inWindow locatedOf spotOf
 sample-read = refl

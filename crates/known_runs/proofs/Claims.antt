@@ -2,7 +2,7 @@
 -- Assumes nothing.
 use mathlib.Core.Path.{refl}
 use Rattle.words.specs.Slices.{putAt}
-use Rattle.bus.specs.Window.{keepsLimits, inWindow, locatedOf}
+use Rattle.bus.specs.Window.{keepsLimits, checkedOf, inWindow, locatedOf}
 use Rattle.descriptor.specs.Layout.{descriptorAt}
 use Rattle.descriptor.specs.Looking.{spotOf, namedIn, rawAt, lookAt}
 use Rattle.regs.specs.Control.{counted}
@@ -14,10 +14,10 @@ use Rattle.known_runs.specs.Theorems.{KnownRunsHold, WorkedCasesHold}
 
 -- the paper's eleven known runs
 pub known-runs-hold : KnownRunsHold
-unfolding rules lowestBroken keepsRules keepsLimits inWindow locatedOf putAt descriptorAt spotOf namedIn rawAt lookAt controlWritten writeOf restStep fetched fetchStep sourceOf destinationOf onward copyStep beatFor sendStep writtenControl writtenBack counted completed writeBackStep step run
+unfolding rules lowestBroken keepsRules keepsLimits checkedOf inWindow locatedOf putAt descriptorAt spotOf namedIn rawAt lookAt controlWritten writeOf restStep fetched fetchStep sourceOf destinationOf onward copyStep beatFor sendStep writtenControl writtenBack counted completed writeBackStep step run
 known-runs-hold = refl
 
 -- the cases worked out by hand
 pub worked-cases-hold : WorkedCasesHold
-unfolding rules lowestBroken keepsRules keepsLimits inWindow locatedOf putAt descriptorAt spotOf namedIn rawAt lookAt controlWritten writeOf restStep fetched fetchStep sourceOf destinationOf onward copyStep beatFor sendStep writtenControl writtenBack counted completed writeBackStep step run
+unfolding rules lowestBroken keepsRules keepsLimits checkedOf inWindow locatedOf putAt descriptorAt spotOf namedIn rawAt lookAt controlWritten writeOf restStep fetched fetchStep sourceOf destinationOf onward copyStep beatFor sendStep writtenControl writtenBack counted completed writeBackStep step run
 worked-cases-hold = refl

@@ -15,8 +15,9 @@ use Rattle.image.specs.declared.ReadImage.{ReadImage}
 use Rattle.image.specs.declared.ReadImage.the-variants as read
 use Rattle.image.specs.declared.WroteImage.{WroteImage}
 use Rattle.image.specs.declared.WroteImage.the-variants as wrote
-use Rattle.image.specs.Promise.{Wrote, readOf, wroteOf, imageOver, imagePut, imageReadNumber, imageWroteNumber}
-use Rattle.image.specs.Promise as image
+use Rattle.image.specs.Rules.{keepsRules}
+use Rattle.image.specs.Promise.{WroteIf, Wrote, readOf, wroteIf, imageIf, imageReadNumber, imageWroteNumber}
+use Rattle.image.specs.Helpers.WasPut.{fits, ImageWasPut}
 use Rattle.machine.specs.declared.Machine.{Machine}
 use Rattle.machine.specs.declared.LoadedMachine.{LoadedMachine}
 use Rattle.machine.specs.declared.SavedMachine.{SavedMachine}
@@ -49,26 +50,25 @@ saved-number : (a : WroteImage) → saveNumber (savedAs a) ≡ imageWroteNumber 
 saved-number wrote.Done = refl
 saved-number (wrote.Refused why) = refl
 
+-- an image written of fields, whichever test of them the call makes
+as-wrote : {f g : Fields} {xs ys : List ℕ} {w : WroteImage} {r : SavedMachine} (good : Fields → Bool) → f ≡ g
+    → WroteIf (good f) f xs w ys → r ≡ savedAs w
+    → (r ≡ savedAs (wroteIf (good g) xs)) × (saveNumber r ≡ imageWroteNumber (wroteIf (good g) xs)) × (ys ≡ imageIf (good g) g xs)
+as-wrote {xs = xs} {w = w} good e p q =
+    let is = p .answer ∙ ap (λ (h : Fields). wroteIf (good h) xs) e in (
+      q ∙ ap savedAs is,
+      ap saveNumber q ∙ saved-number w ∙ ap imageWroteNumber is,
+      p .lent ∙ ap (λ (h : Fields). imageIf (good h) h xs) e,
+    )
+
 module _ {m : Machine} {xs ys : List ℕ} {f : Fields} {w : WroteImage} {r : SavedMachine} (e : f ≡ fieldsOf m) where
   pub was-saved : Wrote f xs w ys → r ≡ savedAs w → WasSaved m xs r ys
   unfolding saveOf
-  was-saved p q =
-      let is : w ≡ wroteOf (fieldsOf m) xs = p .answer ∙ ap (λ (g : Fields). wroteOf g xs) e in
-      record {
-        answer = q ∙ ap savedAs is;
-        number = ap saveNumber q ∙ saved-number w ∙ ap imageWroteNumber is;
-        lent = p .lent ∙ ap (λ (g : Fields). imageOver g xs) e;
-      }
+  was-saved p q = let s = as-wrote keepsRules e p q in record { answer = s .0; number = s .1; lent = s .2 }
 
-  pub was-put : image.ImageWasPut f xs w ys → r ≡ savedAs w → MachineWasPut m xs r ys
+  pub was-put : ImageWasPut f xs w ys → r ≡ savedAs w → MachineWasPut m xs r ys
   unfolding putOf
-  was-put p q =
-      let is : w ≡ image.imagePutOf (fieldsOf m) xs = p .answer ∙ ap (λ (g : Fields). image.imagePutOf g xs) e in
-      record {
-        answer = q ∙ ap savedAs is;
-        number = ap saveNumber q ∙ saved-number w ∙ ap imageWroteNumber is;
-        lent = p .lent ∙ ap (λ (g : Fields). imagePut g xs) e;
-      }
+  was-put p q = let s = as-wrote fits e p q in record { answer = s .0; number = s .1; lent = s .2 }
 
 -- ---- the registers and the line
 

@@ -7,6 +7,7 @@ use native.Mathlib.Omega.{arith}
 use lib.Dec.{eqb}
 use borrow.Author.Tests.{eq-eqb, ne-eqb, lt-ltb, le-leb, eqb-true, not-true, not-false}
 use Rattle.bus.specs.declared.Window.{Window}
+use Rattle.bus.specs.Window.{keepsLimits}
 use Rattle.regs.specs.declared.Mode.{Mode}
 use Rattle.regs.specs.declared.Mode.the-variants.{MemoryToMemory, MemoryToStream, StreamToMemory}
 use Rattle.regs.specs.declared.Status.{Status}
@@ -18,6 +19,7 @@ use Rattle.image.specs.Rules.{_⇒_, _exactly_, between, either, lowestBroken}
 use Rattle.image.specs.Layout.{Typed}
 use Rattle.image.proofs.Tests.{both}
 use Rattle.image.proofs.EachRule.{Each, each-rule, each-keeps}
+use Rattle.image.proofs.Windows.{stands-in}
 use Rattle.image.proofs.Facts as fact
 use Rattle.image.proofs.Answers.{keeps, kept-none}
 use Rattle.machine.specs.declared.Machine.{Machine}
@@ -98,13 +100,13 @@ module _ (mode : Mode) (w : Window) (n : ℕ) where
         eop = rw (a, b, or-true (not (either 0 1 (modeNumber mode))));
       }
 
-  in-hand : (k : Work) → rule.working n ≡ true → Hand mode w k
+  in-hand : (k : Work) → keepsLimits (w .base) (w .length) ≡ true → rule.working n ≡ true → Hand mode w k
       → rule.movedKept n (rule.asked (modeNumber mode) (k .length)) (k .errors) (k .moved) ≡ true
       → rule.eopKept (modeNumber mode) n (rule.asked (modeNumber mode) (k .length)) (k .moved) (k .eop) ≡ true
       → HandRules mode w n k
-  in-hand k h d moved eop =
+  in-hand k limits h d moved eop =
       record {
-        address = rw h (both (eq-eqb _ _ (d .aligned)) (d .inside));
+        address = rw h (stands-in (w .base) (w .length) (k .at) limits ∙ both (eq-eqb _ _ (d .aligned)) (d .inside));
         source = rw h;
         destination = rw h;
         size = rw (h, reads mode) (if-so _ _ (λ r. ap not (ne-eqb _ _ (d .nonzero r))));
@@ -169,10 +171,10 @@ each-in m Rest k h = each-at m Rest k refl refl h refl (no-hand (m .mode) (m .wi
 each-in m Fetch k h = each-at m Fetch k refl refl h refl (no-hand (m .mode) (m .window) 1 refl refl) refl
 each-in m (Move w) k (b, h, g) =
     let r = move-rule (m .mode) (m .window) w h g in
-    each-at m (Move w) k refl refl b refl (in-hand (m .mode) (m .window) 2 w refl h (r .0) (r .1)) refl
+    each-at m (Move w) k refl refl b refl (in-hand (m .mode) (m .window) 2 w (k .limits) refl h (r .0) (r .1)) refl
 each-in m (WriteBack w) k (b, h, g) =
     let r = back-rule (m .mode) (m .window) w h g in
-    each-at m (WriteBack w) k refl refl b refl (in-hand (m .mode) (m .window) 3 w refl h (r .0) (r .1)) refl
+    each-at m (WriteBack w) k refl refl b refl (in-hand (m .mode) (m .window) 3 w (k .limits) refl h (r .0) (r .1)) refl
 each-in m Ended k (b, r) = each-at m Ended k refl refl b r (no-hand (m .mode) (m .window) 4 refl refl) refl
 each-in m Halted k (b, r, s) =
     each-at m Halted k (streams (m .mode) ∙ ap not s) refl b r (no-hand (m .mode) (m .window) 5 refl refl) refl

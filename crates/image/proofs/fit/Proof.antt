@@ -1,4 +1,4 @@
-use Rattle.image.specs.Promise.{fits}
+use Rattle.image.specs.Helpers.WasPut.{fits}
 use mathlib.Core.Path.{refl}
 use Rattle.image.proofs.fit.Statement.{statement}
 use Rattle.image.proofs.fit.Tie as tie

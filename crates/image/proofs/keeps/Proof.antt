@@ -1,35 +1,49 @@
-use Rattle.image.proofs.Groups.{core-broken, in-hand, at-rest}
+use Rattle.image.proofs.ByPhase.{always-broken, phase-decides}
 use mathlib.Core.Path.{sym, _∙_}
-use borrow.Author.Tests.{not-true, not-false}
+use borrow.Author.Tests.{not-true, not-false, ne-eqb}
 use borrow.Author.Needs.{needs}
 use Rattle.image.proofs.keeps.Statement.{statement}
 use Rattle.image.proofs.keeps.Tie as tie
 
-core-kept-requires : tie.Need-core-kept-requires
-core-kept-requires c κs = search needs
+always-kept-requires : tie.Need-always-kept-requires
+always-kept-requires c κs = search needs
 
 returns : tie.Need-returns
-returns c = record { value = sym (core-broken _ (sym (c .before .core-kept .ensures) ∙ not-true _ (c .if1 .taken))) }
+returns c = record { value = sym (always-broken _ (sym (c .before .always-kept .ensures) ∙ not-true _ (c .if1 .taken))) }
 
-work-kept-requires : tie.Need-work-kept-requires
-work-kept-requires c κs = search needs
+hand-kept-requires : tie.Need-hand-kept-requires
+hand-kept-requires c κs = (c .if2 .taken, search needs)
 
 returns-2 : tie.Need-returns-2
-returns-2 c = record { value = c .work-kept .ensures ∙ sym (in-hand _ (sym (c .before .before .before .core-kept .ensures) ∙ not-false _ (c .before .before .if1 .left)) (c .before .if2 .taken)) }
+returns-2 c =
+    let kept = c .before .before .before in
+    record { value = c .hand-kept .ensures ∙ sym (phase-decides _ (sym (kept .before .always-kept .ensures) ∙ not-false _ (kept .if1 .left))) }
 
-nothing-kept-requires : tie.Need-nothing-kept-requires
-nothing-kept-requires c κs = search needs
+hand-kept-requires-2 : tie.Need-hand-kept-requires-2
+hand-kept-requires-2 c κs = (c .if3 .taken, search needs)
 
 returns-3 : tie.Need-returns-3
-returns-3 c = record { value = c .nothing-kept .ensures ∙ sym (at-rest _ (sym (c .before .before .before .core-kept .ensures) ∙ not-false _ (c .before .before .if1 .left)) (c .before .if2 .left)) }
+returns-3 c =
+    let kept = c .before .before .before .before .before in
+    record { value = c .hand-kept2 .ensures ∙ sym (phase-decides _ (sym (kept .before .always-kept .ensures) ∙ not-false _ (kept .if1 .left))) }
+
+idle-kept-requires : tie.Need-idle-kept-requires
+idle-kept-requires c κs = rw (ne-eqb _ _ (c .before .before .if2 .left), ne-eqb _ _ (c .if3 .left))
+
+returns-4 : tie.Need-returns-4
+returns-4 c =
+    let kept = c .before .before .before .before .before in
+    record { value = c .idle-kept .ensures ∙ sym (phase-decides _ (sym (kept .before .always-kept .ensures) ∙ not-false _ (kept .if1 .left))) }
 
 pub keeps-spec : {M : Type 1} → statement M
 keeps-spec =
     tie.close
     (tie.spec
-    core-kept-requires
+    always-kept-requires
     returns
-    work-kept-requires
+    hand-kept-requires
     returns-2
-    nothing-kept-requires
-    returns-3)
+    hand-kept-requires-2
+    returns-3
+    idle-kept-requires
+    returns-4)

@@ -1,6 +1,6 @@
 use Rattle.image.specs.Layout.{Typed}
 use Rattle.image.proofs.Fitting.{Stored, fits-fit}
-use Rattle.image.proofs.Answers.{put-size, put-wide, put-done}
+use Rattle.image.proofs.Answers.{wrote-size, wrote-broken, wrote-done}
 use mathlib.Core.Path.{sym, _∙_}
 use borrow.Author.Needs.{needs}
 use Rattle.image.proofs.put.Statement.{statement}
@@ -26,13 +26,13 @@ same-length c = search needs
 returns : tie.Need-returns
 returns c =
     let tested = c .before .before .before .before in
-    put-done _ _ (tested .before .before .if1 .taken) (sym (tested .before .fit .ensures) ∙ tested .if2 .taken) _ (c .before .before .pack .ensures .lent)
+    wrote-done _ _ (tested .before .before .if1 .taken) (sym (tested .before .fit .ensures) ∙ tested .if2 .taken) _ (c .before .before .pack .ensures .lent)
 
 returns-2 : tie.Need-returns-2
-returns-2 c = put-wide _ _ (c .before .before .if1 .taken) (sym (c .before .fit .ensures) ∙ c .if2 .left)
+returns-2 c = wrote-broken _ _ (c .before .before .if1 .taken) (sym (c .before .fit .ensures) ∙ c .if2 .left)
 
 returns-3 : tie.Need-returns-3
-returns-3 c = put-size _ _ (c .if1 .left)
+returns-3 c = wrote-size _ _ (c .if1 .left)
 
 pub put-spec : {M : Type 1} → statement M
 put-spec = tie.close (tie.spec fit-requires pack-requires same-length returns returns-2 returns-3)

@@ -3,7 +3,8 @@
 use Prim.Native.Nat.{ℕ}
 use mathlib.Core.Path.{_≡_, sym, _∙_}
 use mathlib.Core.List.{List}
-use Rattle.image.specs.Promise.{imagePutOf, imagePut, imageWroteNumber}
+use Rattle.image.specs.Promise.{imageWroteNumber}
+use Rattle.image.specs.Helpers.WasPut.{imagePutOf, imagePut}
 use Rattle.machine.specs.declared.Machine.{Machine}
 use Rattle.machine.specs.declared.SavedMachine.{SavedMachine}
 use Rattle.machine.specs.Saved.{fieldsOf, savedAs, saveNumber}

@@ -1,5 +1,5 @@
 use Rattle.machine.specs.Saved.{fieldsOf}
-use Rattle.image.proofs.Answers.{kept-none, keeps-fits, put-fits}
+use Rattle.image.proofs.Answers.{kept-none, keeps-fits, image-good}
 use mathlib.Core.Path.{_∙_}
 use borrow.Author.Needs.{needs}
 use Rattle.sgdma.proofs.put_image.Statement.{statement}
@@ -17,7 +17,7 @@ returns c =
     let f = fieldsOf (start .args .m) in
     record {
       lent = c .before .before .put .ensures .lent
-          ∙ put-fits f (start .args .image .now) (start .pre .1) (keeps-fits f (kept-none f (start .pre .0)));
+          ∙ image-good f (start .args .image .now) (start .pre .1) (keeps-fits f (kept-none f (start .pre .0)));
     }
 
 pub put-image-spec : {M : Type 1} → statement M
