@@ -13,7 +13,7 @@ use lib.Seq.{getD-set-same, getD-set-other, getD-drop}
 use borrow.Author.Tests.{ltb-true, ltb-false, eqb-false, ne-eqb}
 use Rattle.flow.specs.Beats.{beatEop, beatData, beatsIn}
 use Rattle.flow.specs.Rows.{landing, calm, gathered, spread}
-use Rattle.flow.specs.Blocks.{Quiet, Seen, Holds, Lays, Taken}
+use Rattle.flow.specs.Helpers.Blocks.{Quiet, Seen, Holds, Lays, Taken}
 use Rattle.flow.proofs.Ors.{or-even, even-or, pair-even, even-pair, or-errors}
 use Rattle.flow.proofs.Streams.{eop-from, data-from, error-from, there}
 use Rattle.flow.proofs.Longer.{quiet-more, quiet-join, gathered-join, gathered-next, calm-quiet, calm-stops}

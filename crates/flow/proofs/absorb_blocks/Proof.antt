@@ -8,7 +8,7 @@ use lib.ListN.{length, drop}
 use lib.Seq.{drop-drop}
 use borrow.Author.Needs.{needs}
 use Rattle.flow.specs.Beats.{beatsIn}
-use Rattle.flow.specs.Blocks.{Quiet, Seen, Holds, Onward}
+use Rattle.flow.specs.Helpers.Blocks.{Quiet, Seen, Holds, Onward}
 use Rattle.flow.proofs.Fitting.{fewer-fit}
 use Rattle.flow.proofs.InBlocks.{taken-more}
 use Rattle.flow.proofs.absorb_blocks.Statement.{statement}

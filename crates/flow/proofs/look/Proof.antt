@@ -6,7 +6,7 @@ use native.Mathlib.Omega.{arith}
 use lib.ListN.{length, drop, length-set}
 use borrow.Author.Needs.{needs}
 use Rattle.flow.specs.Beats.{beatsIn}
-use Rattle.flow.specs.Blocks.{Seen, Holds}
+use Rattle.flow.specs.Helpers.Blocks.{Seen, Holds}
 use Rattle.flow.proofs.InBlocks.{none-seen, seen-more, holds-more}
 use Rattle.flow.proofs.look.Statement.{statement}
 use Rattle.flow.proofs.look.Tie as tie
