@@ -247,13 +247,13 @@ fn kept(f: Fields) -> [bool; 22]
 }
 
 // The place of the first that is false, counted from 1, or 0.
-fn first_false(kept: [bool; 22]) -> u32
+fn first_false(kept: [bool; 22]) -> u8
     ensures { λ r. ⌜ r ≡ firstFalse 1 kept ⌝ }
 {
     let mut i: usize = 0;
     while i < 22 {
         if !kept[i] {
-            return i as u32 + 1;
+            return i as u8 + 1;
         }
         i += 1;
     }
@@ -261,7 +261,7 @@ fn first_false(kept: [bool; 22]) -> u32
 }
 
 // The lowest field that breaks a rule, counted from 1, or 0.
-pub fn broken(f: Fields) -> u32
+pub fn broken(f: Fields) -> u8
     ensures { λ r. ⌜ Gives (lowestBroken f) r ⌝ }
 {
     first_false(kept(f))
@@ -490,7 +490,7 @@ pub fn read(from: &[u8]) -> ReadImage
     }
     let f = unpack(from);
     if !keeps(f) {
-        return ReadImage::Refused(Refusal::BadImage);
+        return ReadImage::Refused(Refusal::BadImage(broken(f)));
     }
     ReadImage::Good(f)
 }
@@ -503,7 +503,7 @@ pub fn write(f: Fields, to: &mut [u8]) -> WroteImage
         return WroteImage::Refused(Refusal::BadSize);
     }
     if !keeps(f) {
-        return WroteImage::Refused(Refusal::BadImage);
+        return WroteImage::Refused(Refusal::BadImage(broken(f)));
     }
     pack(f, to);
     WroteImage::Done
@@ -526,7 +526,7 @@ pub fn put(f: Fields, to: &mut [u8]) -> WroteImage
             pack(f, to);
             WroteImage::Done
         } else {
-            WroteImage::Refused(Refusal::BadImage)
+            WroteImage::Refused(Refusal::BadImage(broken(f)))
         }
     } else {
         WroteImage::Refused(Refusal::BadSize)
