@@ -1,6 +1,6 @@
 -- Beats and bytes moved in a row, one after the other.
 -- Assumes nothing.
-use Prim.Native.Nat.{ℕ, zero, suc, _+_, _*_, _/_, _<_}
+use Prim.Native.Nat.{ℕ, zero, suc, _+_, _*_, _/_}
 use mathlib.Core.Path.{_≡_, sym, _∙_}
 use mathlib.Core.Bool.{Bool, false, cond, _&&_}
 use mathlib.Core.List.{List, [], _∷_, _++_}
@@ -28,10 +28,6 @@ abbrev pub calm : ℕ → List ℕ → ℕ
 calm zero bs = 0
 calm (suc n) [] = 0
 calm (suc n) (b ∷ bs) = cond (beatEop b) 0 (suc (calm n bs))
-
--- none of the first n has EOP; only the contracts of helpers speak of it
-abbrev pub Quiet : List ℕ → ℕ → Type 0
-Quiet bs n = (i : ℕ) → i < n → beatEop (getD bs i 0) ≡ false
 
 -- the errors of beats, gathered by OR
 abbrev pub gathered : ℕ → List ℕ → ℕ

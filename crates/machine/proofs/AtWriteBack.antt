@@ -1,46 +1,53 @@
--- WriteBack: a step that makes one record.
+-- WriteBack: a step that makes one record, and where the code puts it.
 -- Assumes nothing.
-use Prim.Native.Nat.{ℕ, zero, suc, _-_, _*_, _/_}
-use mathlib.Core.Path.{_≡_, refl, sym, ap, _∙_}
-use mathlib.Core.List.{List, [], _∷_, _++_, append-nil}
-use native.Mathlib.Nat.{add-zero}
+use Prim.Native.Nat.{ℕ, zero, suc, _+_, _-_, _*_, _/_, _≤_, _<_}
+use mathlib.Core.Path.{_≡_, sym, ap, _∙_}
+use mathlib.Core.Bool.{Bool, true, cond}
+use mathlib.Core.List.{List, [], _∷_, _++_}
 use native.Mathlib.Omega.{arith}
 use lib.ListN.{length}
+use borrow.Author.Tests.{lt-ltb}
+use Rattle.words.specs.Slices.{put}
+use Rattle.ledger.specs.declared.Entry.{Entry}
+use Rattle.ledger.specs.Records.{entryBytes, ledgerBytes, capacity, hasRoom, Appended}
+use Rattle.ledger.proofs.Rows.{capacity-le}
 use Rattle.machine.specs.declared.Machine.{Machine}
 use Rattle.machine.specs.declared.Work.{Work}
 use Rattle.machine.specs.declared.Phase.the-variants.{WriteBack}
 use Rattle.machine.specs.declared.steps.Wait.the-variants.{Go}
-use Rattle.machine.specs.Step.{World, taken, noted, entryFor, backTo, writeBackStep, step}
-use Rattle.machine.specs.Helpers.Worlds.{worldAt, midway, reachedAs}
+use Rattle.machine.specs.Step.{World, taken, stored, noted, entryFor, backTo, writeBackStep, step}
 use Rattle.machine.specs.Helpers.Waiting.{waitOf}
-use Rattle.machine.specs.Helpers.Turns.{logged, Backs, Turned}
-use Rattle.machine.proofs.Streams.{none-made}
+use Rattle.machine.specs.Helpers.Turns.{Backs}
 use Rattle.machine.proofs.Waiting.{at-phase, never-goes}
-use Rattle.machine.proofs.Logging.{log-back}
 
-module _ (m m' : Machine) (k : Work) (window window' beats : List ℕ) (took : ℕ) (out : List ℕ) (made : ℕ) (e : m .phase ≡ WriteBack k) where
-  is-back : (w : World) → step (midway w m window beats took out made) ≡ backTo (midway w m window beats took out made) k (w .left)
-  unfolding writeBackStep
-  is-back w = at-phase (midway w m window beats took out made) e
+is-back : (w : World) (k : Work) → w .machine .phase ≡ WriteBack k → step w ≡ backTo w k (w .left)
+unfolding writeBackStep
+is-back w k e = at-phase w e
 
-  back-by : Backs m k window m' window' → (w : World) (left : ℕ) → w .left ≡ left
-      → waitOf (backTo (midway w m window beats took out made) k left) ≡ Go
-      → backTo (midway w m window beats took out made) k left
-      ≡ taken (worldAt (logged m w) m' window' beats took (w .output ++ []) (length out / 2 - made))
-  back-by b w zero l g = absurd (never-goes g)
-  back-by b w (suc n) l g =
-      let one : n ≡ w .left - 1 = omega (arith, l) in
-      let same : noted w (w .records ++ entryFor m k ∷ []) n ≡ logged m w =
-      ap (λ (i : ℕ). noted w (w .records ++ entryFor m k ∷ []) i) one ∙ sym (log-back m k e w) in
-      b (midway w m window beats took out made) n
-      ∙ ap (λ (v : World). taken (worldAt v m' window' beats took (w .output) (length out / 2 - made))) same
-      ∙ ap (λ (o : List ℕ). taken (worldAt (logged m w) m' window' beats took o (length out / 2 - made))) (sym (append-nil (w .output)))
+module _ (w : World) (k : Work) {m' : Machine} {window' : List ℕ} (b : Backs (w .machine) k (w .memory) m' window') where
+  back-by : (left : ℕ) → waitOf (backTo w k left) ≡ Go
+      → (0 < left) × (backTo w k left ≡ taken (noted (stored w m' window') (w .records ++ entryFor (w .machine) k ∷ []) (left - 1)))
+  back-by zero can = absurd (never-goes can)
+  back-by (suc n) can =
+      let one : n ≡ suc n - 1 = omega arith in
+      (omega arith, b w n ∙ ap (λ (i : ℕ). taken (noted (stored w m' window') (w .records ++ entryFor (w .machine) k ∷ []) i)) one)
 
-  pub turned-back : Backs m k window m' window' → Turned step m window beats took out made (reachedAs m' took made) window' out
-  turned-back b =
-      record {
-        new = [];
-        counted = sym (add-zero made);
-        wrote = none-made out (2 * made);
-        goes = λ w can. is-back w ∙ back-by b w (w .left) refl (sym (ap waitOf (is-back w)) ∙ can);
-      }
+  -- where it can be taken there is room for its record
+  pub back-goes : w .machine .phase ≡ WriteBack k → waitOf (step w) ≡ Go
+      → (0 < w .left) × (step w ≡ taken (noted (stored w m' window') (w .records ++ entryFor (w .machine) k ∷ []) (w .left - 1)))
+  back-goes e can =
+      let by = back-by (w .left) (sym (ap waitOf (is-back w k e)) ∙ can) in
+      (by .0, is-back w k e ∙ by .1)
+
+-- there it is put behind those used
+pub appended-one : (ledger : List ℕ) (used : ℕ) {used' : ℕ} (e : Entry) {ledger' : List ℕ} → 0 < capacity (length ledger) - used
+    → Appended ledger used e used' ledger'
+    → (used' ≡ used + 1) × (ledger' ≡ put ledger (12 * used) (ledgerBytes (e ∷ []))) × (used' ≤ length ledger / 12)
+appended-one ledger used {used'} e h a =
+    let some : used < capacity (length ledger) = omega arith in
+    let room : hasRoom (length ledger) used ≡ true = lt-ltb used (capacity (length ledger)) some in
+    let more : used' ≡ used + 1 = a .used-after ∙ ap (λ (b : Bool). cond b (used + 1) used) room in (
+      more,
+      a .lent ∙ ap (λ (b : Bool). cond b (put ledger (12 * used) (entryBytes e)) ledger) room,
+      omega (arith, more, some, capacity-le (length ledger) .0),
+    )

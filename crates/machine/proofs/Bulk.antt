@@ -35,7 +35,7 @@ use Rattle.machine.specs.declared.runs.Advanced.{Advanced}
 use Rattle.machine.specs.Step.{World, taken, became, received, step, whole, sourceOf, destinationOf, onward, beatFor}
 use Rattle.machine.specs.Run.{lent, worldOf}
 use Rattle.machine.specs.Helpers.Worlds.{worldAt, midway, reachedAs, Within}
-use Rattle.machine.specs.Helpers.Turns.{steps, Went, Turned, Advances}
+use Rattle.machine.specs.Helpers.Turns.{steps, Went, Advances}
 use Rattle.machine.specs.Helpers.AtOnce.{movedBy, Moving, Bursts, Reaches, Unmarked}
 use Rattle.machine.proofs.Places.{inside, place, fits}
 use Rattle.machine.proofs.Streams.{none-made}
@@ -254,16 +254,10 @@ pub burst-told : (errors : ℕ) {mode : Mode} {m : Machine} {k : Work} {most n :
 burst-told errors {m = m} {window = window} {beats = beats} {took = took} {out = out} {made = made} {window' = window'} {out' = out'} {left = left} g b e l h =
     subst⁻¹ (λ (r : Advanced). (r .steps ≤ left) × Advances m window beats took out made r window' out') e (l, (h, b m g))
 
--- no step leads nowhere
-pub went-nowhere : (m : Machine) (window beats : List ℕ) (took : ℕ) (out : List ℕ) (made : ℕ)
-    → Went (λ (w : World). steps 0 w) m window beats took out made (reachedAs m took made) window out
-unfolding steps
-went-nowhere m window beats took out made = went-none (λ (w : World). steps 0 w) m m window window beats took out made took (λ w. refl)
-
 taken-same : (w v : World) → taken w ≡ taken v → w ≡ v
 taken-same w v e = cc
 
--- and leaves window and output as they were
+-- no step leaves window and output as they were
 module _ {m : Machine} {window beats : List ℕ} {took : ℕ} {out : List ℕ} {made n : ℕ} {r : Reached} {window' out' : List ℕ}
     (g : Went (λ (w : World). steps n w) m window beats took out made r window' out') (none : n ≡ 0) where
   -- whatever world stands around it
@@ -283,11 +277,11 @@ module _ {m : Machine} {window beats : List ℕ} {took : ℕ} {out : List ℕ} {
 
   -- so that one step after it is one step
   pub then-step : {s : Reached} {window'' out'' : List ℕ} → Within beats out' (s .taken) (s .made)
-      → Turned step m window' beats took out' made s window'' out''
-      → Within beats out (s .taken) (s .made) × Turned (λ (w : World). steps 1 w) m window beats took out made s window'' out''
+      → Went step m window' beats took out' made s window'' out''
+      → Within beats out (s .taken) (s .made) × Went (λ (w : World). steps 1 w) m window beats took out made s window'' out''
   unfolding steps
   then-step {s} {window''} {out''} h w =
       as-before (λ window' out'.
-      Within beats out' (s .taken) (s .made) → Turned step m window' beats took out' made s window'' out''
-      → Within beats out (s .taken) (s .made) × Turned (λ (w : World). steps 1 w) m window beats took out made s window'' out'')
-      (λ h t. (h, record { new = t .new; counted = t .counted; wrote = t .wrote; goes = λ w can. t .goes w can })) h w
+      Within beats out' (s .taken) (s .made) → Went step m window' beats took out' made s window'' out''
+      → Within beats out (s .taken) (s .made) × Went (λ (w : World). steps 1 w) m window beats took out made s window'' out'')
+      (λ h t. (h, record { new = t .new; counted = t .counted; wrote = t .wrote; goes = λ w. t .goes w })) h w

@@ -2,7 +2,6 @@ pub mod Writes
 pub mod Answers
 pub mod Places
 pub mod Streams
-pub mod Logging
 pub mod Turning
 pub mod AtFetch
 pub mod AtMove

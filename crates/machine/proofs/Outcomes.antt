@@ -1,10 +1,10 @@
 -- What a step and a run promise, from what the code found.
 -- Assumes nothing.
-use Prim.Native.Nat.{ℕ, _+_, _-_, _*_, _/_, _%_, _≤_}
+use Prim.Native.Nat.{ℕ, _-_, _*_, _/_, _%_, _≤_}
 use mathlib.Core.Path.{_≡_, refl, sym, ap, subst, subst⁻¹, _∙_}
 use mathlib.Core.Bool.{Bool, true, false, cond, _&&_}
-use mathlib.Core.List.{List, [], _++_}
-use native.Mathlib.Nat.{zero-add, sub-zero}
+use mathlib.Core.List.{List, _++_}
+use native.Mathlib.Nat.{zero-add}
 use native.Mathlib.Omega.{arith}
 use lib.Dec.{eqb}
 use lib.ListN.{length, drop, length-drop}
@@ -12,29 +12,23 @@ use borrow.Author.Tests.{eqb-true, leb-true}
 use Rattle.words.specs.Slices.{put}
 use Rattle.bus.specs.declared.Refusal.{Refusal}
 use Rattle.bus.specs.declared.Refusal.the-variants.{OddStream, BadLedger, OtherWindow}
-use Rattle.ledger.specs.Records.{capacity, isLedger}
+use Rattle.ledger.specs.Records.{isLedger}
 use Rattle.image.proofs.Tests.{and-right}
-use Rattle.machine.proofs.Streams.{none-made}
 use Rattle.flow.specs.Beats.{beatsIn, beatBytes}
 use Rattle.flow.proofs.Streams.{length-beats, length-beat-bytes}
 use Rattle.machine.specs.declared.Machine.{Machine}
-use Rattle.machine.specs.declared.steps.Reached.{Reached}
-use Rattle.machine.specs.declared.Reason.{Reason}
 use Rattle.machine.specs.declared.StepAnswer.{StepAnswer}
 use Rattle.machine.specs.declared.StepAnswer.the-variants as one
 use Rattle.machine.specs.declared.RunAnswer.{RunAnswer}
-use Rattle.machine.specs.declared.steps.Wait.the-variants.{Go, Stop}
+use Rattle.machine.specs.declared.RunAnswer.the-variants as many
 use Rattle.machine.specs.Saved.{keeps}
-use Rattle.machine.specs.Step.{World, Answer, taken, stopped, noted, step}
-use Rattle.machine.specs.Run.{Lent, Returned, back, asLent, Served, serves, refused, even, servedIf, servedOf, worldOf, outputOver, returned}
-use Rattle.machine.specs.Run.{steppedAs, worldAfter, stepAnswer, stepNumber, servedNumber, Stepped}
-use Rattle.machine.specs.Helpers.Worlds.{worldAt, midway, Within}
-use Rattle.machine.specs.Helpers.Waiting.{waitOf}
-use Rattle.machine.specs.Helpers.Turns.{Logs, Turned}
-use Rattle.machine.specs.Helpers.Resume.{RunsIf, readyOf, Ready}
+use Rattle.machine.specs.Step.{World, Answer, taken, stopped, step}
+use Rattle.machine.specs.Run.{oneMore, runOn, run, Lent, Returned, Served, serves, refused, even, servedIf, servedOf, worldOf, returned}
+use Rattle.machine.specs.Run.{steppedAs, worldAfter, stepAnswer, ranAs, runAnswer, stepNumber, servedNumber, Stepped, HasRun}
+use Rattle.machine.specs.Helpers.Resume.{RunsIf, readyOf, Ready, steppedIn}
 use Rattle.machine.specs.Theorems.{ResumedRuns}
 use Rattle.machine.proofs.Answers.{stepped-number}
-use Rattle.machine.proofs.Readiness.{keeps-ready, keeps-tested}
+use Rattle.machine.proofs.Readiness.{keeps-tested}
 
 -- ---- what is lent
 
@@ -61,11 +55,6 @@ good-ready good m l h e =
     let s = serves-good good m l e in
     subst⁻¹ (λ (n : ℕ). Ready m n) (s .1) (h (s .0))
 
--- as are those that keep the rules
-pub serves-ready : (m : Machine) (l : Lent) → servedOf m l ≡ serves → Ready m (length (l .window))
-unfolding servedOf
-serves-ready m l e = good-ready (keeps m) m l (λ k. keeps-ready m (m .window .length) k refl) e
-
 -- ---- where it stands
 
 -- the beats taken are those before the next
@@ -76,56 +65,50 @@ took-since beats took h = simp (length-drop, length-beats) (omega arith)
 pub over : (out new : List ℕ) → put out 0 (beatBytes new) ≡ beatBytes new ++ drop (2 * length new) out
 over out new = rw (zero-add, length-beat-bytes)
 
-pub wait-stopped : (a : Answer) {r : Reason} → waitOf a ≡ Stop r → a ≡ stopped r
-wait-stopped (taken v) e = absurd (let z : _≡_ {A = ℕ} 0 1 = cc in omega arith)
-wait-stopped (stopped q) e = cc
+-- ---- a step, which is a run of one
 
--- ---- a step
+abbrev pub asStep : RunAnswer → StepAnswer
+asStep (many.Done r) = steppedIn r
+asStep (many.Refused why) = one.Refused why
 
-module _ {m : Machine} {l : Lent} where
-  pub step-refused : {why : Refusal} → servedOf m l ≡ refused why → Stepped m l (one.Refused why) (asLent l)
-  step-refused e =
-      let w = worldOf m l in
-      record {
-        answer = sym (ap (λ (x : Served). stepAnswer l x w) e);
-        number = sym (ap servedNumber e);
-        back = sym (ap (λ (x : Served). returned l x (worldAfter w (step w))) e);
-      }
+ends-there : (v : World) (a : Answer) → runOn 0 v a .world ≡ v
+ends-there v (stopped r) = refl
+ends-there v (taken u) = refl
 
-  module _ (e : servedOf m l ≡ serves) where
-    -- the promise, where the step's answer is known
-    known : {r : StepAnswer} {b : Returned} (a : Answer) → step (worldOf m l) ≡ a → r ≡ steppedAs (l .used) (worldOf m l) a
-        → b ≡ returned l serves (worldAfter (worldOf m l) a) → Stepped m l r b
-    known a s p q =
-        let w = worldOf m l in
-        record {
-          answer = p ∙ sym (ap (λ (x : Served). stepAnswer l x w) e ∙ ap (λ (x : Answer). steppedAs (l .used) w x) s);
-          number = ap stepNumber p ∙ stepped-number (l .used) w a ∙ sym (ap servedNumber e);
-          back = q
-              ∙ sym (ap (λ (x : Served). returned l x (worldAfter w (step w))) e ∙ ap (λ (x : Answer). returned l serves (worldAfter w x)) s);
-        }
+one-after : (w : World) (a : Answer) → runOn 1 w a .world ≡ worldAfter w a
+one-after w (stopped r) = refl
+one-after w (taken v) = ends-there v (step v)
 
-    pub step-stopped : {r : Reason} → step (worldOf m l) ≡ stopped r → Stepped m l (one.Stopped r) (asLent l)
-    step-stopped s = known (stopped _) s refl (λ x. back (l .window) (l .out) (none-made (l .ledger) (12 * l .used) x))
+module _ (used : ℕ) (w : World) where
+  taken-one : (v : World) (a : Answer) → steppedIn (ranAs used w (oneMore (runOn 0 v a))) ≡ steppedAs used w (taken v)
+  taken-one v (stopped r) = refl
+  taken-one v (taken u) = refl
 
-    pub step-taken : {r : Reached} {used' : ℕ} {window' out' ledger' : List ℕ} → waitOf (step (worldOf m l)) ≡ Go
-        → Within (l .beats) (l .out) (r .taken) (r .made) → Logs m (l .ledger) (l .used) used' ledger'
-        → Turned step m (l .window) (l .beats) 0 (l .out) 0 r window' out'
-        → Stepped m l (one.Taken (record { machine = r .machine; taken = r .taken; made = r .made; used = used' })) (back window' out' ledger')
-    step-taken {r} {used'} {window'} {out'} can h k g =
-        let w = worldOf m l in
-        let whole = sub-zero (length (l .out) / 2) in
-        let here = midway w m (l .window) (l .beats) 0 (l .out) 0 in
-        let first : here ≡ w = ap (λ (n : ℕ). worldAt w m (l .window) (l .beats) 0 [] n) whole in
-        let goes : waitOf (step here) ≡ Go = ap (λ (x : World). waitOf (step x)) first ∙ can in
-        let room = length (l .out) / 2 - r .made in
-        let v = worldAt (noted w (k .new) (capacity (length (l .ledger)) - used')) (r .machine) window' (l .beats) (r .taken) (g .new) room in
-        let took : length (beatsIn (l .beats)) - length (drop (r .taken) (beatsIn (l .beats))) ≡ r .taken = took-since (l .beats) (r .taken) (h .taken-in) in
-        let made : r .made ≡ length (g .new) = g .counted ∙ zero-add (length (g .new)) in
-        let there : step w ≡ taken v = ap step (sym first) ∙ g .goes w goes
-        ∙ ap (λ (x : World). taken (worldAt x (r .machine) window' (l .beats) (r .taken) (g .new) room)) (k .logs w refl can) in
-        let out : out' ≡ outputOver v (l .out) = g .wrote ∙ over (l .out) (g .new) in
-        known (taken v) there (rw (took, ← made, ← k .counted)) (λ x. back window' (out x) (k .wrote x))
+  says-one : (a : Answer) → steppedIn (ranAs used w (runOn 1 w a)) ≡ steppedAs used w a
+  says-one (stopped r) = refl
+  says-one (taken v) = taken-one v (step v)
+
+module _ (l : Lent) (w : World) where
+  answers-one : (s : Served) → asStep (runAnswer l s w 1) ≡ stepAnswer l s w
+  unfolding run
+  answers-one serves = says-one (l .used) w (step w)
+  answers-one (refused why) = refl
+
+  numbers-one : (s : Served) → stepNumber (stepAnswer l s w) ≡ servedNumber s
+  numbers-one serves = stepped-number (l .used) w (step w)
+  numbers-one (refused why) = refl
+
+pub run-of-one : {m : Machine} {l : Lent} {a c : RunAnswer} {r : StepAnswer} {b : Returned} → HasRun m l 1 a b → a ≡ c → r ≡ asStep c
+    → Stepped m l r b
+unfolding run
+run-of-one {m} {l} h e told =
+    let w = worldOf m l in
+    let answer = told ∙ ap asStep (sym e ∙ h .answer) ∙ answers-one l w (servedOf m l) in
+    record {
+      answer = answer;
+      number = ap stepNumber answer ∙ numbers-one l w (servedOf m l);
+      back = h .back ∙ ap (λ (v : World). returned l (servedOf m l) v) (one-after w (step w));
+    }
 
 -- ---- a run by another test for the same good machines
 

@@ -1,8 +1,8 @@
 -- Where a run stands in the middle of what it is lent: what the loop keeps, and what it promises where it ends.
 -- Assumes nothing.
 use Prim.Native.Nat.{ℕ, _+_, _-_, _*_, _/_, _≤_}
-use mathlib.Core.Path.{_≡_, refl, sym, ap, _∙_}
-use mathlib.Core.List.{List, [], _++_}
+use mathlib.Core.Path.{_≡_, refl, sym, ap, subst, subst⁻¹, _∙_}
+use mathlib.Core.List.{List, [], _∷_, _++_, append-nil}
 use native.Mathlib.Nat.{add-zero, sub-zero}
 use native.Mathlib.Omega.{arith}
 use lib.ListN.{length, drop, length-append}
@@ -10,25 +10,30 @@ use Rattle.words.specs.Slices.{put}
 use Rattle.words.proofs.Slices.{put-put}
 use Rattle.bus.specs.declared.Refusal.{Refusal}
 use Rattle.ledger.specs.declared.Entry.{Entry}
-use Rattle.ledger.specs.Records.{ledgerBytes, capacity}
+use Rattle.ledger.specs.Records.{ledgerBytes, capacity, Appended}
 use Rattle.ledger.proofs.Rows.{length-ledger, ledger-append}
 use Rattle.flow.specs.Beats.{beatsIn, beatBytes}
 use Rattle.flow.proofs.Streams.{length-beat-bytes}
 use Rattle.machine.specs.declared.Machine.{Machine}
+use Rattle.machine.specs.declared.Work.{Work}
+use Rattle.machine.specs.declared.Phase.the-variants.{WriteBack}
 use Rattle.machine.specs.declared.Ran.{Ran}
 use Rattle.machine.specs.declared.Reason.{Reason}
 use Rattle.machine.specs.declared.Reason.the-variants as reason
+use Rattle.machine.specs.declared.RunAnswer.{RunAnswer}
 use Rattle.machine.specs.declared.RunAnswer.the-variants as many
 use Rattle.machine.specs.declared.steps.Wait.the-variants.{Go, Stop}
-use Rattle.machine.specs.Step.{World, taken, noted, step}
+use Rattle.machine.specs.Step.{World, taken, noted, entryFor, step}
 use Rattle.machine.specs.Run.{Report, run, Lent, Returned, back, asLent, Served, serves, refused, worldOf, outputOver, returned}
 use Rattle.machine.specs.Run.{ranAs, runAnswer, servedNumber, Runs}
 use Rattle.machine.specs.Helpers.Worlds.{worldAt, reachedAs, Within}
 use Rattle.machine.specs.Helpers.Waiting.{waitOf}
-use Rattle.machine.specs.Helpers.Turns.{steps, Logs, Turned}
+use Rattle.machine.specs.Helpers.Turns.{steps, Still, Went, Backs}
 use Rattle.machine.specs.Helpers.Resume.{Ready}
 use Rattle.machine.proofs.Streams.{beat-bytes-append, none-made}
 use Rattle.machine.proofs.Readiness.{steps-ready}
+use Rattle.machine.proofs.Turning.{went-still}
+use Rattle.machine.proofs.AtWriteBack.{back-goes, appended-one}
 use Rattle.machine.proofs.Loop.{report, moreBy, run-stops, run-out, run-steps, more-none, more-more}
 use Rattle.machine.proofs.Outcomes.{took-since, over}
 
@@ -89,21 +94,22 @@ module _ (m₀ : Machine) (l : Lent) (budget : ℕ) where
         ∙ put-put (l .ledger) (12 * l .used) (ledgerBytes (s .records)) (ledgerBytes new) inside
         ∙ ap (put (l .ledger) (12 * l .used)) (sym (ledger-append (s .records) new))
 
-    -- after n steps more
-    pub stands-on : (n : ℕ) (b' : Returned) (m' : Machine) (took' made' used' : ℕ) → n ≤ budget - count → length (b' .window) ≡ length (b .window)
-        → length (b' .out) ≡ length (b .out) → length (b' .ledger) ≡ length (b .ledger) → Within (l .beats) (b .out) took' made'
-        → waitOf (step here) ≡ Go → Logs m (b .ledger) used used' (b' .ledger)
-        → Turned (λ (w : World). steps n w) m (b .window) (l .beats) took (b .out) made (reachedAs m' took' made') (b' .window) (b' .out)
+    -- after n steps more, which made these beats and these records
+    stands-on : (n : ℕ) (b' : Returned) (m' : Machine) (took' made' used' : ℕ) (new : List ℕ) (more : List Entry) → n ≤ budget - count
+        → length (b' .window) ≡ length (b .window) → length (b' .out) ≡ length (b .out) → length (b' .ledger) ≡ length (b .ledger)
+        → Within (l .beats) (b .out) took' made' → made' ≡ made + length new → b' .out ≡ put (b .out) (2 * made) (beatBytes new)
+        → used' ≡ used + length more → b' .ledger ≡ put (b .ledger) (12 * used) (ledgerBytes more) → used' ≤ length (b .ledger) / 12
+        → steps n here
+        ≡ taken (worldAt (noted (worldOf m₀ l) (s .records ++ more) (capacity (length (b .ledger)) - used')) m' (b' .window) (l .beats) took'
+        (s .output ++ new) (length (b .out) / 2 - made'))
         → Stands m₀ l budget b' m' took' made' used' (count + n)
-    stands-on n b' m' took' made' used' h wl ol ll i can k g =
+    stands-on n b' m' took' made' used' new more h wl ol ll i counted wrote kept put-down inside goes =
         let w₀ = worldOf m₀ l in
-        let there = worldAt (noted w₀ (s .records ++ k .new) (capacity (length (b .ledger)) - used')) m' (b' .window) (l .beats) took' (s .output ++ g .new)
+        let there = worldAt (noted w₀ (s .records ++ more) (capacity (length (b .ledger)) - used')) m' (b' .window) (l .beats) took' (s .output ++ new)
         (length (b .out) / 2 - made') in
         let left : budget - count ≡ n + (budget - (count + n)) = omega arith in
-        let goes : steps n here ≡ taken there = g .goes here can
-        ∙ ap (λ (v : World). taken (worldAt v m' (b' .window) (l .beats) took' (s .output ++ g .new) (length (b .out) / 2 - made'))) (k .logs here refl can) in
         let front : 2 * made ≡ 0 + length (beatBytes (s .output)) = omega (arith, length-beat-bytes (s .output)) in
-        let inside : 0 + length (beatBytes (s .output)) ≤ length (l .out) = omega arith in
+        let fits : 0 + length (beatBytes (s .output)) ≤ length (l .out) = omega arith in
         record {
           window-length = wl ∙ s .window-length;
           out-length = ol ∙ s .out-length;
@@ -111,28 +117,63 @@ module _ (m₀ : Machine) (l : Lent) (budget : ℕ) where
           spent = omega arith;
           within = record { taken-in = i .taken-in; made-in = omega arith };
           ready = rw wl (steps-ready (length (b .window)) n here there goes (s .ready));
-          output = s .output ++ g .new;
+          output = s .output ++ new;
           counted = simp length-append (omega arith);
-          wrote = g .wrote ∙ rw (front, s .wrote, beat-bytes-append) (put-put (l .out) 0 (beatBytes (s .output)) (beatBytes (g .new)) inside);
-          records = s .records ++ k .new;
-          kept = simp length-append (omega (arith, k .counted, s .kept));
-          put-down = notes (k .new) (k .wrote);
-          used-in = omega (arith, k .inside (s .used-in), ll);
+          wrote = wrote ∙ rw (front, s .wrote, beat-bytes-append) (put-put (l .out) 0 (beatBytes (s .output)) (beatBytes new) fits);
+          records = s .records ++ more;
+          kept = simp length-append (omega (arith, kept, s .kept));
+          put-down = notes more put-down;
+          used-in = omega (arith, inside, ll);
           same = s .same
               ∙ ap (moreBy count) (ap (λ (k : ℕ). run k here) left ∙ run-steps n (budget - (count + n)) here there goes)
               ∙ more-more count n _
               ∙ (λ x. moreBy (count + n) (run (budget - (count + n))
-              (worldAt (noted w₀ (s .records ++ k .new) (capacity (sym ll x) - used')) m' (b' .window) (l .beats) took' (s .output ++ g .new)
+              (worldAt (noted w₀ (s .records ++ more) (capacity (sym ll x) - used')) m' (b' .window) (l .beats) took' (s .output ++ new)
               (sym ol x / 2 - made'))));
         }
+
+    -- in Move: no record
+    pub stands-moved : (n : ℕ) (window' out' : List ℕ) (m' : Machine) (took' made' : ℕ) → n ≤ budget - count
+        → length window' ≡ length (b .window) → length out' ≡ length (b .out) → Within (l .beats) (b .out) took' made'
+        → Went (λ (w : World). steps n w) m (b .window) (l .beats) took (b .out) made (reachedAs m' took' made') window' out'
+        → Stands m₀ l budget (back window' out' (b .ledger)) m' took' made' used (count + n)
+    stands-moved n window' out' m' took' made' h wl ol i g =
+        stands-on n (back window' out' (b .ledger)) m' took' made' used (g .new) [] h wl ol refl i (g .counted) (g .wrote)
+        (sym (add-zero used)) (none-made (b .ledger) (12 * used)) (s .used-in)
+        (g .goes here
+        ∙ ap (λ (es : List Entry). taken (worldAt (noted (worldOf m₀ l) es (capacity (length (b .ledger)) - used)) m' window' (l .beats) took'
+        (s .output ++ g .new) (length (b .out) / 2 - made'))) (sym (append-nil (s .records))))
+
+    -- out of Rest or Fetch: the machine alone changes
+    pub stands-begun : (m' : Machine) → 1 ≤ budget - count → Still step m (b .window) m' (b .window)
+        → Stands m₀ l budget b m' took made used (count + 1)
+    unfolding steps
+    stands-begun m' h g =
+        stands-moved 1 (b .window) (b .out) m' took made h refl refl (s .within)
+        (went-still (λ (w : World). steps 1 w) m m' (b .window) (b .window) (l .beats) took (b .out) made (λ w. g w))
+
+    -- in WriteBack: one record
+    pub stands-back : (k : Work) (window' ledger' : List ℕ) (m' : Machine) (used' : ℕ) → 1 ≤ budget - count
+        → length window' ≡ length (b .window) → length ledger' ≡ length (b .ledger) → m .phase ≡ WriteBack k → waitOf (step here) ≡ Go
+        → {e : Entry} → e ≡ entryFor m k → Appended (b .ledger) used e used' ledger' → Backs m k (b .window) m' window'
+        → Stands m₀ l budget (back window' (b .out) ledger') m' took made used' (count + 1)
+    unfolding steps
+    stands-back k window' ledger' m' used' h wl ll e can same a g =
+        let one = back-goes here k g e can in
+        let put-down = appended-one (b .ledger) used (entryFor m k) (one .0) (subst (λ (x : Entry). Appended (b .ledger) used x used' ledger') same a) in
+        let left : capacity (length (b .ledger)) - used - 1 ≡ capacity (length (b .ledger)) - used' = omega (arith, put-down .0) in
+        stands-on 1 (back window' (b .out) ledger') m' took made used' [] (entryFor m k ∷ []) h wl refl ll (s .within)
+        (sym (add-zero made)) (none-made (b .out) (2 * made)) (put-down .0) (put-down .1) (put-down .2)
+        (one .1
+        ∙ (λ x. taken (worldAt (noted (worldOf m₀ l) (s .records ++ entryFor m k ∷ []) (left x)) m' window' (l .beats) took
+        (sym (append-nil (s .output)) x) (length (b .out) / 2 - made))))
 
     -- the answer of a run that ends here
     abbrev pub ended : Reason → Ran
     ended r = record { machine = m; reason = r; steps = count; taken = took; made = made; used = used }
 
-    ends : {served : Served} (r : Reason) → run (budget - count) here ≡ report here 0 r → served ≡ serves
-        → Runs served m₀ l budget (many.Done (ended r)) b
-    ends r f e =
+    ends : (r : Reason) → run (budget - count) here ≡ report here 0 r → Runs serves m₀ l budget (many.Done (ended r)) b
+    ends r f =
         let w = worldOf m₀ l in
         let full : run budget w ≡ report here count r = s .same ∙ ap (moreBy count) f ∙ ap (λ (k : ℕ). report here k r) (add-zero count) in
         let since : length (beatsIn (l .beats)) - length (drop took (beatsIn (l .beats))) ≡ took = took-since (l .beats) took (s .within .taken-in) in
@@ -140,24 +181,25 @@ module _ (m₀ : Machine) (l : Lent) (budget : ℕ) where
         λ x. record { machine = m; reason = r; steps = count; taken = sym since x; made = s .counted x; used = s .kept x } in
         let out : b .out ≡ outputOver here (l .out) = s .wrote ∙ over (l .out) (s .output) in
         record {
-          answer = ap many.Done tells
-              ∙ sym (ap (λ (x : Served). runAnswer l x w budget) e ∙ ap (λ (x : Report). many.Done (ranAs (l .used) w x)) full);
-          number = sym (ap servedNumber e);
-          back = (λ x. back (b .window) (out x) (s .put-down x))
-              ∙ sym (ap (λ (x : Served). returned l x (run budget w .world)) e ∙ ap (λ (x : Report). returned l serves (x .world)) full);
+          answer = ap many.Done tells ∙ sym (ap (λ (x : Report). many.Done (ranAs (l .used) w x)) full);
+          number = refl;
+          back = (λ x. back (b .window) (out x) (s .put-down x)) ∙ sym (ap (λ (x : Report). returned l serves (x .world)) full);
         }
 
     -- where no step can be taken
-    pub stands-stopped : {served : Served} (r : Reason) → waitOf (step here) ≡ Stop r → served ≡ serves
-        → Runs served m₀ l budget (many.Done (ended r)) b
-    stands-stopped r f e = ends r (run-stops (budget - count) here r f) e
+    pub stands-stopped : (r : Reason) → waitOf (step here) ≡ Stop r → Runs serves m₀ l budget (many.Done (ended r)) b
+    stands-stopped r f = ends r (run-stops (budget - count) here r f)
 
     -- where the budget is spent, and one can
-    pub stands-out : {served : Served} → waitOf (step here) ≡ Go → budget ≡ count → served ≡ serves
-        → Runs served m₀ l budget (many.Done (ended reason.Budget)) b
-    stands-out f k e =
+    pub stands-out : waitOf (step here) ≡ Go → budget ≡ count → Runs serves m₀ l budget (many.Done (ended reason.Budget)) b
+    stands-out f k =
         let none : budget - count ≡ 0 = omega arith in
-        ends reason.Budget (ap (λ (k : ℕ). run k here) none ∙ run-out here f) e
+        ends reason.Budget (ap (λ (k : ℕ). run k here) none ∙ run-out here f)
+
+-- what is lent serves, or it is refused
+pub run-served : {served : Served} {m : Machine} {l : Lent} {budget : ℕ} {r : RunAnswer} {b : Returned} → served ≡ serves
+    → Runs serves m l budget r b → Runs served m l budget r b
+run-served {m = m} {l = l} {budget = budget} {r = r} {b = b} e h = subst⁻¹ (λ (x : Served). Runs x m l budget r b) e h
 
 pub run-refused : {served : Served} {m : Machine} {l : Lent} {budget : ℕ} {why : Refusal} → served ≡ refused why
     → Runs served m l budget (many.Refused why) (asLent l)

@@ -3,7 +3,7 @@
 use Prim.Native.Nat.{ℕ, _+_, _-_, _*_, _/_, _≤_, _<_}
 use mathlib.Core.Path.{_≡_, sym, ap, _∙_}
 use mathlib.Core.Bool.{true}
-use mathlib.Core.List.{List, [], _++_, append-nil}
+use mathlib.Core.List.{List, [], append-nil}
 use native.Mathlib.Nat.{add-zero}
 use native.Mathlib.Omega.{arith}
 use lib.ListN.{length}
@@ -14,7 +14,7 @@ use Rattle.machine.specs.declared.Phase.the-variants.{Fetch}
 use Rattle.machine.specs.State.{withPhase, withBusy}
 use Rattle.machine.specs.Step.{World, Answer, taken, became, restStep}
 use Rattle.machine.specs.Helpers.Worlds.{worldAt, midway, reachedAs}
-use Rattle.machine.specs.Helpers.Turns.{Still, Went, logged, Turned}
+use Rattle.machine.specs.Helpers.Turns.{Still, Went}
 use Rattle.machine.proofs.Streams.{none-made}
 
 module _ (rule : World → Answer) (m m' : Machine) (window window' beats : List ℕ) (took : ℕ) (out : List ℕ) (made : ℕ) where
@@ -40,19 +40,6 @@ pub went-as : (other rule : World → Answer) {m : Machine} {window beats : List
     → Went other m window beats took out made r window' out' → Went rule m window beats took out made r window' out'
 went-as other rule {m} {window} {beats} {took} {out} {made} e g =
     record { new = g .new; counted = g .counted; wrote = g .wrote; goes = λ w. e (midway w m window beats took out made) ∙ g .goes w }
-
--- no record is made
-pub turned-quietly : {rule : World → Answer} {m : Machine} {window beats : List ℕ} {took : ℕ} {out : List ℕ} {made : ℕ} {r : Reached} {window' out' : List ℕ}
-    → Went rule m window beats took out made r window' out' → ((w : World) → logged m w ≡ w)
-    → Turned rule m window beats took out made r window' out'
-turned-quietly {beats = beats} {out = out} {r = r} {window' = window'} g q =
-    record {
-      new = g .new;
-      counted = g .counted;
-      wrote = g .wrote;
-      goes = λ w can. g .goes w
-          ∙ ap (λ (v : World). taken (worldAt v (r .machine) window' beats (r .taken) (w .output ++ g .new) (length out / 2 - r .made))) (sym (q w));
-    }
 
 -- Rest, RUN 1
 pub rest-starts : (m m' : Machine) (memory : List ℕ) → run (m .control) ≡ true → m' ≡ withPhase Fetch (withBusy true m)

@@ -3,8 +3,8 @@ ghost use mathlib.Core.Path.{_≡_};
 ghost use mathlib.Core.Bool.{true};
 ghost use Rattle.bus.specs.Window.{inWindow};
 ghost use Rattle.machine.specs.State.{home as homeOf};
-ghost use Rattle.machine.specs.Step.{World, stored, writtenControl, writtenBack, afterBack, completed as completedOf};
-ghost use Rattle.machine.specs.Helpers.Turns.{Logs, Backs};
+ghost use Rattle.machine.specs.Step.{World, stored, writtenControl, writtenBack, afterBack, completed as completedOf, entryFor};
+ghost use Rattle.machine.specs.Helpers.Turns.{Backs};
 use crate::Machine;
 use crate::Phase;
 use crate::Work;
@@ -12,7 +12,6 @@ use bus::BusAddress;
 use bus::Located;
 use descriptor::DescControl;
 use ledger::Entry;
-use ledger::append;
 use regs::Control;
 use regs::Count;
 use words::has;
@@ -83,29 +82,16 @@ impl Machine {
         self.completed(k)
     }
 
-    // In WriteBack the record of the descriptor is put behind those used; how many are used then.
-    pub(crate) fn log(self, ledger: &mut [u8], used: u32) -> u32
-        ensures { λ r. ⌜ Logs self (now (ledger .entry)) used r (now (ledger .exit)) ⌝ }
+    // The record of the descriptor.
+    pub(crate) fn entry(self, k: Work) -> Entry
+        ensures { λ r. ⌜ r ≡ entryFor self k ⌝ }
     {
-        let phase = self.phase;
-        match phase {
-            Phase::Rest => used,
-            Phase::Fetch => used,
-            Phase::Move(_) => used,
-            Phase::WriteBack(k) => append(
-                ledger,
-                used,
-                Entry {
-                    run: 0,
-                    at: k.at,
-                    actual: k.moved,
-                    status: k.errors,
-                    eop: k.eop,
-                },
-            ),
-            Phase::Ended => used,
-            Phase::Halted => used,
-            Phase::Faulted(_) => used,
+        Entry {
+            run: 0,
+            at: k.at,
+            actual: k.moved,
+            status: k.errors,
+            eop: k.eop,
         }
     }
 }

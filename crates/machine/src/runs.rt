@@ -1,26 +1,30 @@
-// A run: steps until one cannot be taken or the budget is spent.
+// A run: steps until one cannot be taken or the budget is spent; and one step, which is a run of one.
 ghost use mathlib.Core.Path.{_≡_};
 ghost use mathlib.Core.Bool.{true, false};
-ghost use Prim.Native.Nat.{_+_, _≤_, _<_};
+ghost use Prim.Native.Nat.{_+_, _/_, _≤_, _<_};
 ghost use lib.ListN.{length};
 ghost use Rattle.machine.specs.declared.Phase.the-variants.{Move};
-ghost use Rattle.machine.specs.Step.{World, whole as wholeOf, onward as onwardOf, step as stepOf};
-ghost use Rattle.machine.specs.Run.{lent, back, HasRun};
+ghost use Rattle.machine.specs.declared.RunAnswer.the-variants.{Done};
+ghost use Rattle.machine.specs.Step.{whole as wholeOf, onward as onwardOf, step as stepOf};
+ghost use Rattle.machine.specs.Run.{lent, back, serves, Runs, HasRun, Stepped};
 ghost use Rattle.machine.specs.Helpers.Worlds.{Within};
 ghost use Rattle.machine.specs.Helpers.Waiting.{Goes};
-ghost use Rattle.machine.specs.Helpers.Turns.{Advances, Turns, logged};
+ghost use Rattle.machine.specs.Helpers.Turns.{Advances};
 ghost use Rattle.machine.specs.Helpers.AtOnce.{movedBy};
-ghost use Rattle.machine.specs.Helpers.Resume.{RunsIf, Resumed, Ready};
+ghost use Rattle.machine.specs.Helpers.Resume.{RunsIf, Resumed, Ready, steppedIn};
 use crate::Machine;
 use crate::Phase;
+use crate::Progress;
 use crate::Ran;
 use crate::Reason;
 use crate::RunAnswer;
+use crate::StepAnswer;
 use crate::Work;
 use crate::bursts::least;
 use crate::moves::asked;
 use crate::steps::Served;
 use crate::steps::Wait;
+use ledger::append;
 use ledger::has_room;
 use regs::Mode;
 
@@ -32,7 +36,7 @@ struct Advanced {
     steps: u32,
 }
 
-// Bytes moved at once.
+// Move: bytes moved at once, and one where none can be.
 impl Machine {
     // Where so many bytes of the work in hand lead, with these errors.
     fn moved(self, k: Work, n: usize, errors: u8, taken: usize, made: usize) -> Advanced
@@ -90,9 +94,10 @@ impl Machine {
         }
     }
 
-    // In Move as many bytes as can be moved at once; none in another phase.
-    fn burst(
+    // At least one step of Move, and `left` at most, where one can be taken: those at once, or else one.
+    fn move_on(
         self,
+        k: Work,
         window: &mut [u8],
         beats: &[u8],
         taken: usize,
@@ -101,54 +106,85 @@ impl Machine {
         left: u32,
     ) -> Advanced
         requires { ⌜ Ready self (length (now window)) ⌝ }
-        requires { ⌜ Within (now beats) (now out) taken made ⌝ }
-        requires { ⌜ 1 ≤ left ⌝ }
-        ensures { λ r. ⌜ r .steps ≤ left ⌝ }
-        ensures { λ r. ⌜ Advances self (now (window .entry)) (now (beats .entry)) taken (now (out .entry)) made r (now (window .exit)) (now (out .exit)) ⌝ }
-        ensures { λ r. ⌜ (1 ≤ r .steps → (w : World) → logged self w ≡ w) ⌝ }
-    {
-        let phase = self.phase;
-        let Phase::Move(k) = phase else {
-            return Advanced {
-                machine: self,
-                taken,
-                made,
-                steps: 0,
-            };
-        };
-        self.move_many(k, window, beats, taken, out, made, left)
-    }
-}
-
-impl Machine {
-    // At least one step, and `left` at most, where one can be taken.
-    fn advance(
-        self,
-        window: &mut [u8],
-        beats: &[u8],
-        taken: usize,
-        out: &mut [u8],
-        made: usize,
-        left: u32,
-    ) -> Advanced
-        requires { ⌜ Ready self (length (now window)) ⌝ }
+        requires { ⌜ self .phase ≡ Move k ⌝ }
         requires { ⌜ Within (now beats) (now out) taken made ⌝ }
         requires { ⌜ Goes stepOf self (now window) (now beats) taken (now out) made ⌝ }
         requires { ⌜ 1 ≤ left ⌝ }
         ensures { λ r. ⌜ (1 ≤ r .steps) × (r .steps ≤ left) ⌝ }
-        ensures { λ r. ⌜ Turns self (now (window .entry)) (now (beats .entry)) taken (now (out .entry)) made r (now (window .exit)) (now (out .exit)) ⌝ }
+        ensures { λ r. ⌜ Advances self (now (window .entry)) (now (beats .entry)) taken (now (out .entry)) made r (now (window .exit)) (now (out .exit)) ⌝ }
     {
-        let b = self.burst(window, beats, taken, out, made, left);
+        let b = self.move_many(k, window, beats, taken, out, made, left);
         if b.steps != 0 {
             return b;
         }
-        let s = self.step_at(window, beats, taken, out, made);
+        let s = self.move_step(k, window, beats, taken, out, made);
         let machine = s.machine;
         Advanced {
             machine,
             taken: s.taken,
             made: s.made,
             steps: 1,
+        }
+    }
+}
+
+impl Machine {
+    // A run of a machine that is served. Move sees the streams, WriteBack the ledger, Rest and Fetch the window alone.
+    fn run_on(
+        self,
+        window: &mut [u8],
+        beats: &[u8],
+        out: &mut [u8],
+        ledger: &mut [u8],
+        used: u32,
+        budget: u32,
+    ) -> Ran
+        requires { ⌜ Ready self (length (now window)) ⌝ }
+        requires { ⌜ used ≤ length (now ledger) / 12 ⌝ }
+        ensures { λ r. ⌜
+            Runs serves self (lent (now (window .entry)) (now (beats .entry)) (now (out .entry)) (now (ledger .entry)) used)
+            budget (Done r) (back (now (window .exit)) (now (out .exit)) (now (ledger .exit))) ⌝ }
+    {
+        let mut machine = self;
+        let mut taken: usize = 0;
+        let mut made: usize = 0;
+        let mut filled: u32 = used;
+        let mut steps: u32 = 0;
+        let reason = loop {
+            let wait = machine.wait(
+                taken < beats.len() / 2,
+                made < out.len() / 2,
+                has_room(ledger, filled),
+            );
+            if let Wait::Stop(why) = wait {
+                break why;
+            }
+            if steps == budget {
+                break Reason::Budget;
+            }
+            let phase = machine.phase;
+            if let Phase::Move(k) = phase {
+                let a = machine.move_on(k, window, beats, taken, out, made, budget - steps);
+                machine = a.machine;
+                taken = a.taken;
+                made = a.made;
+                steps += a.steps;
+            } else if let Phase::WriteBack(k) = phase {
+                filled = append(ledger, filled, machine.entry(k));
+                machine = machine.write_back_step(k, window);
+                steps += 1;
+            } else {
+                machine = machine.begin_step(window);
+                steps += 1;
+            }
+        };
+        Ran {
+            machine,
+            reason,
+            steps,
+            taken,
+            made,
+            used: filled,
         }
     }
 
@@ -172,38 +208,7 @@ impl Machine {
         if let Served::Refused(why) = answer {
             return RunAnswer::Refused(why);
         }
-        let mut machine = self;
-        let mut taken: usize = 0;
-        let mut made: usize = 0;
-        let mut filled: u32 = used;
-        let mut steps: u32 = 0;
-        let reason = loop {
-            let wait = machine.wait(
-                taken < beats.len() / 2,
-                made < out.len() / 2,
-                has_room(ledger, filled),
-            );
-            if let Wait::Stop(why) = wait {
-                break why;
-            }
-            if steps == budget {
-                break Reason::Budget;
-            }
-            filled = machine.log(ledger, filled);
-            let a = machine.advance(window, beats, taken, out, made, budget - steps);
-            machine = a.machine;
-            taken = a.taken;
-            made = a.made;
-            steps += a.steps;
-        };
-        RunAnswer::Done(Ran {
-            machine,
-            reason,
-            steps,
-            taken,
-            made,
-            used: filled,
-        })
+        RunAnswer::Done(self.run_on(window, beats, out, ledger, used, budget))
     }
 
     pub fn run(
@@ -237,5 +242,44 @@ impl Machine {
             budget r (back (now (window .exit)) (now (out .exit)) (now (ledger .exit))) ⌝ }
     {
         self.run_if(self.ready(), window, beats, out, ledger, used, budget)
+    }
+
+    // One step, or why it cannot be taken: a run of one.
+    pub fn step(
+        self,
+        window: &mut [u8],
+        beats: &[u8],
+        out: &mut [u8],
+        ledger: &mut [u8],
+        used: u32,
+    ) -> StepAnswer
+        ensures { λ r. ⌜
+            Stepped self (lent (now (window .entry)) (now (beats .entry)) (now (out .entry)) (now (ledger .entry)) used)
+            r (back (now (window .exit)) (now (out .exit)) (now (ledger .exit))) ⌝ }
+    {
+        let answer = self.run(window, beats, out, ledger, used, 1);
+        match answer {
+            RunAnswer::Refused(why) => StepAnswer::Refused(why),
+            RunAnswer::Done(r) => r.stepped(),
+        }
+    }
+}
+
+impl Ran {
+    // What a run of one says of its step.
+    fn stepped(self) -> StepAnswer
+        ensures { λ r. ⌜ r ≡ steppedIn self ⌝ }
+    {
+        if self.steps == 0 {
+            let reason = self.reason;
+            return StepAnswer::Stopped(reason);
+        }
+        let machine = self.machine;
+        StepAnswer::Taken(Progress {
+            machine,
+            taken: self.taken,
+            made: self.made,
+            used: self.used,
+        })
     }
 }

@@ -1,28 +1,24 @@
-// One step: whether it can be taken, and which phase's it is; a fault; and what a step needs of the machine and of what is lent.
+// One step: whether it can be taken; a fault; and what a step needs of the machine and of what is lent.
 ghost use mathlib.Core.Path.{_≡_};
 ghost use Prim.Native.Nat.{_%_, _^_};
-ghost use lib.ListN.{length};
 ghost use Rattle.bus.specs.Window.{inWindow};
 ghost use Rattle.machine.specs.State.{home as homeOf};
 ghost use Rattle.machine.specs.Step.{step as stepOf};
-ghost use Rattle.machine.specs.Run.{lent, back, servedIf, servedOf, Stepped};
-ghost use Rattle.machine.specs.Helpers.Worlds.{reachedAs, inFault, servedAs, Within};
-ghost use Rattle.machine.specs.Helpers.Waiting.{Waits, Goes};
-ghost use Rattle.machine.specs.Helpers.Turns.{Turned};
-ghost use Rattle.machine.specs.Helpers.Resume.{readyOf, Ready};
+ghost use Rattle.machine.specs.Run.{lent, servedIf};
+ghost use Rattle.machine.specs.Helpers.Worlds.{reachedAs, inFault, servedAs};
+ghost use Rattle.machine.specs.Helpers.Waiting.{Waits, Begins};
+ghost use Rattle.machine.specs.Helpers.Turns.{Still};
+ghost use Rattle.machine.specs.Helpers.Resume.{readyOf};
 use crate::Fault;
 use crate::Machine;
 use crate::Phase;
-use crate::Progress;
 use crate::Reason;
-use crate::StepAnswer;
 use crate::Work;
 use crate::moves::asked;
 use bus::BusAddress;
 use bus::Located;
 use bus::Refusal;
 use bus::Window;
-use ledger::has_room;
 use regs::Control;
 use words::has;
 
@@ -138,33 +134,16 @@ impl Machine {
         }
     }
 
-    // The step that can be taken, where so many beats are taken and made already.
-    pub(crate) fn step_at(
-        self,
-        window: &mut [u8],
-        beats: &[u8],
-        taken: usize,
-        out: &mut [u8],
-        made: usize,
-    ) -> Reached
-        requires { ⌜ Ready self (length (now window)) ⌝ }
-        requires { ⌜ Within (now beats) (now out) taken made ⌝ }
-        requires { ⌜ Goes stepOf self (now window) (now beats) taken (now out) made ⌝ }
-        ensures { λ r. ⌜ Within (now (beats .entry)) (now (out .entry)) (r .taken) (r .made) ⌝ }
-        ensures { λ r. ⌜
-            Turned stepOf self (now (window .entry)) (now (beats .entry)) taken (now (out .entry)) made
-            r (now (window .exit)) (now (out .exit)) ⌝ }
+    // The step out of Rest or Fetch, where it can be taken.
+    pub(crate) fn begin_step(self, window: &[u8]) -> Machine
+        requires { ⌜ Begins self ⌝ }
+        ensures { λ r. ⌜ Still stepOf self (now (window .entry)) r (now (window .entry)) ⌝ }
     {
         let phase = self.phase;
-        match phase {
-            Phase::Rest => self.enters(Phase::Fetch, true).at(taken, made),
-            Phase::Fetch => self.fetch_step(window).at(taken, made),
-            Phase::Move(k) => self.move_step(k, window, beats, taken, out, made),
-            Phase::WriteBack(k) => self.write_back_step(k, window).at(taken, made),
-            Phase::Ended => self.at(taken, made),
-            Phase::Halted => self.at(taken, made),
-            Phase::Faulted(_) => self.at(taken, made),
-        }
+        let Phase::Fetch = phase else {
+            return self.enters(Phase::Fetch, true);
+        };
+        self.fetch_step(window)
     }
 }
 
@@ -198,49 +177,5 @@ impl Machine {
             return Served::Refused(Refusal::OtherWindow);
         }
         Served::Serves
-    }
-
-    // Good is one that keeps the rules.
-    fn checked(self, window: &[u8], beats: &[u8], out: &[u8], ledger: &[u8], used: u32) -> Served
-        ensures { λ r. ⌜
-            servedAs r ≡ servedOf self (lent (now (window .entry)) (now (beats .entry)) (now (out .entry)) (now (ledger .entry)) used) ⌝ }
-    {
-        self.served(self.keeps(), window, beats, out, ledger, used)
-    }
-
-    // One step, or why it cannot be taken.
-    pub fn step(
-        self,
-        window: &mut [u8],
-        beats: &[u8],
-        out: &mut [u8],
-        ledger: &mut [u8],
-        used: u32,
-    ) -> StepAnswer
-        ensures { λ r. ⌜
-            Stepped self (lent (now (window .entry)) (now (beats .entry)) (now (out .entry)) (now (ledger .entry)) used)
-            r (back (now (window .exit)) (now (out .exit)) (now (ledger .exit))) ⌝ }
-    {
-        let answer = self.checked(window, beats, out, ledger, used);
-        if let Served::Refused(why) = answer {
-            return StepAnswer::Refused(why);
-        }
-        let wait = self.wait(
-            0 < beats.len() / 2,
-            0 < out.len() / 2,
-            has_room(ledger, used),
-        );
-        if let Wait::Stop(why) = wait {
-            return StepAnswer::Stopped(why);
-        }
-        let filled = self.log(ledger, used);
-        let s = self.step_at(window, beats, 0, out, 0);
-        let machine = s.machine;
-        StepAnswer::Taken(Progress {
-            machine,
-            taken: s.taken,
-            made: s.made,
-            used: filled,
-        })
     }
 }

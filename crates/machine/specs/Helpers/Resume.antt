@@ -2,13 +2,16 @@
 -- Assumes nothing.
 use Prim.Native.Nat.{ℕ, _<_}
 use mathlib.Core.Path.{_≡_}
-use mathlib.Core.Bool.{Bool, true, false, not, _&&_}
-use lib.Dec.{ltb}
+use mathlib.Core.Bool.{Bool, true, false, not, cond, _&&_}
+use lib.Dec.{eqb, ltb}
 use Rattle.bus.specs.Window.{inWindow}
 use Rattle.machine.specs.declared.Machine.{Machine}
 use Rattle.machine.specs.declared.Phase.{Phase}
 use Rattle.machine.specs.declared.Phase.the-variants.{Rest, Fetch, Move, WriteBack, Ended, Halted, Faulted}
+use Rattle.machine.specs.declared.Ran.{Ran}
 use Rattle.machine.specs.declared.RunAnswer.{RunAnswer}
+use Rattle.machine.specs.declared.StepAnswer.{StepAnswer}
+use Rattle.machine.specs.declared.StepAnswer.the-variants as one
 use Rattle.machine.specs.State.{home}
 use Rattle.machine.specs.Step.{whole}
 use Rattle.machine.specs.Run.{Lent, Returned, servedIf, Runs}
@@ -63,3 +66,9 @@ RunsIf good m l budget r b = Runs (servedIf good m l) m l budget r b
 -- resume: good is a machine that has what a step needs
 abbrev pub Resumed : Machine → Lent → (budget : ℕ) → RunAnswer → Returned → Type 0
 Resumed m l budget r b = RunsIf (readyOf m) m l budget r b
+
+-- step: what a run of one says of its step
+abbrev pub steppedIn : Ran → StepAnswer
+steppedIn r =
+    cond (eqb (r .steps) 0) (one.Stopped (r .reason))
+    (one.Taken (record { machine = r .machine; taken = r .taken; made = r .made; used = r .used }))

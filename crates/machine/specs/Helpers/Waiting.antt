@@ -5,7 +5,9 @@ use mathlib.Core.Path.{_≡_}
 use mathlib.Core.Bool.{Bool, true, false}
 use mathlib.Core.List.{List, [], _∷_}
 use lib.Dec.{ltb}
+use Rattle.regs.specs.Control.{run}
 use Rattle.machine.specs.declared.Machine.{Machine}
+use Rattle.machine.specs.declared.Phase.the-variants.{Rest, Fetch}
 use Rattle.machine.specs.declared.steps.Wait.{Wait}
 use Rattle.machine.specs.declared.steps.Wait.the-variants.{Go, Stop}
 use Rattle.machine.specs.Step.{World, Answer, taken, stopped, became}
@@ -28,3 +30,8 @@ Waits rule m more room keeps r =
 pub record Goes (rule : World → Answer) (m : Machine) (window beats : List ℕ) (took : ℕ) (out : List ℕ) (made : ℕ) : Type 0 where
   pub around : World
   pub can : waitOf (rule (midway around m window beats took out made)) ≡ Go
+
+-- a step can be taken out of Rest or Fetch
+pub data Begins (m : Machine) : Type 0 where
+  rests : m .phase ≡ Rest → run (m .control) ≡ true → Begins m
+  fetches : m .phase ≡ Fetch → Begins m
