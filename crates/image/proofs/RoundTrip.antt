@@ -6,6 +6,7 @@ use mathlib.Core.Bool.{Bool, true, false}
 use mathlib.Core.List.{List, [], _∷_}
 use native.Mathlib.Nat.{mod-lt}
 use native.Mathlib.Omega.{arith}
+use borrow.Author.Needs.{needs}
 use lib.ListN.{length, length-replicate}
 use lib.Dec.{eqb}
 use Rattle.words.specs.Bits.{flag}
@@ -13,7 +14,9 @@ use Rattle.words.specs.Numbers.{total, join, split, recode, bytes, Fit}
 use Rattle.words.specs.Slices.{AllBytes}
 use Rattle.words.proofs.Recode.{recode-back, recode-fit}
 use Rattle.words.proofs.Orders.{length-split}
+use Rattle.words.specs.Packed.{noFields, packedOver, fieldsPut}
 use Rattle.words.proofs.Bytes.{bytes-fit}
+use Rattle.words.proofs.Packing.{fields-packed}
 use Rattle.image.specs.declared.Fields.{Fields}
 use Rattle.image.specs.Layout.{fromNumbers, valuesOf, widthsOf, sizeOf, imageOf, fieldsIn, latest, values, widths, image, fields}
 
@@ -101,3 +104,10 @@ fields-fit xs = fit-in latest xs
 pub image-bytes : (f : Fields) → AllBytes (image f)
 unfolding image
 image-bytes f = bytes-of latest f
+
+-- the lines put into a packer one after the other, as the code puts them
+pub image-packed : (f : Fields) (xs : List ℕ) → length xs ≡ 44 → Fit widths (values f)
+    → packedOver (fieldsPut widths (values f) noFields) xs ≡ image f
+unfolding image
+image-packed f xs l p =
+    fields-packed widths (values f) xs p (search needs) (omega arith) (omega arith) ∙ ap (λ (n : ℕ). recode widths (bytes n) (values f)) l

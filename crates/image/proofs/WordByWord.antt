@@ -1,23 +1,21 @@
--- The image and its fields, met a word of 32 bits at a time, as the code meets them.
+-- The image's fields, met a word of 32 bits at a time, as the code that reads them meets them.
 -- Assumes nothing.
 use Prim.Native.Nat.{ℕ, _+_, _*_, _%_, _^_, _<_, _≤_}
 use mathlib.Core.Path.{_≡_, refl, sym, ap, subst, _∙_}
 use mathlib.Core.List.{List, [], _∷_, _++_, map}
-use native.Mathlib.Nat.{mul-one, add-zero, div-one, mod-eq-of-lt}
+use native.Mathlib.Nat.{div-one, mod-eq-of-lt}
 use native.Mathlib.Omega.{arith}
 use lib.ListN.{length, drop, length-drop}
 use lib.Seq.{drop-drop, length-take-le}
 use lib.Dec.{lit≤}
 use Rattle.words.specs.declared.Order.the-variants.{MostFirst}
-use Rattle.words.specs.Numbers.{join, split, recode, bytes, Fit}
-use Rattle.words.specs.Orders.{wordBytes}
+use Rattle.words.specs.Numbers.{join, split, recode, bytes}
 use Rattle.words.specs.Slices.{part, numberAt, AllBytes}
 use Rattle.words.proofs.Recode.{join-lt}
 use Rattle.words.proofs.Bytes.{drop-bytes}
 use Rattle.words.proofs.Slices.{number-in}
-use Rattle.words.proofs.Groups.{recodes, Even, joins, Alike, parts, fours, recode-groups, fits-of, recodes-words, parts-all, parts-fit}
-use Rattle.image.specs.declared.Fields.{Fields}
-use Rattle.image.specs.Layout.{values, widths, fromNumbers, image, fields}
+use Rattle.words.proofs.Groups.{recodes, Even, parts, fours, recode-groups, parts-all, parts-fit}
+use Rattle.image.specs.Layout.{widths, fromNumbers, fields}
 use Rattle.image.specs.Helpers.InWords.{headWidths, sizesWidths, doneWidths, ofWords}
 
 -- ---- words of bytes
@@ -62,30 +60,8 @@ one = 32 ∷ []
 abbrev words : List (List ℕ)
 words = headWidths ∷ one ∷ one ∷ one ∷ one ∷ one ∷ one ∷ one ∷ sizesWidths ∷ doneWidths ∷ one ∷ []
 
-abbrev wordsOf : Fields → List (List ℕ)
-wordsOf f =
-    part (values f) 0 8 ∷ (f .control ∷ []) ∷ (f .pointer ∷ []) ∷ (f .base ∷ []) ∷ (f .window ∷ []) ∷ (f .address ∷ []) ∷ (f .source ∷ [])
-    ∷ (f .destination ∷ []) ∷ part (values f) 15 3 ∷ part (values f) 18 3 ∷ (f .faultat ∷ []) ∷ []
-
-alike : (f : Fields) → Alike words (wordsOf f)
-alike f = (refl, (refl, (refl, (refl, (refl, (refl, (refl, (refl, (refl, (refl, (refl, tt)))))))))))
-
-even : Even words (fours words)
+even : Even (fours words) words
 even = (refl, (refl, (refl, (refl, (refl, (refl, (refl, (refl, (refl, (refl, (refl, tt)))))))))))
-
-odd : Even (fours words) words
-odd = (refl, (refl, (refl, (refl, (refl, (refl, (refl, (refl, (refl, (refl, (refl, tt)))))))))))
-
--- the image is the bytes of its words
-pub image-words : (f : Fields) → Fit widths (values f)
-    → image f ≡ wordBytes MostFirst (join headWidths (part (values f) 0 8) ∷ f .control ∷ f .pointer ∷ f .base ∷ f .window ∷ f .address ∷ f .source
-    ∷ f .destination ∷ join sizesWidths (part (values f) 15 3) ∷ join doneWidths (part (values f) 18 3) ∷ f .faultat ∷ [])
-unfolding image
-image-words f p =
-    let singles : joins words (wordsOf f) ≡ join headWidths (part (values f) 0 8) ∷ f .control ∷ f .pointer ∷ f .base ∷ f .window ∷ f .address ∷ f .source
-    ∷ f .destination ∷ join sizesWidths (part (values f) 15 3) ∷ join doneWidths (part (values f) 18 3) ∷ f .faultat ∷ [] = simp (mul-one, add-zero) in
-    recode-groups words (fours words) (wordsOf f) even (fits-of words (wordsOf f) (alike f) p)
-    ∙ recodes-words words (wordsOf f) (alike f) ∙ ap (wordBytes MostFirst) singles
 
 -- the fields are those of the image's words
 module _ (xs : List ℕ) (l : length xs ≡ 44) (g : AllBytes xs) where
@@ -93,7 +69,7 @@ module _ (xs : List ℕ) (l : length xs ≡ 44) (g : AllBytes xs) where
   unfolding fields
   cut =
       ap (λ (ys : List ℕ). fromNumbers (recode (bytes 44) widths ys)) (sym (parts-all xs (fourEach words) l))
-      ∙ ap fromNumbers (recode-groups (fours words) words (parts xs (fourEach words)) odd (parts-fit xs (fourEach words) (omega arith) g))
+      ∙ ap fromNumbers (recode-groups (fours words) words (parts xs (fourEach words)) even (parts-fit xs (fourEach words) (omega arith) g))
       ∙ ap fromNumbers (cut-words words xs 0 (omega arith))
 
   whole : (at : ℕ) → at + 4 ≤ 44 → numberAt MostFirst 4 xs at % 2 ^ 32 ≡ numberAt MostFirst 4 xs at

@@ -1,9 +1,8 @@
 // The saved image of a machine: 44 bytes, its fields as numbers, and the rule that each field keeps.
 ghost use mathlib.Core.Bool.{true, false};
 ghost use mathlib.Core.Path.{_≡_};
-ghost use mathlib.Core.List.{[], _∷_};
 ghost use lib.ListN.{length};
-ghost use Rattle.words.specs.Numbers.{join, Fit};
+ghost use Rattle.words.specs.Numbers.{Fit};
 ghost use Rattle.words.specs.Promise.{Gives, Leaves};
 ghost use Rattle.words.specs.Slices.{numberAt};
 ghost use Rattle.words.specs.declared.Order.the-variants.{MostFirst};
@@ -11,7 +10,7 @@ ghost use Rattle.bus.specs.Window.{keepsLimits};
 ghost use Rattle.descriptor.specs.Looking.{spotOf, stands};
 ghost use Rattle.image.specs.Layout.{values, widths, image, fields};
 ghost use Rattle.image.specs.Helpers.ByPhase.{keptAt, always, byPhase};
-ghost use Rattle.image.specs.Helpers.InWords.{headWidths, sizesWidths, doneWidths, ofWords};
+ghost use Rattle.image.specs.Helpers.InWords.{ofWords};
 ghost use Rattle.image.specs.Rules.{working, zeroOutside, phaseKept, faultKept, statusKept, controlKept, addressKept, sizeKept, dcontrolKept, errorsKept, asked, movedKept, eopKept, rules, firstFalse, lowestBroken, keepsRules};
 ghost use Rattle.image.specs.Helpers.WasPut.{fits, ImageWasPut};
 ghost use Rattle.image.specs.Promise.{ImageWasRead, Wrote};
@@ -25,8 +24,8 @@ use descriptor::spot_of;
 use regs::Control;
 use regs::Status;
 use words::Order;
-use words::flag;
 use words::has;
+use words::packer::Packer;
 
 // The image's fields in layout order. A field of one bit is a bool, so that it fits by its type.
 pub struct Fields {
@@ -337,78 +336,36 @@ pub fn keeps(f: Fields) -> bool
     idle_kept(f)
 }
 
-// The first word's fields side by side, in order.
-fn head(
-    edition: u8,
-    mode: u8,
-    phase: u8,
-    armed: u8,
-    pending: u8,
-    fault: u8,
-    status: u8,
-    count: u8,
-) -> u32
-    requires { ⌜ Fit headWidths (edition ∷ mode ∷ phase ∷ armed ∷ pending ∷ fault ∷ status ∷ count ∷ []) ⌝ }
-    ensures { λ r. ⌜ r ≡ join headWidths (edition ∷ mode ∷ phase ∷ armed ∷ pending ∷ fault ∷ status ∷ count ∷ []) ⌝ }
-{
-    let w = edition as u32;
-    let w = w * 4 + mode as u32;
-    let w = w * 8 + phase as u32;
-    let w = w * 2 + armed as u32;
-    let w = w * 2 + pending as u32;
-    let w = w * 32 + fault as u32;
-    let w = w * 256 + status as u32;
-    w * 256 + count as u32
-}
-
-// The ninth word's.
-fn sizes(size: u16, dcontrol: u8, errors: u8) -> u32
-    ensures { λ r. ⌜ r ≡ join sizesWidths (size ∷ dcontrol ∷ errors ∷ []) ⌝ }
-{
-    let w = size as u32;
-    let w = w * 256 + dcontrol as u32;
-    w * 256 + errors as u32
-}
-
-// The tenth word's.
-fn done(moved: u16, eop: u8, zero15: u16) -> u32
-    requires { ⌜ Fit doneWidths (moved ∷ eop ∷ zero15 ∷ []) ⌝ }
-    ensures { λ r. ⌜ r ≡ join doneWidths (moved ∷ eop ∷ zero15 ∷ []) ⌝ }
-{
-    let w = moved as u32;
-    let w = w * 2 + eop as u32;
-    w * 0x8000 + zero15 as u32
-}
-
-// Writes the fields of an image, each on its line, in order.
+// Writes the fields of an image: the layout's table, line by line.
 fn pack(f: Fields, to: &mut [u8])
     requires { ⌜ length (now to) ≡ 44 ⌝ }
     requires { ⌜ Fit widths (values f) ⌝ }
     ensures { λ _. ⌜ Leaves (image f) (now (to .exit)) ⌝ }
 {
-    let words = [
-        head(
-            f.edition,
-            f.mode,
-            f.phase,
-            flag(f.armed),
-            flag(f.pending),
-            f.fault,
-            f.status,
-            f.count,
-        ),
-        f.control,
-        f.pointer,
-        f.base,
-        f.window,
-        f.address,
-        f.source,
-        f.destination,
-        sizes(f.size, f.dcontrol, f.errors),
-        done(f.moved, flag(f.eop), f.zero15),
-        f.faultat,
-    ];
-    words::put_words(Order::MostFirst, to, 0, &words);
+    Packer::new()
+        .put8(4, f.edition)
+        .put8(2, f.mode)
+        .put8(3, f.phase)
+        .put1(1, f.armed)
+        .put1(1, f.pending)
+        .put8(5, f.fault)
+        .put8(8, f.status)
+        .put8(8, f.count)
+        .put32(32, f.control)
+        .put32(32, f.pointer)
+        .put32(32, f.base)
+        .put32(32, f.window)
+        .put32(32, f.address)
+        .put32(32, f.source)
+        .put32(32, f.destination)
+        .put16(16, f.size)
+        .put8(8, f.dcontrol)
+        .put8(8, f.errors)
+        .put16(16, f.moved)
+        .put1(1, f.eop)
+        .put16(15, f.zero15)
+        .put32(32, f.faultat)
+        .write(to);
 }
 
 // The fields that eleven words hold, each on its line, in order.

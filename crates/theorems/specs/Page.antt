@@ -3,7 +3,7 @@
 -- those of image_rows in its specs/Rows.antt, and those of sgdma beside the promises, in its specs/Calls.antt. What else a reader
 -- believes are the definitions that the statements use, all of them in specs/.
 -- Assumes nothing.
-use Rattle.words.specs.Theorems.{RecodeBack, RowBack, RowThere}
+use Rattle.words.specs.Theorems.{RecodeBack, FieldsPacked, RowBack, RowThere}
 use Rattle.bus.specs.Theorems.{LocatedIs}
 use Rattle.image.specs.Theorems.{ReadExactly, FieldTold}
 use Rattle.image_rows.specs.Rows.{RowsHold, SampleWritten, SampleRead}
@@ -272,6 +272,10 @@ build-after-read = Rattle.descriptor.proofs.RoundTrip.build-after-read
 -- Numbers of any widths, side by side, read at other widths and back are the same numbers.
 pub recode-back : RecodeBack
 recode-back = Rattle.words.proofs.Recode.recode-back
+
+-- What a packer writes of fields that were put into it one after the other is the fields side by side.
+pub fields-packed : FieldsPacked
+fields-packed = Rattle.words.proofs.Packing.fields-packed
 
 -- A row of numbers in bytes, in either order, comes back from its bytes.
 pub row-back : RowBack

@@ -1,16 +1,14 @@
--- A long run of fields, read in groups that end at the same bits. With it a packer works a word at a time, and never meets
+-- A long run of fields, read in groups that end at the same bits. With it a reader works a word at a time, and never meets
 -- the one long number.
 -- Assumes nothing.
 use Prim.Native.Nat.{ℕ, _+_, _≤_}
 use mathlib.Core.Path.{_≡_, refl, sym, ap, _∙_, subst}
 use mathlib.Core.List.{List, [], _∷_, _++_, map}
-use native.Mathlib.Nat.{suc-ne-zero, suc-inj}
+use native.Mathlib.Nat.{suc-ne-zero}
 use native.Mathlib.Omega.{arith}
 use lib.ListN.{length, take, drop, take-append-drop, length-drop}
 use lib.Seq.{length-take-le}
-use Rattle.words.specs.declared.Order.the-variants.{MostFirst}
-use Rattle.words.specs.Numbers.{total, join, recode, bytes, Fit}
-use Rattle.words.specs.Orders.{wordBytes}
+use Rattle.words.specs.Numbers.{total, recode, bytes, Fit}
 use Rattle.words.specs.Slices.{AllBytes}
 use Rattle.words.proofs.Recode.{total-append, recode-append}
 use Rattle.words.proofs.Bytes.{bytes-fit, take-bytes, drop-bytes}
@@ -39,19 +37,6 @@ Fits [] [] = Unit
 Fits [] (v ∷ vs) = ⊥
 Fits (f ∷ fs) [] = ⊥
 Fits (f ∷ fs) (v ∷ vs) = Fit f v × Fits fs vs
-
--- each run's number
-abbrev pub joins : List (List ℕ) → List (List ℕ) → List ℕ
-joins [] vss = []
-joins (f ∷ fs) [] = []
-joins (f ∷ fs) (v ∷ vs) = join f v ∷ joins fs vs
-
--- as many values in each run as widths
-abbrev pub Alike : List (List ℕ) → List (List ℕ) → Type 0
-Alike [] [] = Unit
-Alike [] (v ∷ vs) = ⊥
-Alike (f ∷ fs) [] = ⊥
-Alike (f ∷ fs) (v ∷ vs) = (length v ≡ length f) × Alike fs vs
 
 -- the parts of xs of these sizes, one after the other
 abbrev pub parts : List ℕ → List ℕ → List (List ℕ)
@@ -94,25 +79,7 @@ parts-all (x ∷ xs) [] e = absurd (suc-ne-zero (length xs) e)
 parts-all xs (n ∷ ns) e =
     rw (parts-all (drop n xs) ns (simp length-drop (omega arith))) (take-append-drop n xs)
 
-pub fit-both : (ws us vs xs : List ℕ) → length vs ≡ length ws → Fit (ws ++ us) (vs ++ xs) → Fit ws vs × Fit us xs
-fit-both [] us [] xs e p = (tt, p)
-fit-both [] us (v ∷ vs) xs e p = absurd (suc-ne-zero (length vs) e)
-fit-both (w ∷ ws) us [] xs e p = absurd (suc-ne-zero (length ws) (sym e))
-fit-both (w ∷ ws) us (v ∷ vs) xs e p =
-    let both = fit-both ws us vs xs (suc-inj e) (p .1) in
-    ((p .0, both .0), both .1)
-
-pub fits-of : (fs vss : List (List ℕ)) → Alike fs vss → Fit (concat fs) (concat vss) → Fits fs vss
-fits-of [] [] e p = tt
-fits-of (f ∷ fs) (v ∷ vs) e p =
-    let both = fit-both f (concat fs) v (concat vs) (e .0) p in
-    (both .0, fits-of fs vs (e .1) (both .1))
-
 -- runs of 32 bits, at the widths of bytes
 abbrev pub fours : List (List ℕ) → List (List ℕ)
 fours [] = []
 fours (f ∷ fs) = bytes 4 ∷ fours fs
-
-pub recodes-words : (fs vss : List (List ℕ)) → Alike fs vss → recodes fs (fours fs) vss ≡ wordBytes MostFirst (joins fs vss)
-recodes-words [] [] e = refl
-recodes-words (f ∷ fs) (v ∷ vs) e = ap (λ (r : List ℕ). recode f (bytes 4) v ++ r) (recodes-words fs vs (e .1))

@@ -5,7 +5,7 @@ use mathlib.Core.Path.{_≡_, refl, sym, ap, _∙_}
 use mathlib.Core.List.{List, [], _∷_, _++_, append-assoc, append-nil}
 use native.Mathlib.Nat.{zero-add, add-assoc, add-zero, mul-one, sub-zero, zero-sub, suc-sub-suc}
 use native.Mathlib.Omega.{arith}
-use lib.ListN.{length, take, drop, getD, length-append, length-drop, drop-of-length-le, take-append-drop}
+use lib.ListN.{length, take, drop, getD, set, length-append, length-drop, drop-of-length-le, take-append-drop}
 use lib.Seq.{take-at, drop-at, drop-drop, drop-cons, sets, sets-eq, length-take-le, take-take, take-nil}
 use borrow.Author.Tests.{le-leb, lt-leb}
 use Rattle.words.specs.declared.Order.{Order}
@@ -40,6 +40,9 @@ pub put-all : (xs ys : List ℕ) → length ys ≡ length xs → putAt xs 0 ys �
 put-all xs ys l =
     put-in xs 0 ys (omega arith) ∙ rw (zero-add (length ys), drop-of-length-le xs {i = length ys} (omega arith)) (append-nil ys)
 
+pub put-none : (xs : List ℕ) (at : ℕ) → put xs at [] ≡ xs
+put-none xs at = rw (add-zero at) (take-append-drop at xs)
+
 -- two puts, the second where the first ended, are one
 pub put-put : (xs : List ℕ) (at : ℕ) (ys zs : List ℕ) → at + length ys ≤ length xs
     → put (put xs at ys) (at + length ys) zs ≡ put xs at (ys ++ zs)
@@ -56,6 +59,13 @@ put-put xs at ys zs h =
 -- bytes stored one after the other are put
 pub sets-put : (xs : List ℕ) (at : ℕ) (ys : List ℕ) → at + length ys ≤ length xs → sets xs at ys ≡ put xs at ys
 sets-put xs at ys h = sets-eq ys xs at h ∙ append-assoc (take at xs) ys (drop (at + length ys) xs)
+
+-- one byte more, stored where those before it end
+pub put-next : (xs : List ℕ) (at : ℕ) (ys : List ℕ) (z : ℕ) → at + length ys < length xs
+    → set (put xs at ys) (at + length ys) z ≡ put xs at (ys ++ (z ∷ []))
+put-next xs at ys z h =
+    let l = length-put xs at ys (omega arith) in
+    sets-put (put xs at ys) (at + length ys) (z ∷ []) (omega arith) ∙ put-put xs at ys (z ∷ []) (omega arith)
 
 -- n elements of xs, from the place `at` on
 abbrev pub elements : List ℕ → ℕ → ℕ → List ℕ

@@ -4,4 +4,5 @@ pub mod Numbers
 pub mod Bits
 pub mod Orders
 pub mod Slices
+pub mod Packed
 pub mod Theorems

@@ -2,6 +2,8 @@
 //
 // Every call is total: a number that would not stand wholly in the slice is read as 0 and not written. The end `at + n` is
 // never summed, so that it cannot wrap.
+pub mod packer;
+
 ghost use mathlib.Core.List.{[], _∷_};
 ghost use mathlib.Core.Path.{_≡_};
 ghost use Prim.Native.Nat.{_/_, _%_, _<_};

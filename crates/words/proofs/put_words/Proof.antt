@@ -1,17 +1,16 @@
 use Prim.Native.Nat.{ℕ, _+_, _*_, _-_, _≤_, _<_}
 use mathlib.Core.Path.{_≡_, sym, ap, _∙_}
 use mathlib.Core.List.{List, [], _∷_, _++_, append-nil}
-use native.Mathlib.Nat.{add-zero}
 use native.Mathlib.Numerals.{add-one}
 use native.Mathlib.Omega.{arith}
-use lib.ListN.{length, take, getD, take-append-drop}
+use lib.ListN.{length, take, getD}
 use lib.Seq.{take-suc, take-all, length-take-le}
 use borrow.Author.Needs.{needs}
 use Rattle.words.specs.declared.Order.{Order}
 use Rattle.words.specs.Orders.{bytesOf, wordBytes}
 use Rattle.words.specs.Slices.{put, putAt}
 use Rattle.words.proofs.Orders.{length-bytes, length-words, words-append}
-use Rattle.words.proofs.Slices.{put-in, put-out, put-put, length-put}
+use Rattle.words.proofs.Slices.{put-in, put-out, put-none, put-put, length-put}
 use Rattle.words.proofs.put_words.Statement.{statement}
 use Rattle.words.proofs.put_words.Tie as tie
 
@@ -21,9 +20,6 @@ Inv-loop order to₀ at ws i₀ to i = (i ≤ length ws) × (length to ≡ lengt
 
 abbrev μ-loop : tie.MeasureT-loop
 μ-loop order to₀ at ws i₀ to i = length ws - i
-
-none : (xs : List ℕ) (at : ℕ) → xs ≡ put xs at []
-none xs at = rw (add-zero at) (sym (take-append-drop at xs))
 
 -- what one turn adds
 turn : (order : Order) (xs ys : List ℕ) (at : ℕ) (ws : List ℕ) (i : ℕ) → i < length ws → at + 4 * length ws ≤ length xs
@@ -52,7 +48,7 @@ returns-2 : tie.Need-returns-2 Inv-loop μ-loop
 returns-2 c = record { lent = sym (put-out _ _ _ (omega (arith, length-words (c .before .before .before .before .args .order) (c .before .before .before .before .args .ws .now)))) }
 
 loop-holds : tie.Need-loop-holds Inv-loop μ-loop
-loop-holds c = let a = c .before .before .before .before .args in (search needs, search needs, none (a .to .now) (a .at))
+loop-holds c = let a = c .before .before .before .before .args in (search needs, search needs, sym (put-none (a .to .now) (a .at)))
 
 mul-put-u32 : tie.Need-mul-put-u32 Inv-loop μ-loop
 mul-put-u32 c = search needs
