@@ -32,6 +32,17 @@ module _ (w : World) where
     unfolding run
     run-taken n = rw e
 
+-- a run of no step ends where it began
+pub run-nowhere : (b : ℕ) (w : World) → run b w .steps ≡ 0 → run b w .world ≡ w
+run-nowhere b w none = by (step w) b refl none
+  where
+    by : (x : Answer) (n : ℕ) → step w ≡ x → run n w .steps ≡ 0 → run n w .world ≡ w
+    by (stopped r) n e none = ap (λ (x : Report). x .world) (run-stopped w r e n)
+    by (taken v) zero e none = ap (λ (x : Report). x .world) (run-spent w v e)
+    by (taken v) (suc n) e none =
+        let some : suc (run n v .steps) ≡ 0 = sym (ap (λ (x : Report). x .steps) (run-taken w v e n)) ∙ none in
+        absurd (omega arith)
+
 -- ---- a run of a + b is a run of a followed by one of b
 
 on-zero : (r : Report) → onTop 0 r ≡ r

@@ -23,11 +23,12 @@ use Rattle.machine.specs.Run.{run, Lent, Returned, asLent, Served, serves, refu
 use Rattle.machine.specs.Helpers.Resume.{readyOf, Resumed}
 use Rattle.machine.proofs.Answers.{was-loaded}
 use Rattle.machine.proofs.StepLaws.{took-since}
-use Rattle.machine.proofs.RunLaws.{run-tells}
+use Rattle.machine.proofs.RunLaws.{run-tells, run-nowhere}
 use Rattle.machine.proofs.Outcomes.{resumed-runs}
 use Rattle.met.specs.Met as met
 use Rattle.met.proofs.InUse.{met-keeps}
-use Rattle.sgdma.specs.Calls.{isSize, runIn, runCall, ranOver, reportOver, returnedIn, RunMade}
+use Rattle.met.proofs.RoundTrip.{loaded-typed, loads-exactly}
+use Rattle.sgdma.specs.Calls.{imageOf, isSize, runIn, runCall, ranOver, reportOver, returnedIn, RunMade}
 use Rattle.sgdma.proofs.Opened.{first-wrong, second-wrong, sizes-right, keeps-loaded}
 
 -- ---- what a run's answer is known to be
@@ -60,6 +61,16 @@ module _ {m : Machine} {l : Lent} {b : Returned} {budget : ℕ} {a : RunAnswer} 
       let done : HasRun m l budget (ran.Done r) b =
       subst (λ (x : RunAnswer). HasRun m l budget x b) e (resumed-runs m l budget a b (keeps-loaded xs d) h) in
       met-keeps (r .machine) (met.ran (met.loaded (was-loaded (sym d))) g i done)
+
+  -- one of no step leaves the machine whose image it is
+  pub ran-nowhere : (xs : List ℕ) → loadOf xs ≡ Good m → AllBytes xs → r .steps ≡ 0 → xs ≡ imageOf (r .machine)
+  ran-nowhere xs d g none =
+      let w = worldOf m l in
+      let is : r ≡ ranAs (l .used) w (run budget w) = done-is l (servedIf (readyOf m) m l) w budget r (sym e ∙ h .answer) in
+      let still : run budget w .world ≡ w = run-nowhere budget w (sym (ap (λ (x : Ran). x .steps) is) ∙ none) in
+      let same : r .machine ≡ m = ap (λ (x : Ran). x .machine) is ∙ ap (λ (v : World). v .machine) still in
+      let loaded = was-loaded (sym d) in
+      loads-exactly xs m g (loaded-typed loaded) .0 loaded .1 ∙ ap imageOf (sym same)
 
 -- ---- sgdma_run
 

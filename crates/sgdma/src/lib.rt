@@ -134,11 +134,12 @@ pub extern "C" fn sgdma_line(image: &[u8], value: &mut [u8]) -> u32
     0
 }
 
-// The image and the report after a run.
+// The image and the report after a run. One that took no step leaves the image that stands there.
 fn put_run(r: Ran, image: &mut [u8], report: &mut [u8])
     requires { ⌜ keeps (r .machine) ≡ true ⌝ }
     requires { ⌜ (r .taken < 4294967296) × (r .made < 4294967296) ⌝ }
     requires { ⌜ (length (now image) ≡ 44) × (length (now report) ≡ 18) ⌝ }
+    requires { ⌜ (r .steps ≡ 0 → now image ≡ imageOf (r .machine)) ⌝ }
     ensures { λ _. ⌜ Leaves (ranOver (Done r) []) (now (image .exit)) ⌝ }
     ensures { λ _. ⌜ Leaves (reportOver (Done r) []) (now (report .exit)) ⌝ }
 {
@@ -148,7 +149,9 @@ fn put_run(r: Ran, image: &mut [u8], report: &mut [u8])
     let made = r.made as u32;
     let number = reason.number();
     put_report(report, number, r.steps, taken, made, r.used);
-    put_image(machine, image);
+    if r.steps != 0 {
+        put_image(machine, image);
+    }
 }
 
 // Runs the core over the lent window, beats, output and ledger, of which `used` records are used, and writes its image and the 18

@@ -16,7 +16,7 @@ put-report-requires : tie.Need-put-report-requires
 put-report-requires c κs = search needs
 
 put-image-requires : tie.Need-put-image-requires
-put-image-requires c κs = search needs
+put-image-requires c κs = let start = c .before .before .before .before .before .before .before .before .before .before .before .before .before in (start .pre .0, start .pre .1 .1 .0 .0)
 
 same-length : tie.Need-same-length
 same-length c = search needs
@@ -26,10 +26,16 @@ same-length-2 c = search needs
 
 returns : tie.Need-returns
 returns c =
-    let put = c .before .before .before .before .before .before in
-    let number = put .before .before in
-    let start = number .before .before .before .before .before .before in
-    (record { lent = c .before .before .put-image .ensures .lent }, report-told (start .args .r) _ (start .args .report .now) (start .pre .1 .1 .1) (number .number .ensures .value) (put .put-report .ensures))
+    let start = c .before .before .before .before .before .before .before .before .before .before .before .before .before .before .before .before in
+    (record { lent = c .before .before .put-image .ensures .lent }, report-told (start .args .r) _ (start .args .report .now) (start .pre .1 .1 .0 .1) (c .before .before .before .before .before .before .before .before .before .before .number .ensures .value) (c .before .before .before .before .before .before .before .before .put-report .ensures))
+
+same-length-3 : tie.Need-same-length-3
+same-length-3 c = search needs
+
+returns-2 : tie.Need-returns-2
+returns-2 c =
+    let start = c .before .before .before .before .before .before .before .before .before .before .before .before in
+    (record { lent = start .pre .1 .1 .1 (c .if1 .left) }, report-told (start .args .r) _ (start .args .report .now) (start .pre .1 .1 .0 .1) (c .before .before .before .before .before .before .number .ensures .value) (c .before .before .before .before .put-report .ensures))
 
 pub put-run-spec : {M : Type 1} → statement M
 put-run-spec =
@@ -42,4 +48,6 @@ put-run-spec =
     put-image-requires
     same-length
     same-length-2
-    returns)
+    returns
+    same-length-3
+    returns-2)

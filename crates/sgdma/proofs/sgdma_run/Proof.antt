@@ -1,4 +1,4 @@
-use Rattle.sgdma.proofs.Running.{ran-fits, ran-keeps, run-short, report-short, run-spoiled, run-answers}
+use Rattle.sgdma.proofs.Running.{ran-fits, ran-keeps, ran-nowhere, run-short, report-short, run-spoiled, run-answers}
 use Rattle.words.proofs.Bytes.{all-bytes}
 use mathlib.Core.Path.{refl, sym, ap, _∙_}
 use Rattle.machine.specs.Saved.{loadNumber}
@@ -51,7 +51,13 @@ enum-known-answer-2 c = search needs
 put-run-requires : tie.Need-put-run-requires
 put-run-requires c κs =
     let s = c .before .before .before .before .before .before .before .before .before .before .before .before .before .before .before .before .before .before .before .before .before .before .before .before .before .before .before .before in
-    (ran-keeps (c .before .before .before .before .before .before .before .before .before .before .before .resume .ensures) (c .before .before .before .answer2 .given .1) (s .args .image .now) (sym (c .before .before .before .before .before .before .before .before .before .before .before .before .before .before .before .before .before .before .load .ensures .answer) ∙ c .before .before .before .before .before .before .before .before .before .before .before .before .before .before .before .before .loaded .given .1) (all-bytes (s .args .window .now) (λ i. c .before .before .before .before .before .before .before .before .before .before .before .before .before .before .before .before .before .before .before .before .before .before .before .before .before .before .slice-known2 .given i .fits)) (all-bytes (s .args .beats .now) (λ i. c .before .before .before .before .before .before .before .before .before .before .before .before .before .before .before .before .before .before .before .before .before .before .before .before .before .shared-slice-known .given i .fits)), (ran-fits (c .before .before .before .before .before .before .before .before .before .before .before .resume .ensures) (c .before .before .before .answer2 .given .1) (s .fits .budget .fits), (c .before .before .before .before .before .before .before .before .before .before .before .before .before .before .before .before .before .before .before .before .before .if1 .left, c .before .before .before .before .before .before .before .before .before .before .before .before .before .before .before .before .before .before .before .before .if2 .left)))
+    let ran = c .before .before .before .before .before .before .before .before .before .before .before .resume .ensures in
+    let done = c .before .before .before .answer2 .given .1 in
+    let xs = s .args .image .now in
+    let loaded = sym (c .before .before .before .before .before .before .before .before .before .before .before .before .before .before .before .before .before .before .load .ensures .answer) ∙ c .before .before .before .before .before .before .before .before .before .before .before .before .before .before .before .before .loaded .given .1 in (
+      ran-keeps ran done xs loaded (all-bytes (s .args .window .now) (λ i. c .before .before .before .before .before .before .before .before .before .before .before .before .before .before .before .before .before .before .before .before .before .before .before .before .before .before .slice-known2 .given i .fits)) (all-bytes (s .args .beats .now) (λ i. c .before .before .before .before .before .before .before .before .before .before .before .before .before .before .before .before .before .before .before .before .before .before .before .before .before .shared-slice-known .given i .fits)),
+      (ran-fits ran done (s .fits .budget .fits), ((c .before .before .before .before .before .before .before .before .before .before .before .before .before .before .before .before .before .before .before .before .before .if1 .left, c .before .before .before .before .before .before .before .before .before .before .before .before .before .before .before .before .before .before .before .before .if2 .left), ran-nowhere ran done xs loaded (all-bytes xs (λ i. c .before .before .before .before .before .before .before .before .before .before .before .before .before .before .before .before .before .before .before .before .before .before .before .before .before .before .before .slice-known .given i .fits)))),
+    )
 
 same-length-2 : tie.Need-same-length-2
 same-length-2 c = search needs
