@@ -22,13 +22,14 @@ struct scene {
     const char *title;
     const char *see;
     /* What is given, beside the chain and a stream of all samples. */
-    uint32_t control;    /* beside RUN and the enables */
-    size_t silent_after; /* the samples that come, where not all do */
-    size_t marked;       /* the sample whose beat is marked, */
-    uint32_t mark;       /* and with what */
-    uint32_t landing;    /* where the last packet is to land, where elsewhere */
-    size_t saved_after;  /* the slice after which the core is saved */
-    size_t room;         /* the records that are lent at first, where not all are */
+    uint32_t control;     /* beside RUN and the enables */
+    size_t silent_after;  /* the samples that come, where not all do */
+    size_t marked;        /* the sample whose beat is marked, */
+    uint32_t mark;        /* and with what */
+    uint32_t landing;     /* where the last packet is to land, where elsewhere */
+    size_t saved_after;   /* the slice after which the core is saved */
+    size_t room;          /* the records that are lent at first, where not all are */
+    size_t spoiled_after; /* the slice after which the image is spoiled */
     /* What must come of it. */
     uint32_t reason;
     uint32_t status; /* all that was read at interrupts */
@@ -106,6 +107,14 @@ static const struct scene SCENES[] = {
         .status = ALL_DONE,
         .found = {FULL, FULL, FULL, FULL},
     },
+    {
+        .title = "A spoiled image",
+        .see = "A stray write: refused, and the field is told, until all are put back.",
+        .spoiled_after = 2,
+        .reason = SGDMA_REASON_ENDED,
+        .status = ALL_DONE,
+        .found = {FULL, FULL, FULL, FULL},
+    },
 };
 
 enum { SCENE_COUNT = sizeof SCENES / sizeof *SCENES };
@@ -116,6 +125,7 @@ struct outcome {
     uint32_t status;
     uint32_t taken; /* beats, in all slices */
     bool recorded;  /* after each slice, as many descriptors were done as records used */
+    bool mended;    /* of a spoiled image the fields were told, the lowest first */
     struct fault fault;
     struct found found[DESCRIPTORS];
     struct ledger ledger;
@@ -163,6 +173,40 @@ static void move_over(struct firmware *to, struct firmware *from)
            sizeof to->core.image, sizeof to->memory, recorded(to));
 }
 
+/* The fields that a stray write spoils, and the bytes where they stand. */
+static const struct spoiled {
+    uint32_t field;
+    size_t at, size;
+} SPOILED[] = {
+    {SGDMA_FIELD_STATUS, 2, 1},
+    {SGDMA_FIELD_COUNT, 3, 1},
+    {SGDMA_FIELD_CONTROL, 4, 4},
+};
+
+/*
+ * Spoils the image, and puts back the field that is told, as it was before, until
+ * the core is no longer refused. Whether each was told, the lowest first.
+ */
+static bool spoil_and_mend(struct core *core)
+{
+    uint8_t before[SGDMA_IMAGE_SIZE];
+    bool as = true;
+
+    memcpy(before, core->image, sizeof before);
+    memset(core->image + 2, 0xFF, 6);
+    printf("    spoiled: 0xFF is written over bytes 2 to 7 of the image\n");
+    for (size_t i = 0; i < sizeof SPOILED / sizeof *SPOILED; i++) {
+        const struct spoiled *spoiled = &SPOILED[i];
+        uint32_t refused = core_look(core);
+
+        show_refused(refused);
+        as = as && refused == SGDMA_BAD_IMAGE + 256 * spoiled->field;
+        memcpy(core->image + spoiled->at, before + spoiled->at, spoiled->size);
+    }
+    printf("    mended: each field told is put back from a copy; the core goes on\n");
+    return as && core_look(core) == SGDMA_DONE;
+}
+
 /* Whether the firmware runs another slice; where the ledger is full, it lends more. */
 static bool goes_on(struct firmware *firmware, uint32_t reason)
 {
@@ -184,7 +228,7 @@ static struct firmware *run(const struct scene *scene, struct firmware both[2],
 
     show_slice_heading();
     outcome->status = outcome->taken = 0;
-    outcome->recorded = true;
+    outcome->recorded = outcome->mended = true;
     do {
         slice = firmware_slice(firmware);
         number++;
@@ -196,6 +240,8 @@ static struct firmware *run(const struct scene *scene, struct firmware both[2],
             move_over(&both[1], firmware);
             firmware = &both[1];
         }
+        if (number == scene->spoiled_after)
+            outcome->mended = spoil_and_mend(&firmware->core);
     } while (goes_on(firmware, slice.ran.reason));
     outcome->reason = slice.ran.reason;
     outcome->fault = core_fault(&firmware->core);
@@ -225,7 +271,7 @@ static const char *compared(bool same)
     return same ? "the same" : "DIFFERS";
 }
 
-/* Whether the scene without the saving comes to the same image, memory and ledger. */
+/* Whether the scene played without a break comes to the same image, memory, ledger. */
 static bool same_end(const struct scene *scene, const struct firmware *end)
 {
     struct firmware whole;
@@ -287,7 +333,7 @@ static bool chain_as(const struct outcome *outcome, const struct must *must)
 static bool as_it_must_be(const struct scene *scene, const struct outcome *outcome)
 {
     return outcome->reason == scene->reason &&
-           outcome->status == scene->status &&
+           outcome->status == scene->status && outcome->mended &&
            outcome->fault.code == scene->fault.code &&
            outcome->fault.address == scene->fault.address &&
            chain_as(outcome, scene->found);
@@ -311,7 +357,7 @@ static bool play(size_t number, const struct scene *scene)
     printf("\n");
     show_ledger(outcome.ledger, outcome.taken);
     as = as_it_must_be(scene, &outcome);
-    if (scene->saved_after)
+    if (scene->saved_after || scene->spoiled_after)
         as = same_end(scene, end) && as;
     if (!as)
         printf("    NOT AS IT MUST BE\n");

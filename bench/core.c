@@ -7,7 +7,8 @@
 static void must_be_done(const char *call, uint32_t number)
 {
     if (number != SGDMA_DONE) {
-        fprintf(stderr, "%s was refused: %" PRIu32 "\n", call, number);
+        fprintf(stderr, "%s was refused: %" PRIu32 ", field %" PRIu32 "\n", call,
+                SGDMA_REFUSAL(number), SGDMA_FIELD(number));
         exit(2);
     }
 }
@@ -119,6 +120,13 @@ struct fault core_fault(const struct core *core)
     fault.code = core->image[SGDMA_IMAGE_FAULT_AT] & SGDMA_IMAGE_FAULT_MASK;
     fault.address = number_at(core->image + SGDMA_IMAGE_FAULT_ADDRESS_AT, 4);
     return fault;
+}
+
+uint32_t core_look(const struct core *core)
+{
+    uint8_t value[SGDMA_VALUE_SIZE];
+
+    return sgdma_line(core->image, sizeof core->image, value, sizeof value);
 }
 
 void core_build(struct core *core, uint32_t address, const struct descriptor *d)

@@ -90,6 +90,12 @@ struct ran core_run(struct core *core, struct stream in, struct stream out,
                     struct ledger ledger, uint32_t budget);
 struct fault core_fault(const struct core *core);
 
+/*
+ * Looks whether the image is good, and nothing else: SGDMA_DONE, or the refusal
+ * with its field. The one call that may be refused here.
+ */
+uint32_t core_look(const struct core *core);
+
 /* The builder takes what firmware sets; actual and status become 0. */
 void core_build(struct core *core, uint32_t address, const struct descriptor *d);
 struct descriptor core_descriptor(const struct core *core, uint32_t address);

@@ -30,6 +30,44 @@ static const struct {
     {SGDMA_STATUS_BUSY, "BUSY"},
 };
 
+#define IN_HAND "be 0 but in Move and WriteBack"
+
+/* The fields of an image that can be told, and what each must do or be. */
+static const struct {
+    const char *name;
+    const char *rule;
+} FIELDS[] = {
+    [SGDMA_FIELD_EDITION] = {"edition", "be 1"},
+    [SGDMA_FIELD_MODE] = {"mode", "be 0, 1 or 2"},
+    [SGDMA_FIELD_PHASE] = {"phase", "be 0 to 6, and Halted in mode 2 only"},
+    [SGDMA_FIELD_FAULT] =
+        {"fault code", "be 0, but in Faulted 10 to 14, and one of the mode"},
+    [SGDMA_FIELD_STATUS] =
+        {"status",
+         "have 0 in bits 5 to 7, BUSY, ERROR and EOP as phase and mode allow"},
+    [SGDMA_FIELD_COUNT] = {"count of descriptors", "be at most 254"},
+    [SGDMA_FIELD_CONTROL] =
+        {"control",
+         "have 0 in bits 18 to 31, SW_RESET as armed, RUN in Ended and Halted"},
+    [SGDMA_FIELD_WINDOW_LENGTH] =
+        {"window length", "be at most 65,536, and no more than 2^32 with base"},
+    [SGDMA_FIELD_DESCRIPTOR_ADDRESS] =
+        {"descriptor address", IN_HAND "; there a multiple of 4, inside"},
+    [SGDMA_FIELD_SOURCE] = {"source", IN_HAND},
+    [SGDMA_FIELD_DESTINATION] = {"destination", IN_HAND},
+    [SGDMA_FIELD_LENGTH] = {"length", IN_HAND "; there not 0 in modes 0 and 1"},
+    [SGDMA_FIELD_DESCRIPTOR_CONTROL] =
+        {"descriptor control", IN_HAND "; there owned"},
+    [SGDMA_FIELD_ERRORS] =
+        {"errors", IN_HAND "; there 0 in bit 7 and modes 0, 1"},
+    [SGDMA_FIELD_MOVED] =
+        {"bytes moved", IN_HAND "; there fit length and errors"},
+    [SGDMA_FIELD_EOP_SEEN] =
+        {"EOP seen", IN_HAND "; there fit the bytes moved"},
+    [SGDMA_FIELD_ZERO] = {"zero bits", "be 0"},
+    [SGDMA_FIELD_FAULT_ADDRESS] = {"fault address", "be 0 but in Faulted"},
+};
+
 /* The sign of the byte at an address where this sample must land. */
 static char sign(const struct core *core, uint32_t address, size_t number)
 {
@@ -114,6 +152,17 @@ void show_found(const struct found *found)
         printf("all %u\n", count);
     else
         printf("%zu of %u: STALE\n", found->fresh, count);
+}
+
+void show_refused(uint32_t number)
+{
+    uint32_t field = SGDMA_FIELD(number);
+
+    printf("    refused: %" PRIu32, SGDMA_REFUSAL(number));
+    if (field < sizeof FIELDS / sizeof *FIELDS && FIELDS[field].name)
+        printf(", field %" PRIu32 ": %s\n        must %s", field,
+               FIELDS[field].name, FIELDS[field].rule);
+    printf("\n");
 }
 
 static void show_record(size_t number, const struct record *record)

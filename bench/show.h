@@ -29,6 +29,9 @@ void show_slice(size_t number, const struct slice *slice);
 void show_found_heading(void);
 void show_found(const struct found *found);
 
+/* A refusal; where it is that of an image, with the field in words. */
+void show_refused(uint32_t number);
+
 /* The records used, and the sum of their bytes beside the beats taken. */
 void show_ledger(struct ledger ledger, uint32_t taken);
 

@@ -35,8 +35,9 @@
  *   may be run by two threads, or one of them by an interrupt handler.
  *
  *   A call returns SGDMA_DONE, or the number of its refusal: the first that
- *   applies in the order in which the call lists them. A refused call has
- *   changed no lent byte.
+ *   applies in the order in which the call lists them. SGDMA_BAD_IMAGE comes
+ *   with the field of the image that is wrong: see "What a call returns". A
+ *   refused call has changed no lent byte.
  *
  *   Numbers in lent bytes have the most significant byte first, in the image,
  *   the report, the value, the descriptor answer, the beats and the records of
@@ -295,49 +296,96 @@ extern "C" {
 
 /*
  * The image, 44 bytes. Firmware keeps it, copies it and lends it; the fault is
- * what it may want to read there. For the reader of a dump, by byte and bits:
+ * what it may want to read there. For the reader of a dump, its 22 fields in
+ * order: the byte in which each begins, its width in bits, the most significant
+ * first, and the rule by which a call knows that it is wrong. The phases are
+ * numbered from Rest, 0, to Faulted, 6, in the order above.
  *
- *   0   edition 4, mode 2, phase 3, armed 1, interrupt pending 1, fault code 5
- *   2   status 8, count of descriptors 8
- *   4   control 32
- *   8   next_descriptor_pointer 32
- *   12  window: base 32, length 32
- *   20  descriptor in hand: its address 32, source 32, destination 32,
- *       bytes_to_transfer 16, desc_control 8, errors 8, bytes moved 16,
- *       EOP seen 1, zero 15
- *   40  fault address 32
+ *       field               byte  bits  rule
+ *    1  edition                0     4  1
+ *    2  mode                   0     2  0, 1 or 2
+ *    3  phase                  0     3  0 to 6; Halted, 5, in mode 2 only
+ *    4  armed                  1     1  none of its own: see 9
+ *    5  interrupt pending      1     1  none
+ *    6  fault code             1     5  0, but in Faulted 10 to 14: 12 and 13 not
+ *                                       in mode 2, 14 not in mode 1
+ *    7  status                 2     8  bits 5 to 7 are 0; BUSY is 1 in Fetch,
+ *                                       Move, WriteBack and Ended, else 0; ERROR
+ *                                       and EOP_ENCOUNTERED 0 in modes 0 and 1
+ *    8  count of descriptors   3     8  at most 254
+ *    9  control                4    32  bits 18 to 31 are 0; SW_RESET is what
+ *                                       armed is; RUN is 1 in Ended and Halted
+ *   10  pointer                8    32  none
+ *   11  window: base          12    32  none of its own: see 12
+ *   12  window: length        16    32  at most 65,536, and with base no more
+ *                                       than 4,294,967,296
+ *       descriptor in hand              in Move and WriteBack as it says here,
+ *                                       in the other phases each of 13 to 20 is 0
+ *   13    its address         20    32  a multiple of 4, its 32 bytes in the window
+ *   14    source              24    32  any
+ *   15    destination         28    32  any
+ *   16    bytes_to_transfer   32    16  not 0 in modes 0 and 1
+ *   17    desc_control        34     8  OWNED_BY_HW is 1
+ *   18    errors              35     8  bit 7 is 0; all of it in modes 0 and 1
+ *   19    bytes moved         36    16  Move: fewer than are to be, and where it
+ *                                       is 0, errors are 0. WriteBack: at least 1
+ *                                       and no more than are to be
+ *   20    EOP seen            38     1  0 in Move and in modes 0 and 1. WriteBack:
+ *                                       1 where not all bytes are moved
+ *   21  zero                  38    15  0
+ *   22  fault address         40    32  0, but in Faulted any
  *
- * The phases are numbered from Rest, 0, to Faulted, 6, in the order above. An
- * image that breaks one of these rules is refused (SGDMA_BAD_IMAGE):
+ * An image that breaks one of these rules is refused (SGDMA_BAD_IMAGE), and the
+ * field is told, by its number in the table. Where several are wrong the lowest
+ * is told: put right, it gives way to the next. A rule that compares fields is
+ * at the last of them, so that the field to be mended may be an earlier one: BUSY
+ * that does not fit the phase is told as status.
  *
- *   always      edition is 1, mode at most 2, phase at most 6; base and length
- *               are a window; bits 5 to 7 of status, 18 to 31 of control and
- *               the 15 are zero; armed is SW_RESET of control; count is at
- *               most 254; BUSY is 1 exactly in Fetch, Move, WriteBack and
- *               Ended; outside mode 2, ERROR and EOP_ENCOUNTERED are 0
- *   in hand     outside Move and WriteBack all of it is zero. There, its
- *               address is a multiple of 4 with its 32 bytes in the window,
- *               OWNED_BY_HW is 1, bit 7 of errors is 0; in modes 0 and 1,
- *               bytes_to_transfer is not 0, errors and EOP seen are 0
- *   Move        fewer bytes moved than are to be; EOP seen is 0; errors are 0
- *               where no byte is moved
- *   WriteBack   at least one byte moved and no more than are to be, and either
- *               all of them or EOP seen
- *   Ended       RUN is 1
- *   Halted      RUN is 1, mode is 2
- *   Faulted     code is 10 to 14, in mode 1 not 14, in mode 2 not 12 or 13.
- *               In every other phase, code and fault address are 0
- *
- * An image that sgdma_create made keeps them, and so does what every call
+ * An image that sgdma_create made keeps the rules, and so does what every call
  * leaves of one that keeps them: SGDMA_BAD_IMAGE tells that the bytes are no
  * image, or were changed by something else.
  */
+#define SGDMA_FIELD_EDITION             UINT32_C(1)
+#define SGDMA_FIELD_MODE                UINT32_C(2)
+#define SGDMA_FIELD_PHASE               UINT32_C(3)
+#define SGDMA_FIELD_ARMED               UINT32_C(4)  /* never told */
+#define SGDMA_FIELD_PENDING             UINT32_C(5)  /* never told */
+#define SGDMA_FIELD_FAULT               UINT32_C(6)
+#define SGDMA_FIELD_STATUS              UINT32_C(7)
+#define SGDMA_FIELD_COUNT               UINT32_C(8)
+#define SGDMA_FIELD_CONTROL             UINT32_C(9)
+#define SGDMA_FIELD_POINTER             UINT32_C(10) /* never told */
+#define SGDMA_FIELD_BASE                UINT32_C(11) /* never told */
+#define SGDMA_FIELD_WINDOW_LENGTH       UINT32_C(12)
+#define SGDMA_FIELD_DESCRIPTOR_ADDRESS  UINT32_C(13)
+#define SGDMA_FIELD_SOURCE              UINT32_C(14)
+#define SGDMA_FIELD_DESTINATION         UINT32_C(15)
+#define SGDMA_FIELD_LENGTH              UINT32_C(16)
+#define SGDMA_FIELD_DESCRIPTOR_CONTROL  UINT32_C(17)
+#define SGDMA_FIELD_ERRORS              UINT32_C(18)
+#define SGDMA_FIELD_MOVED               UINT32_C(19)
+#define SGDMA_FIELD_EOP_SEEN            UINT32_C(20)
+#define SGDMA_FIELD_ZERO                UINT32_C(21)
+#define SGDMA_FIELD_FAULT_ADDRESS       UINT32_C(22)
+
 #define SGDMA_IMAGE_FAULT_AT          1    /* 8 bits, of which the code is those of the mask */
 #define SGDMA_IMAGE_FAULT_MASK        0x1F
 #define SGDMA_IMAGE_FAULT_ADDRESS_AT  40   /* 32 bits: for 10, 11 and 12 the pointer; */
                                            /* for 13 and 14 the byte's, modulo 2^32 */
 
-/* What a call returns. */
+/*
+ * What a call returns
+ *
+ * SGDMA_DONE, or the number of a refusal. SGDMA_BAD_IMAGE comes back as 8 + 256 x
+ * field, and every other as it stands. So a number r that is not SGDMA_DONE is
+ * taken apart:
+ *
+ *   SGDMA_REFUSAL(r)  which refusal it is
+ *   SGDMA_FIELD(r)    with SGDMA_BAD_IMAGE the field that is wrong, by the table
+ *                     of the image; with every other refusal 0
+ */
+#define SGDMA_REFUSAL(r)    ((r) & 255)
+#define SGDMA_FIELD(r)      ((r) >> 8)
 #define SGDMA_DONE          UINT32_C(0)
 #define SGDMA_NO_REGISTER   UINT32_C(1)  /* offset is not 0, 4 or 8 */
 #define SGDMA_BAD_MODE      UINT32_C(2)  /* mode is above 2 */
@@ -346,7 +394,7 @@ extern "C" {
 #define SGDMA_MISALIGNED    UINT32_C(5)  /* the descriptor's address is not a multiple of 4 */
 #define SGDMA_OUTSIDE       UINT32_C(6)  /* its 32 bytes are not in the window */
 #define SGDMA_BAD_SIZE      UINT32_C(7)  /* an image, value, report or answer of wrong size */
-#define SGDMA_BAD_IMAGE     UINT32_C(8)  /* the image breaks a rule of images */
+#define SGDMA_BAD_IMAGE     UINT32_C(8)  /* a field of the image is wrong: + 256 x field */
 #define SGDMA_ODD_STREAM    UINT32_C(9)  /* an odd number of beat bytes, in or out */
 #define SGDMA_BAD_LEDGER    UINT32_C(19) /* part of a record, or fewer records than are used */
 
@@ -372,7 +420,7 @@ uint32_t sgdma_create(uint8_t *image, size_t image_len,
  * Reads    image
  * Writes   value: the register, 4 bytes
  * Returns  SGDMA_BAD_SIZE     image_len is not 44 or value_len not 4
- *          SGDMA_BAD_IMAGE
+ *          SGDMA_BAD_IMAGE    + 256 x field: that field of the image is wrong
  *          SGDMA_NO_REGISTER  offset is not 0, 4 or 8
  *          SGDMA_DONE
  */
@@ -386,7 +434,7 @@ uint32_t sgdma_read_register(const uint8_t *image, size_t image_len,
  * Reads    image
  * Writes   image: the core after the write
  * Returns  SGDMA_BAD_SIZE     image_len is not 44
- *          SGDMA_BAD_IMAGE
+ *          SGDMA_BAD_IMAGE    + 256 x field: that field of the image is wrong
  *          SGDMA_NO_REGISTER  offset is not 0, 4 or 8
  *          SGDMA_DONE
  *
@@ -406,7 +454,7 @@ uint32_t sgdma_write_register(uint8_t *image, size_t image_len,
  * Reads    image
  * Writes   value: 1 where the line is up, else 0, 4 bytes
  * Returns  SGDMA_BAD_SIZE   image_len is not 44 or value_len not 4
- *          SGDMA_BAD_IMAGE
+ *          SGDMA_BAD_IMAGE  + 256 x field: that field of the image is wrong
  *          SGDMA_DONE
  */
 uint32_t sgdma_line(const uint8_t *image, size_t image_len,
@@ -424,7 +472,7 @@ uint32_t sgdma_line(const uint8_t *image, size_t image_len,
  *          first ones; what lies before and past them is unchanged
  *          report: reason, steps, beats taken, beats made, records now used
  * Returns  SGDMA_BAD_SIZE      image_len is not 44 or report_len not 18
- *          SGDMA_BAD_IMAGE
+ *          SGDMA_BAD_IMAGE     + 256 x field: that field of the image is wrong
  *          SGDMA_ODD_STREAM    beats_len or out_len is odd, in any mode
  *          SGDMA_BAD_LEDGER    ledger_len is not a multiple of 12, or is less
  *                              than 12 times used, in any mode and phase

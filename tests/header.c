@@ -34,7 +34,8 @@ int main(void)
     return create(NULL, 0, 0, 0, 0) == SGDMA_BAD_SIZE &&
            read_register(NULL, 0, 0, NULL, 0) == SGDMA_BAD_SIZE &&
            write_register(NULL, 0, 0, 0) == SGDMA_BAD_SIZE &&
-           line(NULL, 0, NULL, 0) == SGDMA_BAD_SIZE &&
+           SGDMA_REFUSAL(line(NULL, 0, NULL, 0)) == SGDMA_BAD_SIZE &&
+           SGDMA_FIELD(line(NULL, 0, NULL, 0)) == 0 &&
            run(NULL, 0, NULL, 0, NULL, 0, NULL, 0, NULL, 0, 0, 0, NULL, 0) ==
                SGDMA_BAD_SIZE &&
            build_descriptor(NULL, 0, 0, 0, 0, 0, 0, 0, 0) == SGDMA_OUTSIDE &&

@@ -92,6 +92,8 @@ pub enum Point {
     Outranked(Function, Refusal, Refusal),
     /// An image that breaks this rule and no other was refused.
     BrokenAlone(ImageRule),
+    /// The first field was told though a rule of the second was broken as well.
+    ToldLower(u8, u8),
     /// A call left a machine of this mode in this phase.
     Left(Mode, Phase),
     /// A run of this mode stopped for this reason.

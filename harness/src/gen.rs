@@ -4,7 +4,7 @@
 //! firmware does, and starts anew after a while. Its choices lean towards what is
 //! easily missed: the ends of the window, the first and the last byte of a
 //! descriptor, one step at a time, one enable alone, the last room in the ledger,
-//! images that differ from a good one in one field.
+//! images that differ from a good one in a field or two.
 
 mod images;
 mod layout;
@@ -131,7 +131,7 @@ impl Host {
 
     /// The carried image, or now and then a broken one or one of another size.
     fn lent_image(&mut self) -> Lent {
-        let mut bytes = if self.rng.chance(10) {
+        let mut bytes = if self.rng.chance(14) {
             self.broken_image().pack().to_vec()
         } else {
             self.image.to_vec()

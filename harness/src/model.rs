@@ -1,5 +1,5 @@
 //! The core as the scope paper describes it, written from the paper alone, and
-//! the ledger as its request does.
+//! the field of a refused image and the ledger as their requests do.
 //!
 //! One step moves one byte and steps are taken one by one. Each sentence of the
 //! paper is one small rule, and the rules are provided methods of a few traits,
@@ -17,7 +17,7 @@ mod registers;
 mod steps;
 mod windows;
 
-pub use calls::{Calls, Refusal, DESCRIPTOR_ANSWER_SIZE, REPORT_SIZE, VALUE_SIZE};
+pub use calls::{Calls, Refusal, Refused, DESCRIPTOR_ANSWER_SIZE, REPORT_SIZE, VALUE_SIZE};
 pub use descriptors::{descriptor_control, Descriptor, Descriptors, DESCRIPTOR_SIZE};
 pub use images::{Image, ImageRule, Images, IMAGE_SIZE};
 pub use ledgers::{Ledger, Ledgers, Record, RECORD_SIZE};

@@ -1,12 +1,15 @@
-//! Every image rule broken alone, each beside a repaired twin that loads.
+//! Every image rule broken alone, each beside a repaired twin that loads, and two
+//! or more at once: the field that is told.
 
 use harness::call::{parties, Call, Lent, Party};
 use harness::compare::ask;
 use harness::model::ImageRule::{self, *};
 use harness::model::{
-    offset, Image, Images, Kept, Machine, Mode, Paper, Phase, Window, REPORT_SIZE, VALUE_SIZE,
+    offset, Image, Images, Kept, Machine, Mode, Paper, Phase, Window, IMAGE_SIZE, REPORT_SIZE,
+    VALUE_SIZE,
 };
 use harness::samples::image;
+use std::collections::BTreeSet;
 
 const MODES: [Mode; 3] = Mode::ALL;
 const FROM_MEMORY: [Mode; 2] = [Mode::MemoryToMemory, Mode::MemoryToStream];
@@ -27,17 +30,19 @@ fn images() -> Vec<Image> {
 /// An edit of one field.
 type Edit = fn(&mut Image);
 
-/// A rule, the good images on which it is broken, the edit that breaks it, and an
-/// edit of the same field that does not.
+/// A rule with the field that it counts against, the good images on which it is
+/// broken, the edit that breaks it, and an edit of the same field that does not.
 struct Row {
+    field: u32,
     rule: ImageRule,
     images: Vec<Image>,
     breaks: Edit,
     keeps: Edit,
 }
 
-fn row(rule: ImageRule, images: Vec<Image>, breaks: Edit, keeps: Edit) -> Row {
+fn row(field: u32, rule: ImageRule, images: Vec<Image>, breaks: Edit, keeps: Edit) -> Row {
     Row {
+        field,
         rule,
         images,
         breaks,
@@ -84,26 +89,26 @@ const NOT_FAULTED: [Phase; 6] = [
 fn head_rows() -> Vec<Row> {
     let at_the_top = || with(of(&MODES, &REST), |i| i.base = u32::MAX);
     vec![
-        row(EditionOne, images(), |i| i.edition = 0, |i| i.edition = 1),
-        row(EditionOne, images(), |i| i.edition = 2, |i| i.edition = 1),
-        row(EditionOne, images(), |i| i.edition = 9, |i| i.edition = 1),
-        row(ModeAtMostTwo, of(&MODES, &REST), |i| i.mode = 3, |i| i.mode = 2),
-        row(PhaseAtMostSix, of(&MODES, &REST), |i| i.phase = 7, |i| i.phase = 0),
-        row(WindowLength, of(&MODES, &REST),
+        row(1, EditionOne, images(), |i| i.edition = 0, |i| i.edition = 1),
+        row(1, EditionOne, images(), |i| i.edition = 2, |i| i.edition = 1),
+        row(1, EditionOne, images(), |i| i.edition = 9, |i| i.edition = 1),
+        row(2, ModeAtMostTwo, of(&MODES, &REST), |i| i.mode = 3, |i| i.mode = 2),
+        row(3, PhaseAtMostSix, of(&MODES, &REST), |i| i.phase = 7, |i| i.phase = 0),
+        row(12, WindowLength, of(&MODES, &REST),
             |i| i.window_length = 65_537, |i| i.window_length = 65_536),
-        row(WindowEnd, at_the_top(), |i| i.window_length = 2, |i| i.window_length = 1),
-        row(StatusBitsZero, images(), |i| i.status |= 0x20, |i| i.status |= 0x08),
-        row(StatusBitsZero, images(), |i| i.status |= 0x40, |i| i.status |= 0x08),
-        row(StatusBitsZero, images(), |i| i.status |= 0x80, |i| i.status |= 0x08),
-        row(ControlBitsZero, images(), |i| i.control |= 1 << 18, |i| i.control |= 1 << 17),
-        row(ControlBitsZero, images(), |i| i.control |= 1 << 30, |i| i.control |= 1 << 15),
-        row(ControlBitsZero, images(), |i| i.control |= 1 << 31, |i| i.control |= 1 << 15),
-        row(ArmedIsControlBit16, images(), |i| i.armed = true, |i| i.armed = false),
-        row(ArmedIsControlBit16, with(images(), |i| i.armed = true),
+        row(12, WindowEnd, at_the_top(), |i| i.window_length = 2, |i| i.window_length = 1),
+        row(7, StatusBitsZero, images(), |i| i.status |= 0x20, |i| i.status |= 0x08),
+        row(7, StatusBitsZero, images(), |i| i.status |= 0x40, |i| i.status |= 0x08),
+        row(7, StatusBitsZero, images(), |i| i.status |= 0x80, |i| i.status |= 0x08),
+        row(9, ControlBitsZero, images(), |i| i.control |= 1 << 18, |i| i.control |= 1 << 17),
+        row(9, ControlBitsZero, images(), |i| i.control |= 1 << 30, |i| i.control |= 1 << 15),
+        row(9, ControlBitsZero, images(), |i| i.control |= 1 << 31, |i| i.control |= 1 << 15),
+        row(9, ArmedIsControlBit16, images(), |i| i.armed = true, |i| i.armed = false),
+        row(9, ArmedIsControlBit16, with(images(), |i| i.armed = true),
             |i| i.control |= 1 << 15, |i| i.control |= 1 << 16),
-        row(CountAtMost254, images(), |i| i.count = 255, |i| i.count = 254),
-        row(ZeroBitsZero, images(), |i| i.zero = 1, |i| i.zero = 0),
-        row(ZeroBitsZero, images(), |i| i.zero = 0x4000, |i| i.zero = 0),
+        row(8, CountAtMost254, images(), |i| i.count = 255, |i| i.count = 254),
+        row(21, ZeroBitsZero, images(), |i| i.zero = 1, |i| i.zero = 0),
+        row(21, ZeroBitsZero, images(), |i| i.zero = 0x4000, |i| i.zero = 0),
     ]
 }
 
@@ -111,60 +116,67 @@ fn head_rows() -> Vec<Row> {
 fn phase_rows() -> Vec<Row> {
     use Phase::*;
     vec![
-        row(BusyInPhasesOneToFour, of(&MODES, &[Rest, Halted, Faulted]),
+        row(7, BusyInPhasesOneToFour, of(&MODES, &[Rest, Halted, Faulted]),
             |i| i.status |= BUSY, |i| i.status |= 4),
-        row(BusyInPhasesOneToFour, of(&MODES, &[Fetch, Move, WriteBack, Ended]),
+        row(7, BusyInPhasesOneToFour, of(&MODES, &[Fetch, Move, WriteBack, Ended]),
             |i| i.status = 4, |i| i.status |= 4),
-        row(RunInEndedAndHalted, of(&MODES, &[Ended, Halted]),
+        row(9, RunInEndedAndHalted, of(&MODES, &[Ended, Halted]),
             |i| i.control &= !RUN, |i| i.control |= RUN),
-        row(HaltedOnlyInModeTwo, of(&MODES, &[Halted]), |i| i.mode = 0, |i| i.mode = 2),
-        row(HaltedOnlyInModeTwo, of(&MODES, &[Halted]), |i| i.mode = 1, |i| i.mode = 2),
-        row(StreamStatusOnlyInModeTwo, of(&FROM_MEMORY, &Phase::ALL),
+        row(3, HaltedOnlyInModeTwo, of(&MODES, &[Halted]), |i| i.mode = 0, |i| i.mode = 2),
+        row(3, HaltedOnlyInModeTwo, of(&MODES, &[Halted]), |i| i.mode = 1, |i| i.mode = 2),
+        row(7, StreamStatusOnlyInModeTwo, of(&FROM_MEMORY, &Phase::ALL),
             |i| i.status |= 1, |i| i.status |= 4),
-        row(StreamStatusOnlyInModeTwo, of(&FROM_MEMORY, &Phase::ALL),
+        row(7, StreamStatusOnlyInModeTwo, of(&FROM_MEMORY, &Phase::ALL),
             |i| i.status |= 2, |i| i.status |= 8),
-        row(FaultCode, of(&MODES, &[Faulted]), |i| i.fault = 0, |i| i.fault = 10),
-        row(FaultCode, of(&MODES, &[Faulted]), |i| i.fault = 9, |i| i.fault = 11),
-        row(FaultCode, of(&MODES, &[Faulted]), |i| i.fault = 31, |i| i.fault = 10),
-        row(FaultCode, of(&FROM_MEMORY, &[Faulted]), |i| i.fault = 15, |i| i.fault = 12),
-        row(FaultCodeOfMode, of(&[STREAM], &[Faulted]), |i| i.fault = 12, |i| i.fault = 14),
-        row(FaultCodeOfMode, of(&[STREAM], &[Faulted]), |i| i.fault = 13, |i| i.fault = 14),
-        row(FaultCodeOfMode, of(&[Mode::MemoryToStream], &[Faulted]),
+        row(6, FaultCode, of(&MODES, &[Faulted]), |i| i.fault = 0, |i| i.fault = 10),
+        row(6, FaultCode, of(&MODES, &[Faulted]), |i| i.fault = 9, |i| i.fault = 11),
+        row(6, FaultCode, of(&MODES, &[Faulted]), |i| i.fault = 31, |i| i.fault = 10),
+        row(6, FaultCode, of(&FROM_MEMORY, &[Faulted]), |i| i.fault = 15, |i| i.fault = 12),
+        row(6, FaultCodeOfMode, of(&[STREAM], &[Faulted]), |i| i.fault = 12, |i| i.fault = 14),
+        row(6, FaultCodeOfMode, of(&[STREAM], &[Faulted]), |i| i.fault = 13, |i| i.fault = 14),
+        row(6, FaultCodeOfMode, of(&[Mode::MemoryToStream], &[Faulted]),
             |i| i.fault = 14, |i| i.fault = 13),
-        row(NoFaultElsewhere, of(&MODES, &NOT_FAULTED), |i| i.fault = 10, |i| i.fault = 0),
-        row(NoFaultElsewhere, of(&MODES, &NOT_FAULTED),
+        row(6, NoFaultCodeElsewhere, of(&MODES, &NOT_FAULTED), |i| i.fault = 10, |i| i.fault = 0),
+        row(22, NoFaultAddressElsewhere, of(&MODES, &NOT_FAULTED),
             |i| i.fault_address = 1, |i| i.fault_address = 0),
     ]
 }
 
 #[rustfmt::skip]
 fn kept_rows() -> Vec<Row> {
-    let rule = KeptOnlyInMoveAndWriteBack;
     let elsewhere = || of(&MODES, &NOT_KEEPING);
     vec![
-        row(rule, elsewhere(), |i| i.kept.address = 4096, |i| i.kept.address = 0),
-        row(rule, elsewhere(), |i| i.kept.source = 1, |i| i.kept.source = 0),
-        row(rule, elsewhere(), |i| i.kept.destination = 1, |i| i.kept.destination = 0),
-        row(rule, elsewhere(), |i| i.kept.length = 1, |i| i.kept.length = 0),
-        row(rule, elsewhere(), |i| i.kept.control = 0x80, |i| i.kept.control = 0),
-        row(rule, elsewhere(), |i| i.kept.errors = 1, |i| i.kept.errors = 0),
-        row(rule, elsewhere(), |i| i.kept.moved = 1, |i| i.kept.moved = 0),
-        row(rule, elsewhere(), |i| i.kept.eop_seen = true, |i| i.kept.eop_seen = false),
-        row(AddressAligned, of(&MODES, &KEEPING),
-            |i| i.kept.address = 4097, |i| i.kept.address = 4100),
-        row(AddressAligned, of(&MODES, &KEEPING),
-            |i| i.kept.address = 4098, |i| i.kept.address = 4100),
-        row(AddressInWindow, of(&MODES, &KEEPING),
-            |i| i.kept.address = 4092, |i| i.kept.address = 4096),
-        row(AddressInWindow, of(&MODES, &KEEPING),
-            |i| i.kept.address = 4324, |i| i.kept.address = 4320),
-        row(ControlOwned, of(&MODES, &KEEPING),
-            |i| i.kept.control = 0x7F, |i| i.kept.control = 0xFF),
-        row(NoErrorsFromMemory, of(&FROM_MEMORY, &KEEPING),
+        row(13, NoAddressElsewhere, elsewhere(),
+            |i| i.kept.address = 4096, |i| i.kept.address = 0),
+        row(14, NoSourceElsewhere, elsewhere(),
+            |i| i.kept.source = 1, |i| i.kept.source = 0),
+        row(15, NoDestinationElsewhere, elsewhere(),
+            |i| i.kept.destination = 1, |i| i.kept.destination = 0),
+        row(16, NoLengthElsewhere, elsewhere(),
+            |i| i.kept.length = 1, |i| i.kept.length = 0),
+        row(17, NoControlElsewhere, elsewhere(),
+            |i| i.kept.control = 0x80, |i| i.kept.control = 0),
+        row(18, NoErrorsElsewhere, elsewhere(),
             |i| i.kept.errors = 1, |i| i.kept.errors = 0),
-        row(NoEopFromMemory, of(&FROM_MEMORY, &WRITE_BACK),
+        row(19, NoMovedElsewhere, elsewhere(),
+            |i| i.kept.moved = 1, |i| i.kept.moved = 0),
+        row(20, NoEopElsewhere, elsewhere(),
             |i| i.kept.eop_seen = true, |i| i.kept.eop_seen = false),
-        row(ErrorsBit7Zero, of(&[STREAM], &KEEPING),
+        row(13, AddressAligned, of(&MODES, &KEEPING),
+            |i| i.kept.address = 4097, |i| i.kept.address = 4100),
+        row(13, AddressAligned, of(&MODES, &KEEPING),
+            |i| i.kept.address = 4098, |i| i.kept.address = 4100),
+        row(13, AddressInWindow, of(&MODES, &KEEPING),
+            |i| i.kept.address = 4092, |i| i.kept.address = 4096),
+        row(13, AddressInWindow, of(&MODES, &KEEPING),
+            |i| i.kept.address = 4324, |i| i.kept.address = 4320),
+        row(17, ControlOwned, of(&MODES, &KEEPING),
+            |i| i.kept.control = 0x7F, |i| i.kept.control = 0xFF),
+        row(18, NoErrorsFromMemory, of(&FROM_MEMORY, &KEEPING),
+            |i| i.kept.errors = 1, |i| i.kept.errors = 0),
+        row(20, NoEopFromMemory, of(&FROM_MEMORY, &WRITE_BACK),
+            |i| i.kept.eop_seen = true, |i| i.kept.eop_seen = false),
+        row(18, ErrorsBit7Zero, of(&[STREAM], &KEEPING),
             |i| i.kept.errors = 0x80, |i| i.kept.errors = 0x7F),
     ]
 }
@@ -177,17 +189,17 @@ fn progress_rows() -> Vec<Row> {
     let unmoved = || with(of(&[STREAM], &MOVE), |i| i.kept.moved = 0);
     let after_eop = || with(of(&[STREAM], &WRITE_BACK), |i| i.kept.eop_seen = true);
     vec![
-        row(MoveMovedBelowL, of(&MODES, &MOVE), |i| i.kept.moved = 4, |i| i.kept.moved = 3),
-        row(MoveMovedBelowL, of(&MODES, &MOVE), |i| i.kept.moved = 65_535, |i| i.kept.moved = 0),
-        row(MoveMovedBelowL, without_length(&MOVE),
+        row(19, MoveMovedBelowL, of(&MODES, &MOVE), |i| i.kept.moved = 4, |i| i.kept.moved = 3),
+        row(19, MoveMovedBelowL, of(&MODES, &MOVE), |i| i.kept.moved = 65_535, |i| i.kept.moved = 0),
+        row(19, MoveMovedBelowL, without_length(&MOVE),
             |i| i.kept.moved = 65_535, |i| i.kept.moved = 65_534),
-        row(MoveNoEop, of(&[STREAM], &MOVE),
+        row(20, MoveNoEop, of(&[STREAM], &MOVE),
             |i| i.kept.eop_seen = true, |i| i.kept.eop_seen = false),
-        row(MoveNoErrorsBeforeFirstByte, unmoved(), |i| i.kept.errors = 1, |i| i.kept.errors = 0),
-        row(WriteBackMovedOneToL, after_eop(), |i| i.kept.moved = 0, |i| i.kept.moved = 1),
-        row(WriteBackMovedOneToL, after_eop(), |i| i.kept.moved = 5, |i| i.kept.moved = 4),
-        row(WriteBackFinished, of(&MODES, &WRITE_BACK), |i| i.kept.moved = 3, |i| i.kept.moved = 4),
-        row(WriteBackFinished, without_length(&WRITE_BACK),
+        row(19, MoveNoErrorsBeforeFirstByte, unmoved(), |i| i.kept.errors = 1, |i| i.kept.errors = 0),
+        row(19, WriteBackMovedOneToL, after_eop(), |i| i.kept.moved = 0, |i| i.kept.moved = 1),
+        row(19, WriteBackMovedOneToL, after_eop(), |i| i.kept.moved = 5, |i| i.kept.moved = 4),
+        row(20, WriteBackFinished, of(&MODES, &WRITE_BACK), |i| i.kept.moved = 3, |i| i.kept.moved = 4),
+        row(20, WriteBackFinished, without_length(&WRITE_BACK),
             |i| i.kept.moved = 65_534, |i| i.kept.moved = 65_535),
     ]
 }
@@ -233,19 +245,27 @@ fn calls_on(image: &Image) -> [Call; 4] {
 }
 
 /// "An image loads exactly when it keeps these rules, and saved again gives the
-/// same bytes." Refused, everything keeps its value.
-fn check_loads(party: &dyn Party, image: &Image, loads: bool) {
+/// same bytes."
+fn check_loads(party: &dyn Party, image: &Image) {
     for call in calls_on(image) {
         let answer = ask(party, &call);
-        let expected = if loads { 0 } else { 8 };
-        assert_eq!(answer.returned, expected, "{}: {image:?}", party.name());
+        assert_eq!(answer.returned, 0, "{}: {image:?}", party.name());
         assert_eq!(answer.after.image(), call.image(), "{}", party.name());
-        assert!(loads || answer.after == call, "{}", party.name());
+    }
+}
+
+/// Refused with this field, "in C as 8 + 256 × field", everything keeps its value.
+fn check_tells(party: &dyn Party, image: &Image, field: u32) {
+    for call in calls_on(image) {
+        let answer = ask(party, &call);
+        let number = 8 + 256 * field;
+        assert_eq!(answer.returned, number, "{}: {image:?}", party.name());
+        assert!(answer.after == call, "{}", party.name());
     }
 }
 
 #[test]
-fn each_rule_broken_alone_is_refused() {
+fn each_rule_broken_alone_tells_its_field() {
     for party in parties() {
         for row in rows() {
             assert!(!row.images.is_empty(), "{:?} has no image", row.rule);
@@ -255,10 +275,73 @@ fn each_rule_broken_alone_is_refused() {
                 (row.keeps)(&mut repaired);
                 assert_eq!(Paper.broken_rules(&broken), [row.rule], "{broken:?}");
                 assert_eq!(Paper.broken_rules(&repaired), [], "{repaired:?}");
-                check_loads(party.as_ref(), &broken, false);
-                check_loads(party.as_ref(), &repaired, true);
+                check_tells(party.as_ref(), &broken, row.field);
+                check_loads(party.as_ref(), &repaired);
             }
         }
+    }
+}
+
+/// The image that both rows begin with, after the edits of both.
+fn broken_by_both(one: &Row, other: &Row) -> Option<Image> {
+    let mut images = one.images.iter();
+    let mut image = *images.find(|&image| other.images.contains(image))?;
+    (one.breaks)(&mut image);
+    (other.breaks)(&mut image);
+    Some(image)
+}
+
+/// "the lowest field that breaks a rule": of every two fields, the lower.
+#[test]
+fn two_rules_broken_at_once_tell_the_lower_field() {
+    let rows = rows();
+    for party in parties() {
+        let mut met = BTreeSet::new();
+        for one in &rows {
+            for other in rows.iter().filter(|other| other.field > one.field) {
+                if let Some(image) = broken_by_both(one, other) {
+                    met.insert((one.field, other.field));
+                    check_tells(party.as_ref(), &image, one.field);
+                }
+            }
+        }
+        // Every two of the 18 fields that can be told.
+        assert_eq!(met.len(), 18 * 17 / 2);
+    }
+}
+
+/// An image of ones breaks a rule of every field that can be told. Put right field
+/// by field, it tells one after the other. Armed, pending, pointer and base, of
+/// which no rule is, stay as they are.
+#[test]
+fn many_rules_broken_at_once_tell_the_lowest_field() {
+    let repairs: [(u32, Edit); 18] = [
+        (1, |i| i.edition = 1),
+        (2, |i| i.mode = 2),
+        (3, |i| i.phase = 0),
+        (6, |i| i.fault = 0),
+        (7, |i| i.status = 0),
+        (8, |i| i.count = 0),
+        (9, |i| i.control = 1 << 16),
+        (12, |i| i.window_length = 1),
+        (13, |i| i.kept.address = 0),
+        (14, |i| i.kept.source = 0),
+        (15, |i| i.kept.destination = 0),
+        (16, |i| i.kept.length = 0),
+        (17, |i| i.kept.control = 0),
+        (18, |i| i.kept.errors = 0),
+        (19, |i| i.kept.moved = 0),
+        (20, |i| i.kept.eop_seen = false),
+        (21, |i| i.zero = 0),
+        (22, |i| i.fault_address = 0),
+    ];
+    for party in parties() {
+        let mut image = Image::unpack(&[0xFF; IMAGE_SIZE]);
+        for (field, repair) in repairs {
+            check_tells(party.as_ref(), &image, field);
+            repair(&mut image);
+        }
+        check_loads(party.as_ref(), &image);
     }
 }
 
@@ -272,9 +355,9 @@ fn each_rule_has_a_row() {
 }
 
 /// The rule that cannot be broken alone: length 0 in mode 0 or 1 leaves no number
-/// of bytes moved that keeps the other rules.
+/// of bytes moved that keeps the other rules. Its field is the lower one.
 #[test]
-fn no_length_is_refused_whatever_was_moved() {
+fn no_length_is_told_whatever_was_moved() {
     for (phase, other) in [
         (Phase::Move, MoveMovedBelowL),
         (Phase::WriteBack, WriteBackMovedOneToL),
@@ -285,7 +368,7 @@ fn no_length_is_refused_whatever_was_moved() {
             let broken = Paper.broken_rules(&image);
             assert!(broken.contains(&LengthNotZeroFromMemory) && broken.contains(&other));
             for party in parties() {
-                check_loads(party.as_ref(), &image, false);
+                check_tells(party.as_ref(), &image, 16);
             }
         }
     }
@@ -310,7 +393,7 @@ fn odd_images_load() {
     for (mut image, edit) in odd {
         edit(&mut image);
         for party in parties() {
-            check_loads(party.as_ref(), &image, true);
+            check_loads(party.as_ref(), &image);
         }
     }
 }

@@ -12,7 +12,8 @@ use harness::samples;
 const BASE: u64 = 4096;
 const OTHER_WINDOW: u32 = 4;
 const BAD_SIZE: u32 = 7;
-const BAD_IMAGE: u32 = 8;
+/// The edition is the first field.
+const BAD_IMAGE_FOR_EDITION: u32 = 8 + 256;
 const ODD_STREAM: u32 = 9;
 const BAD_LEDGER: u32 = 19;
 
@@ -286,7 +287,7 @@ fn the_refusals_of_a_run_come_in_their_order() {
         *lent_as(&mut call, "window") = Lent::zeros(65);
         for (number, name) in [
             (BAD_SIZE, "report"),
-            (BAD_IMAGE, "image"),
+            (BAD_IMAGE_FOR_EDITION, "image"),
             (ODD_STREAM, "out"),
             (BAD_LEDGER, "ledger"),
             (OTHER_WINDOW, "window"),

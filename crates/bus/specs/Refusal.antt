@@ -1,6 +1,7 @@
--- The paper's "Refusal numbers". 0 is done: no refusal.
+-- The paper's "Refusal numbers". 0 is done: no refusal. Order 1: "8 carries it, in C as 8 + 256 × field", the lowest field that breaks
+-- a rule, counted from 1 in layout order.
 -- Assumes nothing.
-use Prim.Native.Nat.{ℕ}
+use Prim.Native.Nat.{ℕ, _+_, _*_}
 use Rattle.bus.specs.declared.Refusal.{Refusal}
 use Rattle.bus.specs.declared.Refusal.the-variants.{NoRegister, BadMode, BadWindow, OtherWindow, Misaligned, Outside, BadSize, BadImage, OddStream, BadLedger}
 
@@ -12,6 +13,6 @@ refusalNumber OtherWindow = 4
 refusalNumber Misaligned = 5
 refusalNumber Outside = 6
 refusalNumber BadSize = 7
-refusalNumber BadImage = 8
+refusalNumber (BadImage field) = 8 + 256 * field
 refusalNumber OddStream = 9
 refusalNumber BadLedger = 19

@@ -4,7 +4,7 @@ ghost use Rattle.words.specs.Promise.{Gives};
 ghost use Rattle.bus.specs.Refusal.{refusalNumber};
 ghost use Rattle.bus.specs.Window.{inWindow, Checked, Sought};
 
-// Why a call is refused, in the order of the paper's table.
+// Why a call is refused, in the order of the paper's table. BadImage carries the lowest field that breaks a rule, counted from 1.
 pub enum Refusal {
     NoRegister,
     BadMode,
@@ -13,13 +13,13 @@ pub enum Refusal {
     Misaligned,
     Outside,
     BadSize,
-    BadImage,
+    BadImage(u8),
     OddStream,
     BadLedger,
 }
 
 impl Refusal {
-    // The paper's number.
+    // The paper's number; 8 carries its field.
     pub fn number(self) -> u32
         ensures { λ r. ⌜ Gives (refusalNumber self) r ⌝ }
     {
@@ -31,7 +31,7 @@ impl Refusal {
             Refusal::Misaligned => 5,
             Refusal::Outside => 6,
             Refusal::BadSize => 7,
-            Refusal::BadImage => 8,
+            Refusal::BadImage(field) => 8 + 256 * field as u32,
             Refusal::OddStream => 9,
             Refusal::BadLedger => 19,
         }

@@ -10,7 +10,6 @@ use borrow.Author.Tests.{eq-eqb, eqb-true, le-leb, lt-ltb}
 use Rattle.words.specs.Bits.{bit}
 use Rattle.words.specs.Slices.{put}
 use Rattle.bus.specs.declared.Window.{Window}
-use Rattle.bus.specs.declared.Refusal.the-variants.{BadImage}
 use Rattle.bus.specs.Window.{keepsLimits}
 use Rattle.regs.specs.declared.Mode.the-variants.{StreamToMemory}
 use Rattle.ledger.specs.declared.Entry.{Entry}
@@ -23,7 +22,7 @@ use Rattle.machine.specs.declared.registers.WroteRegister.{WroteRegister}
 use Rattle.machine.specs.declared.registers.WroteRegister.the-variants as wrote
 use Rattle.machine.specs.declared.RunAnswer.{RunAnswer}
 use Rattle.machine.specs.State.{withPointer, withControl, fresh}
-use Rattle.machine.specs.Saved.{fieldsOf, keeps}
+use Rattle.machine.specs.Saved.{fieldsOf, keeps, spoiled}
 use Rattle.machine.specs.Registers.{controlStored, controlWritten, writeOf, WasWritten}
 use Rattle.machine.specs.Step.{World}
 use Rattle.machine.specs.Run.{run, even, Lent, Returned, Served, serves, servedOf, worldOf, outputOver, returned, ranAs, runAnswer}
@@ -40,7 +39,7 @@ wrote-pointer m n v e = by (keeps m) refl
   where
     by : (b : Bool) → keeps m ≡ b → (keeps m ≡ true) × (n ≡ withPointer v m)
     by true k = (k, let f : wrote.Done n ≡ wrote.Done (withPointer v m) = e ∙ rw k in cc)
-    by false k = absurd (let f : wrote.Done n ≡ wrote.Refused BadImage = e ∙ rw k in let z : _≡_ {A = ℕ} 0 1 = cc in omega arith)
+    by false k = absurd (let f : wrote.Done n ≡ wrote.Refused (spoiled m) = e ∙ rw k in let z : _≡_ {A = ℕ} 0 1 = cc in omega arith)
 
 wrote-control : (m n : Machine) (v : ℕ) → wrote.Done n ≡ writeOf m 4 v → n ≡ controlWritten v m
 unfolding writeOf
@@ -48,7 +47,7 @@ wrote-control m n v e = by (keeps m) refl
   where
     by : (b : Bool) → keeps m ≡ b → n ≡ controlWritten v m
     by true k = let f : wrote.Done n ≡ wrote.Done (controlWritten v m) = e ∙ rw k in cc
-    by false k = absurd (let f : wrote.Done n ≡ wrote.Refused BadImage = e ∙ rw k in let z : _≡_ {A = ℕ} 0 1 = cc in omega arith)
+    by false k = absurd (let f : wrote.Done n ≡ wrote.Refused (spoiled m) = e ∙ rw k in let z : _≡_ {A = ℕ} 0 1 = cc in omega arith)
 
 limits-kept : (f : Fields) → keepsRules f ≡ true → keepsLimits (f .base) (f .window) ≡ true
 unfolding keepsRules

@@ -67,7 +67,7 @@ not-zero OtherWindow e = omega arith
 not-zero Misaligned e = omega arith
 not-zero Outside e = omega arith
 not-zero BadSize e = omega arith
-not-zero BadImage e = omega arith
+not-zero (BadImage field) e = omega arith
 not-zero OddStream e = omega arith
 not-zero BadLedger e = omega arith
 

@@ -47,17 +47,17 @@ use Rattle.chain_calls.proofs.OfCalls.{loads-as, written-over, runAs, r
 -- ---- the image of a machine met in use
 
 -- bytes that load keep the rules
-rules-kept : (f : Fields) (size rules : Bool) {m : Machine}
-    → loadedAs (cond size (cond rules (read.Good f) (read.Refused BadImage)) (read.Refused BadSize)) ≡ Good m → not rules ≡ false
-rules-kept f true true e = refl
-rules-kept f true false e = absurd (let z : _≡_ {A = ℕ} 0 1 = cc in omega arith)
-rules-kept f false rules e = absurd (let z : _≡_ {A = ℕ} 0 1 = cc in omega arith)
+rules-kept : (f : Fields) (size rules : Bool) (n : ℕ) {m : Machine}
+    → loadedAs (cond size (cond rules (read.Good f) (read.Refused (BadImage n))) (read.Refused BadSize)) ≡ Good m → not rules ≡ false
+rules-kept f true true n e = refl
+rules-kept f true false n e = absurd (let z : _≡_ {A = ℕ} 0 1 = cc in omega arith)
+rules-kept f false rules n e = absurd (let z : _≡_ {A = ℕ} 0 1 = cc in omega arith)
 
 loads-back : {xs : List ℕ} {m : Machine} → Met m → xs ≡ imageOf m → LoadsBack xs
 unfolding loadOf image.readOf
 loads-back {xs} {m} h e =
     let l : loadOf xs ≡ Good m = ap loadOf e ∙ loads-as h in
-    record { machine = m; met = h; image = e; loads = l; not-8 = rules-kept (fields xs) (sized xs) (keepsRules (fields xs)) l }
+    record { machine = m; met = h; image = e; loads = l; not-8 = rules-kept (fields xs) (sized xs) (keepsRules (fields xs)) _ l }
 
 -- ---- each way to come by one
 

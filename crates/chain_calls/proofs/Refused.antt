@@ -1,7 +1,7 @@
 -- "First that applies: 7, 8, 9, 2, 3, 4, 1, 5, 6": the number that a C call gives back is the first, in this one order, of the
 -- refusals that apply to it.
 -- Assumes nothing.
-use Prim.Native.Nat.{ℕ, _%_}
+use Prim.Native.Nat.{ℕ, _+_, _*_, _%_}
 use mathlib.Core.Path.{_≡_, refl, sym, _∙_}
 use mathlib.Core.Bool.{Bool, true, false, not, cond, _&&_}
 use mathlib.Core.List.{List}
@@ -16,7 +16,7 @@ use Rattle.descriptor.proofs.Seats.{by-tests, built-number, found-number}
 use Rattle.regs.specs.Offsets.{isRegister}
 use Rattle.image.specs.declared.ReadImage.the-variants as read
 use Rattle.image.specs.Layout.{fields}
-use Rattle.image.specs.Rules.{keepsRules}
+use Rattle.image.specs.Rules.{lowestBroken, keepsRules}
 use Rattle.image.specs.Promise.{sized}
 use Rattle.image.specs.Promise as image
 use Rattle.image.proofs.Tests.{and-left}
@@ -64,23 +64,24 @@ module _ (xs : List ℕ) where
 
   -- the number of a call that loads it: 7 and 8 come first
   module _ (body : LoadedMachine → ℕ) (passes : (why : Refusal) → body (loaded.Refused why) ≡ refusalNumber why) where
-    opened : body (loadOf xs) ≡ cond (sized xs) (cond (keepsRules (fields xs)) (body (loaded.Good machine)) 8) 7
+    opened : body (loadOf xs) ≡ cond (sized xs) (cond (keepsRules (fields xs)) (body (loaded.Good machine)) (8 + 256 * lowestBroken (fields xs))) 7
     unfolding loadOf image.readOf
     opened = by (sized xs) (keepsRules (fields xs))
       where
-        by : (s k : Bool) → body (loadedAs (cond s (cond k (read.Good (fields xs)) (read.Refused BadImage)) (read.Refused BadSize)))
-            ≡ cond s (cond k (body (loaded.Good machine)) 8) 7
+        by : (s k : Bool)
+            → body (loadedAs (cond s (cond k (read.Good (fields xs)) (read.Refused (BadImage (lowestBroken (fields xs))))) (read.Refused BadSize)))
+            ≡ cond s (cond k (body (loaded.Good machine)) (8 + 256 * lowestBroken (fields xs))) 7
         by true true = refl
-        by true false = passes BadImage
+        by true false = passes (BadImage (lowestBroken (fields xs)))
         by false k = passes BadSize
 
     -- and of one that looks at another size too
     opened-with : (other : Bool) {n : ℕ} → (sized xs ≡ true → keepsRules (fields xs) ≡ true → body (loaded.Good machine) ≡ n)
-        → cond (sized xs && other) (body (loadOf xs)) 7 ≡ cond (not (sized xs && other)) 7 (cond (not (keepsRules (fields xs))) 8 n)
+        → cond (sized xs && other) (body (loadOf xs)) 7 ≡ cond (not (sized xs && other)) 7 (cond (not (keepsRules (fields xs))) (8 + 256 * lowestBroken (fields xs)) n)
     opened-with other h =
         if-so (sized xs && other) 7
         (λ e. let s = and-left (sized xs) other e in
-        opened ∙ rw s (if-so (keepsRules (fields xs)) 8 (h s)))
+        opened ∙ rw s (if-so (keepsRules (fields xs)) (8 + 256 * lowestBroken (fields xs)) (h s)))
 
 -- ---- the registers and the line
 
@@ -110,7 +111,7 @@ pub write-in-order : WriteInOrder
 write-in-order xs offset v r xs' p =
     record {
       number = p .number ∙ opened xs (λ l. registerWroteNumber (writtenIn l offset v)) (λ why. refl)
-          ∙ if-so (sized xs) 7 (λ s. if-so (keepsRules (fields xs)) 8 (λ k. written-known xs offset v s k));
+          ∙ if-so (sized xs) 7 (λ s. if-so (keepsRules (fields xs)) (8 + 256 * lowestBroken (fields xs)) (λ k. written-known xs offset v s k));
       in-order = refl;
     }
 

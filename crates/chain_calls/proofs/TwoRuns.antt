@@ -57,13 +57,13 @@ even-from n xs h =
     let same : length (drop (2 * n) xs) % 2 ≡ length xs % 2 = simp length-drop (omega arith) in
     rw same
 
--- what a call is lent serves as what another is
-serves-as : (l d : Lent) (m n : Machine) → keeps n ≡ keeps m → even (d .beats) ≡ even (l .beats) → even (d .out) ≡ even (l .out)
+-- what a call is lent serves as what another is, of machines that keep the rules
+serves-as : (l d : Lent) (m n : Machine) → keeps n ≡ true → keeps m ≡ true → even (d .beats) ≡ even (l .beats) → even (d .out) ≡ even (l .out)
     → isLedger (length (d .ledger)) (d .used) ≡ isLedger (length (l .ledger)) (l .used) → length (d .window) ≡ length (l .window)
     → n .window .length ≡ m .window .length
     → servedOf n d ≡ servedOf m l
 unfolding servedOf
-serves-as l d m n k b o e w s = rw (k, b, o, e, w, s)
+serves-as l d m n k h b o e w s = rw (k, h, b, o, e, w, s)
 
 -- a run takes beats and makes none
 input-le : (n : ℕ) (w : World) → length (run n w .world .input) ≤ length (w .input)
@@ -164,7 +164,7 @@ module _ {x : RunLent} (s : Accepted x) (g : InBytes x) (first : RunLeft) (p : P
 
   serves-next : servedBy next (v .machine) ≡ serves
   serves-next =
-      serves-as (x .lent) (next .lent) (s .machine) (v .machine) (met-keeps _ met-next ∙ sym (good .0)) (even-from took (x .lent .beats) took-le)
+      serves-as (x .lent) (next .lent) (s .machine) (v .machine) (met-keeps _ met-next) (good .0) (even-from took (x .lent .beats) took-le)
       (even-from (length (v .output)) (x .lent .out) (omega (arith, room-left s))) is-ledger (passed .memory) (ap (λ (w : Window). w .length) (passed .window))
       ∙ s .served
 

@@ -2,7 +2,7 @@
 -- the number a call gives back is the first that applies is `create-in-order` and the six laws beside it; that a refused call changes
 -- nothing is `create-unchanged` and six more.
 -- Assumes nothing.
-use Prim.Native.Nat.{ℕ, _%_}
+use Prim.Native.Nat.{ℕ, _+_, _*_, _%_}
 use mathlib.Core.Path.{_≡_}
 use mathlib.Core.Logic.{_≢_}
 use mathlib.Core.Bool.{Bool, true, false, not, cond, _&&_}
@@ -12,25 +12,31 @@ use lib.ListN.{length}
 use Rattle.bus.specs.Window.{keepsLimits, inWindow}
 use Rattle.regs.specs.Offsets.{isRegister}
 use Rattle.image.specs.Layout.{fields}
-use Rattle.image.specs.Rules.{keepsRules}
+use Rattle.image.specs.Rules.{lowestBroken, keepsRules}
 use Rattle.image.specs.Promise.{sized}
 use Rattle.ledger.specs.Records.{isLedger}
 use Rattle.machine.specs.Run.{Lent, even}
 use Rattle.sgdma.specs.Calls.{isSize}
 
--- a refusal's number, and whether it applies
+-- a refusal's number, the field that it carries, and whether it applies
 pub record Test : Type 0 where
   pub number : ℕ
+  pub field : ℕ
   pub applies : Bool
 
 infix 15 _when_
+-- one that carries no field
 abbrev pub _when_ : ℕ → Bool → Test
-n when b = record { number = n; applies = b }
+n when b = record { number = n; field = 0; applies = b }
+
+-- what a call gives back: "in C as 8 + 256 × field"
+abbrev pub told : Test → ℕ
+told t = t .number + 256 * t .field
 
 -- the first that applies, or 0, done: no other applies
 abbrev pub first : List Test → ℕ
 first [] = 0
-first (t ∷ ts) = cond (t .applies) (t .number) (first ts)
+first (t ∷ ts) = cond (t .applies) (told t) (first ts)
 
 -- "First that applies: 7, 8, 9, 19, 2, 3, 4, 1, 5, 6."
 abbrev pub order : List ℕ
@@ -81,9 +87,9 @@ outside base length a = 6 when not (inWindow (record { base = base; length = len
 abbrev pub badSize : Bool → Test
 badSize right = 7 when not right
 
--- 8, BadImage: an image read breaks a rule
+-- 8, BadImage: an image read breaks a rule; with the lowest field that does
 abbrev pub badImage : List ℕ → Test
-badImage xs = 8 when not (keepsRules (fields xs))
+badImage xs = record { number = 8; field = lowestBroken (fields xs); applies = not (keepsRules (fields xs)) }
 
 -- 9, OddStream: odd number of beat bytes, in or out
 abbrev pub oddStream : (beats out : List ℕ) → Test

@@ -38,7 +38,9 @@ pub was-read : {xs : List ℕ} {r : ReadImage} → r ≡ readOf xs → ImageWasR
 unfolding readOf
 was-read {xs} e = record { answer = e; number = ap imageReadNumber e ∙ number (sized xs) (keepsRules (fields xs)) }
   where
-    number : (t k : Bool) → imageReadNumber (cond t (cond k (read.Good (fields xs)) (read.Refused BadImage)) (read.Refused BadSize)) ≡ imageNumber t k
+    number : (t k : Bool)
+        → imageReadNumber (cond t (cond k (read.Good (fields xs)) (read.Refused (BadImage (lowestBroken (fields xs))))) (read.Refused BadSize))
+        ≡ imageNumber t k (fields xs)
     number true true = refl
     number true false = refl
     number false k = refl
@@ -48,25 +50,26 @@ module _ (xs : List ℕ) where
   unfolding readOf
   read-size h = rw (ne-eqb (length xs) 44 h)
 
-  pub read-broken : length xs ≡ 44 → keepsRules (fields xs) ≡ false → readOf xs ≡ read.Refused BadImage
+  pub read-broken : length xs ≡ 44 → keepsRules (fields xs) ≡ false → {n : ℕ} → n ≡ lowestBroken (fields xs)
+      → readOf xs ≡ read.Refused (BadImage n)
   unfolding readOf
-  read-broken l h = rw (eq-eqb (length xs) 44 l, h)
+  read-broken l h e = rw (eq-eqb (length xs) 44 l, h, e)
 
   pub read-good : length xs ≡ 44 → keepsRules (fields xs) ≡ true → readOf xs ≡ read.Good (fields xs)
   unfolding readOf
   read-good l h = rw (eq-eqb (length xs) 44 l, h)
 
 -- what a good answer tells
-good-from : (t k : Bool) (g f : Fields) → cond t (cond k (read.Good g) (read.Refused BadImage)) (read.Refused BadSize) ≡ read.Good f
+good-from : (t k : Bool) (g f : Fields) (n : ℕ) → cond t (cond k (read.Good g) (read.Refused (BadImage n))) (read.Refused BadSize) ≡ read.Good f
     → (t ≡ true) × (k ≡ true) × (f ≡ g)
-good-from true true g f e = (refl, refl, cc)
-good-from true false g f e = absurd (let z : _≡_ {A = ℕ} 0 1 = cc in omega arith)
-good-from false k g f e = absurd (let z : _≡_ {A = ℕ} 0 1 = cc in omega arith)
+good-from true true g f n e = (refl, refl, cc)
+good-from true false g f n e = absurd (let z : _≡_ {A = ℕ} 0 1 = cc in omega arith)
+good-from false k g f n e = absurd (let z : _≡_ {A = ℕ} 0 1 = cc in omega arith)
 
 module _ (xs : List ℕ) (f : Fields) (e : readOf xs ≡ read.Good f) where
   told : (sized xs ≡ true) × (keepsRules (fields xs) ≡ true) × (f ≡ fields xs)
   unfolding readOf
-  told = good-from (sized xs) (keepsRules (fields xs)) (fields xs) f e
+  told = good-from (sized xs) (keepsRules (fields xs)) (fields xs) f _ e
 
   pub good-length : length xs ≡ 44
   good-length = eqb-true _ _ (told .0)
@@ -104,23 +107,24 @@ read-exactly xs f g t = (there, back)
 
 -- ---- writing
 
-answer-number : (t k : Bool) → imageWroteNumber (cond t (cond k wrote.Done (wrote.Refused BadImage)) (wrote.Refused BadSize)) ≡ imageNumber t k
-answer-number true true = refl
-answer-number true false = refl
-answer-number false k = refl
+answer-number : (t k : Bool) (f : Fields)
+    → imageWroteNumber (cond t (cond k wrote.Done (wrote.Refused (BadImage (lowestBroken f)))) (wrote.Refused BadSize)) ≡ imageNumber t k f
+answer-number true true f = refl
+answer-number true false f = refl
+answer-number false k f = refl
 
 module _ {good : Bool} (f : Fields) (xs : List ℕ) where
-  pub was-wrote : {ys : List ℕ} {r : WroteImage} → r ≡ wroteIf good xs → ys ≡ imageIf good f xs → WroteIf good f xs r ys
+  pub was-wrote : {ys : List ℕ} {r : WroteImage} → r ≡ wroteIf good f xs → ys ≡ imageIf good f xs → WroteIf good f xs r ys
   unfolding wroteIf
-  was-wrote e h = record { answer = e; number = ap imageWroteNumber e ∙ answer-number (sized xs) good; lent = h }
+  was-wrote e h = record { answer = e; number = ap imageWroteNumber e ∙ answer-number (sized xs) good f; lent = h }
 
   pub wrote-size : (length xs ≡ 44 → ⊥) → WroteIf good f xs (wrote.Refused BadSize) xs
   unfolding wroteIf imageIf
   wrote-size h = was-wrote (rw (ne-eqb (length xs) 44 h)) (rw (ne-eqb (length xs) 44 h))
 
-  pub wrote-broken : length xs ≡ 44 → good ≡ false → WroteIf good f xs (wrote.Refused BadImage) xs
+  pub wrote-broken : length xs ≡ 44 → good ≡ false → {n : ℕ} → n ≡ lowestBroken f → WroteIf good f xs (wrote.Refused (BadImage n)) xs
   unfolding wroteIf imageIf
-  wrote-broken l h = was-wrote (rw (eq-eqb (length xs) 44 l, h)) (rw (eq-eqb (length xs) 44 l, h))
+  wrote-broken l h e = was-wrote (rw (eq-eqb (length xs) 44 l, h, e)) (rw (eq-eqb (length xs) 44 l, h))
 
   pub image-good : length xs ≡ 44 → good ≡ true → imageIf good f xs ≡ image f
   unfolding imageIf
@@ -142,15 +146,15 @@ keeps-fits f e = rw (
 )
 
 -- what a done answer tells
-done-from : (t k : Bool) → wrote.Done ≡ cond t (cond k wrote.Done (wrote.Refused BadImage)) (wrote.Refused BadSize) → (t ≡ true) × (k ≡ true)
-done-from true true e = (refl, refl)
-done-from true false e = absurd (let z : _≡_ {A = ℕ} 0 1 = cc in omega arith)
-done-from false k e = absurd (let z : _≡_ {A = ℕ} 0 1 = cc in omega arith)
+done-from : (t k : Bool) (n : ℕ) → wrote.Done ≡ cond t (cond k wrote.Done (wrote.Refused (BadImage n))) (wrote.Refused BadSize) → (t ≡ true) × (k ≡ true)
+done-from true true n e = (refl, refl)
+done-from true false n e = absurd (let z : _≡_ {A = ℕ} 0 1 = cc in omega arith)
+done-from false k n e = absurd (let z : _≡_ {A = ℕ} 0 1 = cc in omega arith)
 
 module _ (f : Fields) (xs ys : List ℕ) (w : Wrote f xs wrote.Done ys) where
   done-told : (sized xs ≡ true) × (keepsRules f ≡ true)
   unfolding wroteIf
-  done-told = done-from (sized xs) (keepsRules f) (w .answer)
+  done-told = done-from (sized xs) (keepsRules f) _ (w .answer)
 
   pub done-keeps : lowestBroken f ≡ 0
   done-keeps = kept-none f (done-told .1)

@@ -9,8 +9,8 @@ use lib.Dec.{eqb, leb}
 use lib.ListN.{List·getD-eq-default}
 use borrow.Author.Tests.{eqb-true, eqb-false, ne-eqb, leb-true, leb-false}
 use Rattle.image.specs.declared.Fields.{Fields}
-use Rattle.image.specs.Rules.{rules, keepsRules}
-use Rattle.image.specs.Helpers.ByPhase.{every, ruleAt, keptAt, always, byPhase, free}
+use Rattle.image.specs.Rules.{rules, ruleAt, keepsRules}
+use Rattle.image.specs.Helpers.ByPhase.{every, keptAt, always, byPhase, free}
 use Rattle.image.proofs.Tests.{and-left, and-right, both, else}
 use Rattle.image.proofs.EachRule.{rule, rules-kept}
 

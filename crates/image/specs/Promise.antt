@@ -1,6 +1,6 @@
 -- What reading and writing an image promise: the answer, and every lent byte after the call, on refusal too.
 -- Assumes nothing.
-use Prim.Native.Nat.{ℕ}
+use Prim.Native.Nat.{ℕ, _+_, _*_}
 use mathlib.Core.Path.{_≡_, sym, _∙_}
 use mathlib.Core.Bool.{Bool, cond, _&&_}
 use mathlib.Core.List.{List}
@@ -14,20 +14,21 @@ use Rattle.image.specs.declared.ReadImage.the-variants as read
 use Rattle.image.specs.declared.WroteImage.{WroteImage}
 use Rattle.image.specs.declared.WroteImage.the-variants as wrote
 use Rattle.image.specs.Layout.{sizeOf, latest, image, fields}
-use Rattle.image.specs.Rules.{keepsRules}
+use Rattle.image.specs.Rules.{lowestBroken, keepsRules}
 
 -- a lent image of the right size
 abbrev pub sized : List ℕ → Bool
 sized xs = eqb (length xs) (sizeOf latest)
 
--- 7 where the size is wrong; else 8 where a rule is broken; else the fields
+-- 7 where the size is wrong; else 8 where a rule is broken, with the lowest field that breaks one; else the fields
 unfoldable pub readOf : List ℕ → ReadImage
 readOf xs =
-    cond (sized xs) (cond (keepsRules (fields xs)) (read.Good (fields xs)) (read.Refused BadImage)) (read.Refused BadSize)
+    cond (sized xs) (cond (keepsRules (fields xs)) (read.Good (fields xs)) (read.Refused (BadImage (lowestBroken (fields xs))))) (read.Refused BadSize)
 
--- what is written where fields are good: 7 where the size is wrong; else 8 where they are not; else done
-unfoldable pub wroteIf : (good : Bool) → List ℕ → WroteImage
-wroteIf good xs = cond (sized xs) (cond good wrote.Done (wrote.Refused BadImage)) (wrote.Refused BadSize)
+-- what is written where fields are good: 7 where the size is wrong; else 8 where they are not, with the lowest field that breaks a
+-- rule; else done
+unfoldable pub wroteIf : (good : Bool) → Fields → List ℕ → WroteImage
+wroteIf good f xs = cond (sized xs) (cond good wrote.Done (wrote.Refused (BadImage (lowestBroken f)))) (wrote.Refused BadSize)
 
 -- the lent bytes after: the image, or what they were where the call is refused
 unfoldable pub imageIf : (good : Bool) → Fields → List ℕ → List ℕ
@@ -35,7 +36,7 @@ imageIf good f xs = cond (sized xs && good) (image f) xs
 
 -- writing wants the rules kept: 8 where the fields break one
 abbrev pub wroteOf : Fields → List ℕ → WroteImage
-wroteOf f xs = wroteIf (keepsRules f) xs
+wroteOf f xs = wroteIf (keepsRules f) f xs
 
 abbrev pub imageOver : Fields → List ℕ → List ℕ
 imageOver f xs = imageIf (keepsRules f) f xs
@@ -49,21 +50,21 @@ abbrev pub imageWroteNumber : WroteImage → ℕ
 imageWroteNumber wrote.Done = 0
 imageWroteNumber (wrote.Refused r) = refusalNumber r
 
--- 7 BadSize, then 8 BadImage, else 0: the paper's numbers written out, so that `refusalNumber` is held to them
-abbrev pub imageNumber : (right keeps : Bool) → ℕ
-imageNumber right keeps = cond right (cond keeps 0 8) 7
+-- 7 BadSize, then 8 BadImage with its field, else 0: the paper's numbers written out, so that `refusalNumber` is held to them
+abbrev pub imageNumber : (right good : Bool) → Fields → ℕ
+imageNumber right good f = cond right (cond good 0 (8 + 256 * lowestBroken f)) 7
 
 -- ---- the promises
 
 -- read
 pub record ImageWasRead (xs : List ℕ) (r : ReadImage) : Type 0 where
   pub answer : r ≡ readOf xs
-  pub number : imageReadNumber r ≡ imageNumber (sized xs) (keepsRules (fields xs))
+  pub number : imageReadNumber r ≡ imageNumber (sized xs) (keepsRules (fields xs)) (fields xs)
 
 -- written where fields are good
 pub record WroteIf (good : Bool) (f : Fields) (xs : List ℕ) (r : WroteImage) (xs' : List ℕ) : Type 0 where
-  pub answer : r ≡ wroteIf good xs
-  pub number : imageWroteNumber r ≡ imageNumber (sized xs) good
+  pub answer : r ≡ wroteIf good f xs
+  pub number : imageWroteNumber r ≡ imageNumber (sized xs) good f
   pub lent : xs' ≡ imageIf good f xs
 
 -- write

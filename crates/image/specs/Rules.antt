@@ -4,6 +4,7 @@
 use Prim.Native.Nat.{ℕ, suc}
 use mathlib.Core.Bool.{Bool, true, false, not, cond, _&&_, _||_}
 use mathlib.Core.List.{List, [], _∷_}
+use lib.ListN.{getD}
 use lib.Dec.{eqb, leb, ltb}
 use Rattle.bus.specs.Window.{keepsLimits, checkedOf}
 use Rattle.descriptor.specs.Layout.{owned}
@@ -118,6 +119,10 @@ rulesOf edition f = firstParts edition (ruleParts edition f)
 -- those of the latest
 unfoldable pub rules : Fields → List Bool
 rules f = rulesOf latest f
+
+-- whether the field with this number keeps its rule
+abbrev pub ruleAt : Fields → (field : ℕ) → Bool
+ruleAt f field = getD (true ∷ rules f) field true
 
 -- the place, counted from k, of the first test that fails, or 0
 abbrev pub firstFalse : (k : ℕ) → List Bool → ℕ

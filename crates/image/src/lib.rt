@@ -246,13 +246,13 @@ fn kept(f: Fields) -> [bool; 22]
 }
 
 // The place of the first that is false, counted from 1, or 0.
-fn first_false(kept: [bool; 22]) -> u32
+fn first_false(kept: [bool; 22]) -> u8
     ensures { λ r. ⌜ r ≡ firstFalse 1 kept ⌝ }
 {
     let mut i: usize = 0;
     while i < 22 {
         if !kept[i] {
-            return i as u32 + 1;
+            return i as u8 + 1;
         }
         i += 1;
     }
@@ -260,7 +260,7 @@ fn first_false(kept: [bool; 22]) -> u32
 }
 
 // The lowest field that breaks a rule, counted from 1, or 0.
-pub fn broken(f: Fields) -> u32
+pub fn broken(f: Fields) -> u8
     ensures { λ r. ⌜ Gives (lowestBroken f) r ⌝ }
 {
     first_false(kept(f))
@@ -438,7 +438,8 @@ fn unpack(from: &[u8]) -> Fields
 // The bytes of an image.
 const SIZE: usize = 44;
 
-// Reads an image: its fields, where it has the right size and they keep the rules.
+// Reads an image: its fields, where it has the right size and they keep the rules. Where they do not, a copy is looked at: that the
+// fields themselves are handed to `broken` would cost every good image their way through memory.
 pub fn read(from: &[u8]) -> ReadImage
     ensures { λ r. ⌜ ImageWasRead (now (from .entry)) r ⌝ }
 {
@@ -447,7 +448,8 @@ pub fn read(from: &[u8]) -> ReadImage
     }
     let f = unpack(from);
     if !keeps(f) {
-        return ReadImage::Refused(Refusal::BadImage);
+        let spoiled = f;
+        return ReadImage::Refused(Refusal::BadImage(broken(spoiled)));
     }
     ReadImage::Good(f)
 }
@@ -460,7 +462,7 @@ pub fn write(f: Fields, to: &mut [u8]) -> WroteImage
         return WroteImage::Refused(Refusal::BadSize);
     }
     if !keeps(f) {
-        return WroteImage::Refused(Refusal::BadImage);
+        return WroteImage::Refused(Refusal::BadImage(broken(f)));
     }
     pack(f, to);
     WroteImage::Done
@@ -483,7 +485,7 @@ pub fn put(f: Fields, to: &mut [u8]) -> WroteImage
             pack(f, to);
             WroteImage::Done
         } else {
-            WroteImage::Refused(Refusal::BadImage)
+            WroteImage::Refused(Refusal::BadImage(broken(f)))
         }
     } else {
         WroteImage::Refused(Refusal::BadSize)

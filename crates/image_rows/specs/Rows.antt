@@ -2,7 +2,7 @@
 -- numbers of the fields that this counts against, and a twin with the break mended. Where a part speaks of many bits or phases some
 -- of them stand for all. The rows were worked out from the paper by hand.
 -- Assumes nothing.
-use Prim.Native.Nat.{ℕ, suc, _-_}
+use Prim.Native.Nat.{ℕ, suc, _+_, _-_, _*_}
 use mathlib.Core.Path.{_≡_, refl}
 use mathlib.Core.Bool.{Bool, true, false}
 use mathlib.Core.List.{List, [], _∷_, map}
@@ -223,9 +223,11 @@ found r =
     }
 
 abbrev pub wanted : Row → Outcome
-wanted r = record { number = 8; lowest = getD (r .places) 0 0; all = r .places; again = Good (r .twin) }
+wanted r =
+    let lowest = getD (r .places) 0 0 in
+    record { number = 8 + 256 * lowest; lowest = lowest; all = r .places; again = Good (r .twin) }
 
--- Each image rule, broken alone, is refused with 8 at its field, and the repaired twin is read.
+-- Each image rule, broken alone, is refused with 8 and its field, and the repaired twin is read.
 abbrev pub RowsHold : Type 0
 RowsHold = map found rows ≡ map wanted rows
 

@@ -1,11 +1,11 @@
 -- What a call answers, from what it learnt.
 -- Assumes nothing.
-use Prim.Native.Nat.{ℕ}
+use Prim.Native.Nat.{ℕ, _+_, _*_}
 use mathlib.Core.Path.{_≡_, refl, ap, _∙_}
 use mathlib.Core.Bool.{Bool, true, false, cond, _&&_}
 use mathlib.Core.List.{List}
 use lib.Dec.{eqb}
-use Rattle.bus.specs.declared.Refusal.the-variants.{NoRegister, BadImage}
+use Rattle.bus.specs.declared.Refusal.the-variants.{NoRegister}
 use Rattle.regs.specs.declared.ReadRegister.{ReadRegister}
 use Rattle.regs.specs.declared.ReadRegister.the-variants as reg
 use Rattle.regs.specs.Control.{lineUp}
@@ -15,7 +15,7 @@ use Rattle.image.specs.declared.ReadImage.{ReadImage}
 use Rattle.image.specs.declared.ReadImage.the-variants as read
 use Rattle.image.specs.declared.WroteImage.{WroteImage}
 use Rattle.image.specs.declared.WroteImage.the-variants as wrote
-use Rattle.image.specs.Rules.{keepsRules}
+use Rattle.image.specs.Rules.{lowestBroken, keepsRules}
 use Rattle.image.specs.Promise.{WroteIf, Wrote, readOf, wroteIf, imageIf, imageReadNumber, imageWroteNumber}
 use Rattle.image.specs.Helpers.WasPut.{fits, ImageWasPut}
 use Rattle.machine.specs.declared.Machine.{Machine}
@@ -25,7 +25,7 @@ use Rattle.machine.specs.declared.registers.WroteRegister.{WroteRegister
 use Rattle.machine.specs.declared.registers.WroteRegister.the-variants as done
 use Rattle.machine.specs.declared.registers.Line.{Line}
 use Rattle.machine.specs.declared.registers.Line.the-variants as line
-use Rattle.machine.specs.Saved.{fieldsOf, keeps, loadedAs, loadOf, savedAs, saveOf, loadNumber, saveNumber, WasLoaded, WasSaved}
+use Rattle.machine.specs.Saved.{fieldsOf, keeps, spoiled, loadedAs, loadOf, savedAs, saveOf, loadNumber, saveNumber, WasLoaded, WasSaved}
 use Rattle.machine.specs.Helpers.Put.{putOf, MachineWasPut}
 use Rattle.machine.specs.Registers.{writtenTo, writeOf, lineOf, lineNumber, registerNumber, WasWritten, WasLine}
 use Rattle.machine.specs.Registers as registers
@@ -53,9 +53,9 @@ saved-number (wrote.Refused why) = refl
 -- an image written of fields, whichever test of them the call makes
 as-wrote : {f g : Fields} {xs ys : List ℕ} {w : WroteImage} {r : SavedMachine} (good : Fields → Bool) → f ≡ g
     → WroteIf (good f) f xs w ys → r ≡ savedAs w
-    → (r ≡ savedAs (wroteIf (good g) xs)) × (saveNumber r ≡ imageWroteNumber (wroteIf (good g) xs)) × (ys ≡ imageIf (good g) g xs)
+    → (r ≡ savedAs (wroteIf (good g) g xs)) × (saveNumber r ≡ imageWroteNumber (wroteIf (good g) g xs)) × (ys ≡ imageIf (good g) g xs)
 as-wrote {xs = xs} {w = w} good e p q =
-    let is = p .answer ∙ ap (λ (h : Fields). wroteIf (good h) xs) e in (
+    let is = p .answer ∙ ap (λ (h : Fields). wroteIf (good h) h xs) e in (
       q ∙ ap savedAs is,
       ap saveNumber q ∙ saved-number w ∙ ap imageWroteNumber is,
       p .lent ∙ ap (λ (h : Fields). imageIf (good h) h xs) e,
@@ -84,7 +84,8 @@ module _ {m : Machine} {offset : ℕ} where
   unfolding registers.readingOf
   was-register e = record { answer = e; number = ap registers.registerReadNumber e ∙ number (keeps m) }
     where
-      number : (k : Bool) → registers.registerReadNumber (cond k (registerAt (m .status) (m .control) (m .pointer) offset) (reg.Refused BadImage)) ≡ registerNumber k (isRegister offset)
+      number : (k : Bool) → registers.registerReadNumber (cond k (registerAt (m .status) (m .control) (m .pointer) offset) (reg.Refused (spoiled m)))
+          ≡ cond k (cond (isRegister offset) 0 1) (8 + 256 * lowestBroken (fieldsOf m))
       number true = known (eqb offset 0) (eqb offset 4) (eqb offset 8) _ _ _
       number false = refl
 
@@ -93,7 +94,8 @@ module _ {m : Machine} {offset : ℕ} where
   was-written {v} e = record { answer = e; number = ap registers.registerWroteNumber e ∙ number (keeps m) (isRegister offset) }
     where
       number : (k known : Bool)
-          → registers.registerWroteNumber (cond k (cond known (done.Done (writtenTo m offset v)) (done.Refused NoRegister)) (done.Refused BadImage)) ≡ registerNumber k known
+          → registers.registerWroteNumber (cond k (cond known (done.Done (writtenTo m offset v)) (done.Refused NoRegister)) (done.Refused (spoiled m)))
+          ≡ cond k (cond known 0 1) (8 + 256 * lowestBroken (fieldsOf m))
       number true true = refl
       number true false = refl
       number false known = refl
@@ -102,7 +104,7 @@ pub was-line : {m : Machine} {r : Line} → r ≡ lineOf m → WasLine m r
 unfolding lineOf
 was-line {m} e = record { answer = e; number = ap lineNumber e ∙ number (keeps m) (lineUp (m .control) (m .pending)) }
   where
-    number : (k up : Bool) → lineNumber (cond k (cond up line.Up line.Down) (line.Refused BadImage)) ≡ registerNumber k true
+    number : (k up : Bool) → lineNumber (cond k (cond up line.Up line.Down) (line.Refused (spoiled m))) ≡ cond k 0 (8 + 256 * lowestBroken (fieldsOf m))
     number true true = refl
     number true false = refl
     number false up = refl

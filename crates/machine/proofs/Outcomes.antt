@@ -10,7 +10,8 @@ use lib.Dec.{eqb}
 use lib.ListN.{length, drop, length-drop}
 use borrow.Author.Tests.{eqb-true, leb-true}
 use Rattle.words.specs.Slices.{put}
-use Rattle.bus.specs.declared.Refusal.the-variants.{BadImage, OddStream, BadLedger, OtherWindow}
+use Rattle.bus.specs.declared.Refusal.{Refusal}
+use Rattle.bus.specs.declared.Refusal.the-variants.{OddStream, BadLedger, OtherWindow}
 use Rattle.ledger.specs.Records.{isLedger}
 use Rattle.image.proofs.Tests.{and-right}
 use Rattle.flow.specs.Beats.{beatsIn, beatBytes}
@@ -31,20 +32,20 @@ use Rattle.machine.proofs.Readiness.{keeps-tested}
 
 -- ---- what is lent
 
-serves-by : (a b l c : Bool)
-    → cond a (cond b (cond l (cond c serves (refused OtherWindow)) (refused BadLedger)) (refused OddStream)) (refused BadImage) ≡ serves
+serves-by : (a b l c : Bool) (why : Refusal)
+    → cond a (cond b (cond l (cond c serves (refused OtherWindow)) (refused BadLedger)) (refused OddStream)) (refused why) ≡ serves
     → (a ≡ true) × (c ≡ true) × (l ≡ true)
-serves-by true true true true e = (refl, refl, refl)
-serves-by true true true false e = absurd (let z : _≡_ {A = ℕ} 0 1 = cc in omega arith)
-serves-by true true false c e = absurd (let z : _≡_ {A = ℕ} 0 1 = cc in omega arith)
-serves-by true false l c e = absurd (let z : _≡_ {A = ℕ} 0 1 = cc in omega arith)
-serves-by false b l c e = absurd (let z : _≡_ {A = ℕ} 0 1 = cc in omega arith)
+serves-by true true true true why e = (refl, refl, refl)
+serves-by true true true false why e = absurd (let z : _≡_ {A = ℕ} 0 1 = cc in omega arith)
+serves-by true true false c why e = absurd (let z : _≡_ {A = ℕ} 0 1 = cc in omega arith)
+serves-by true false l c why e = absurd (let z : _≡_ {A = ℕ} 0 1 = cc in omega arith)
+serves-by false b l c why e = absurd (let z : _≡_ {A = ℕ} 0 1 = cc in omega arith)
 
 -- what serves is a good machine and its window
 pub serves-good : (good : Bool) (m : Machine) (l : Lent) → servedIf good m l ≡ serves
     → (good ≡ true) × (length (l .window) ≡ m .window .length) × (l .used ≤ length (l .ledger) / 12)
 serves-good good m l e =
-    let all = serves-by good (even (l .beats) && even (l .out)) (isLedger (length (l .ledger)) (l .used)) (eqb (length (l .window)) (m .window .length)) e in
+    let all = serves-by good (even (l .beats) && even (l .out)) (isLedger (length (l .ledger)) (l .used)) (eqb (length (l .window)) (m .window .length)) _ e in
     (all .0, eqb-true _ _ (all .1), leb-true _ _ (and-right (eqb (length (l .ledger) % 12) 0) _ (all .2)))
 
 -- a good machine that is served is ready, if the good ones are

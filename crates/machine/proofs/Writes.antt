@@ -3,14 +3,15 @@
 use Prim.Native.Nat.{ℕ, _%_, _^_}
 use mathlib.Core.Path.{_≡_, refl, ap, _∙_}
 use mathlib.Core.Bool.{Bool, true, false, not, cond, _&&_}
-use Rattle.bus.specs.declared.Refusal.the-variants.{NoRegister, BadImage}
+use Rattle.bus.specs.declared.Refusal.{Refusal}
+use Rattle.bus.specs.declared.Refusal.the-variants.{NoRegister}
 use Rattle.regs.specs.Offsets.{isRegister}
 use Rattle.regs.specs.Control.{run, clearInterrupt, asControl, resetBy, countFrom}
 use Rattle.machine.specs.declared.Machine.{Machine}
 use Rattle.machine.specs.declared.registers.WroteRegister.the-variants as wrote
 use Rattle.machine.specs.declared.Phase.{Phase}
 use Rattle.machine.specs.declared.Phase.the-variants.{Rest, Fetch, Move, WriteBack, Ended, Halted, Faulted}
-use Rattle.machine.specs.Saved.{keeps}
+use Rattle.machine.specs.Saved.{keeps, spoiled}
 use Rattle.machine.specs.State.{withControl, rested, fresh}
 use Rattle.machine.specs.Registers.{controlStored, released, controlWritten, writtenTo, wroteTo, writeOf}
 use Rattle.machine.specs.Helpers.Worlds.{stands}
@@ -66,9 +67,9 @@ module _ (m : Machine) (offset v : ℕ) where
   pub wrote-done : {n : Machine} → isRegister offset ≡ true → n ≡ writtenTo m offset v → wrote.Done n ≡ wroteTo m offset v
   wrote-done r e = rw r (ap wrote.Done e)
 
-  pub write-broken : keeps m ≡ false → wrote.Refused BadImage ≡ writeOf m offset v
+  pub write-broken : keeps m ≡ false → {why : Refusal} → why ≡ spoiled m → wrote.Refused why ≡ writeOf m offset v
   unfolding writeOf
-  write-broken k = rw k
+  write-broken k e = rw (k, e)
 
   pub write-kept : keeps m ≡ true → wroteTo m offset v ≡ writeOf m offset v
   unfolding writeOf

@@ -1,15 +1,16 @@
 -- The paper's "Registers".
 -- Assumes nothing.
-use Prim.Native.Nat.{ℕ, _%_, _^_}
+use Prim.Native.Nat.{ℕ, _+_, _*_, _%_, _^_}
 use mathlib.Core.Path.{_≡_, sym, _∙_}
 use mathlib.Core.Bool.{Bool, true, not, cond, _&&_}
-use Rattle.bus.specs.declared.Refusal.the-variants.{NoRegister, BadImage}
+use Rattle.bus.specs.declared.Refusal.the-variants.{NoRegister}
 use Rattle.bus.specs.Refusal.{refusalNumber}
 use Rattle.regs.specs.declared.ReadRegister.{ReadRegister}
 use Rattle.regs.specs.declared.ReadRegister.the-variants as read
 use Rattle.regs.specs.Status.{clearedBy}
 use Rattle.regs.specs.Control.{run, clearInterrupt, asControl, resetBy, countFrom, lineUp}
 use Rattle.regs.specs.Offsets.{chosen, isRegister, registerAt}
+use Rattle.image.specs.Rules.{lowestBroken}
 use Rattle.machine.specs.declared.Machine.{Machine}
 use Rattle.machine.specs.declared.Phase.{Phase}
 use Rattle.machine.specs.declared.Phase.the-variants.{Rest, Fetch, Move, WriteBack, Ended, Halted, Faulted}
@@ -18,7 +19,7 @@ use Rattle.machine.specs.declared.registers.WroteRegister.the-variants a
 use Rattle.machine.specs.declared.registers.Line.{Line}
 use Rattle.machine.specs.declared.registers.Line.the-variants as line
 use Rattle.machine.specs.State.{withStatus, withPointer, withControl, rested, fresh}
-use Rattle.machine.specs.Saved.{keeps}
+use Rattle.machine.specs.Saved.{fieldsOf, keeps, spoiled}
 
 -- ---- writing
 
@@ -57,18 +58,18 @@ wroteTo m offset v = cond (isRegister offset) (wrote.Done (writtenTo m offset v)
 
 -- a machine that breaks a rule comes before an offset that is none
 unfoldable pub writeOf : Machine → (offset v : ℕ) → WroteRegister
-writeOf m offset v = cond (keeps m) (wroteTo m offset v) (wrote.Refused BadImage)
+writeOf m offset v = cond (keeps m) (wroteTo m offset v) (wrote.Refused (spoiled m))
 
 -- ---- reading changes nothing
 
 -- a machine that breaks a rule comes before an offset that is none
 unfoldable pub readingOf : Machine → (offset : ℕ) → ReadRegister
-readingOf m offset = cond (keeps m) (registerAt (m .status) (m .control) (m .pointer) offset) (read.Refused BadImage)
+readingOf m offset = cond (keeps m) (registerAt (m .status) (m .control) (m .pointer) offset) (read.Refused (spoiled m))
 
 -- ---- the line
 
 unfoldable pub lineOf : Machine → Line
-lineOf m = cond (keeps m) (cond (lineUp (m .control) (m .pending)) line.Up line.Down) (line.Refused BadImage)
+lineOf m = cond (keeps m) (cond (lineUp (m .control) (m .pending)) line.Up line.Down) (line.Refused (spoiled m))
 
 -- ---- the paper's number of each answer
 
@@ -85,23 +86,23 @@ lineNumber line.Up = 0
 lineNumber line.Down = 0
 lineNumber (line.Refused why) = refusalNumber why
 
--- 8 BadImage, then 1 NoRegister, else 0: the paper's numbers written out, so that `refusalNumber` is held to them
-abbrev pub registerNumber : (keeps known : Bool) → ℕ
-registerNumber keeps known = cond keeps (cond known 0 1) 8
+-- 8 BadImage with its field, then 1 NoRegister, else 0: the paper's numbers written out, so that `refusalNumber` is held to them
+abbrev pub registerNumber : Machine → (known : Bool) → ℕ
+registerNumber m known = cond (keeps m) (cond known 0 1) (8 + 256 * lowestBroken (fieldsOf m))
 
 -- ---- the promises
 
 pub record RegisterWasRead (m : Machine) (offset : ℕ) (r : ReadRegister) : Type 0 where
   pub answer : r ≡ readingOf m offset
-  pub number : registerReadNumber r ≡ registerNumber (keeps m) (isRegister offset)
+  pub number : registerReadNumber r ≡ registerNumber m (isRegister offset)
 
 pub record WasWritten (m : Machine) (offset v : ℕ) (r : WroteRegister) : Type 0 where
   pub answer : r ≡ writeOf m offset v
-  pub number : registerWroteNumber r ≡ registerNumber (keeps m) (isRegister offset)
+  pub number : registerWroteNumber r ≡ registerNumber m (isRegister offset)
 
 pub record WasLine (m : Machine) (r : Line) : Type 0 where
   pub answer : r ≡ lineOf m
-  pub number : lineNumber r ≡ registerNumber (keeps m) true
+  pub number : lineNumber r ≡ registerNumber m true
 
 pub reading-unique : {m : Machine} {offset : ℕ} {r s : ReadRegister} → RegisterWasRead m offset r → RegisterWasRead m offset s → r ≡ s
 reading-unique p q = p .answer ∙ sym (q .answer)

@@ -7,7 +7,7 @@ use mathlib.Core.List.{List, _++_}
 use lib.Dec.{eqb}
 use lib.ListN.{length, drop}
 use Rattle.bus.specs.declared.Refusal.{Refusal}
-use Rattle.bus.specs.declared.Refusal.the-variants.{BadImage, OddStream, BadLedger, OtherWindow}
+use Rattle.bus.specs.declared.Refusal.the-variants.{OddStream, BadLedger, OtherWindow}
 use Rattle.bus.specs.Refusal.{refusalNumber}
 use Rattle.words.specs.Slices.{put}
 use Rattle.ledger.specs.Records.{ledgerBytes, capacity, isLedger}
@@ -21,7 +21,7 @@ use Rattle.machine.specs.declared.StepAnswer.{StepAnswer}
 use Rattle.machine.specs.declared.StepAnswer.the-variants as one
 use Rattle.machine.specs.declared.RunAnswer.{RunAnswer}
 use Rattle.machine.specs.declared.RunAnswer.the-variants as many
-use Rattle.machine.specs.Saved.{keeps}
+use Rattle.machine.specs.Saved.{keeps, spoiled}
 use Rattle.machine.specs.Step.{World, Answer, taken, stopped, opened, step}
 
 -- ---- the run
@@ -90,7 +90,7 @@ pub data Served : Type 0 where
 abbrev pub even : List ℕ → Bool
 even xs = eqb (length xs % 2) 0
 
--- 8 where the machine is not good; 9 where beats, in or out, have an odd number of bytes; 19 where the ledger is not whole records,
+-- 8 where the machine is not good, with the lowest field of its image that breaks a rule; 9 where beats, in or out, have an odd number of bytes; 19 where the ledger is not whole records,
 -- or fewer than are said to be used; 4 where the window's length is not the machine's
 abbrev pub servedIf : (good : Bool) → Machine → Lent → Served
 servedIf good m l =
@@ -100,7 +100,7 @@ servedIf good m l =
     (cond (eqb (length (l .window)) (m .window .length)) serves (refused OtherWindow))
     (refused BadLedger))
     (refused OddStream))
-    (refused BadImage)
+    (refused (spoiled m))
 
 -- good is a machine that keeps the rules
 unfoldable pub servedOf : Machine → Lent → Served

@@ -5,6 +5,8 @@ use mathlib.Core.Path.{_≡_, sym, _∙_}
 use mathlib.Core.Bool.{Bool, false}
 use mathlib.Core.List.{List, [], _∷_}
 use lib.ListN.{getD}
+use Rattle.bus.specs.declared.Refusal.{Refusal}
+use Rattle.bus.specs.declared.Refusal.the-variants.{BadImage}
 use Rattle.bus.specs.Refusal.{refusalNumber}
 use Rattle.regs.specs.Modes.{modeNumber, modeOf}
 use Rattle.regs.specs.Status.{statusNumber, statusOf}
@@ -14,7 +16,7 @@ use Rattle.image.specs.declared.ReadImage.{ReadImage}
 use Rattle.image.specs.declared.ReadImage.the-variants as read
 use Rattle.image.specs.declared.WroteImage.{WroteImage}
 use Rattle.image.specs.declared.WroteImage.the-variants as wrote
-use Rattle.image.specs.Rules.{keepsRules}
+use Rattle.image.specs.Rules.{lowestBroken, keepsRules}
 use Rattle.image.specs.Promise.{readOf, wroteOf, imageOver, imageReadNumber, imageWroteNumber}
 use Rattle.machine.specs.declared.Machine.{Machine}
 use Rattle.machine.specs.declared.Work.{Work}
@@ -95,6 +97,10 @@ fieldsOf m =
 -- the machine keeps the image rules
 abbrev pub keeps : Machine → Bool
 keeps m = keepsRules (fieldsOf m)
+
+-- 8 for one that does not, with the lowest field of its image that breaks a rule
+abbrev pub spoiled : Machine → Refusal
+spoiled m = BadImage (lowestBroken (fieldsOf m))
 
 -- ---- the machine that fields are
 

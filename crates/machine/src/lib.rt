@@ -12,6 +12,7 @@ pub mod steps;
 ghost use Rattle.words.specs.Promise.{Gives};
 ghost use Rattle.machine.specs.State.{phaseNumber};
 ghost use Rattle.machine.specs.Run.{reasonNumber};
+ghost use Rattle.machine.specs.Saved.{loadNumber};
 use bus::Refusal;
 use bus::Window;
 use descriptor::DescControl;
@@ -155,6 +156,18 @@ pub enum RunAnswer {
 pub enum LoadedMachine {
     Good(Machine),
     Refused(Refusal),
+}
+
+impl LoadedMachine {
+    // The paper's number.
+    pub fn number(self) -> u32
+        ensures { λ r. ⌜ Gives (loadNumber self) r ⌝ }
+    {
+        match self {
+            LoadedMachine::Good(_) => 0,
+            LoadedMachine::Refused(why) => why.number(),
+        }
+    }
 }
 
 // Whether a machine was saved, or why not.

@@ -168,7 +168,7 @@ impl Machine {
         ensures { λ r. ⌜ RegisterWasRead self offset r ⌝ }
     {
         if !self.keeps() {
-            return ReadRegister::Refused(Refusal::BadImage);
+            return ReadRegister::Refused(self.spoiled());
         }
         self.register(offset)
     }
@@ -177,7 +177,7 @@ impl Machine {
         ensures { λ r. ⌜ WasWritten self offset value r ⌝ }
     {
         if !self.keeps() {
-            return WroteRegister::Refused(Refusal::BadImage);
+            return WroteRegister::Refused(self.spoiled());
         }
         self.write(offset, value)
     }
@@ -186,7 +186,7 @@ impl Machine {
         ensures { λ r. ⌜ WasLine self r ⌝ }
     {
         if !self.keeps() {
-            return Line::Refused(Refusal::BadImage);
+            return Line::Refused(self.spoiled());
         }
         if self.up() { Line::Up } else { Line::Down }
     }

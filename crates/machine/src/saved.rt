@@ -4,7 +4,7 @@ ghost use mathlib.Core.Path.{_≡_};
 ghost use Rattle.bus.specs.Window.{keepsLimits};
 ghost use Rattle.regs.specs.Modes.{modeOf};
 ghost use Rattle.machine.specs.declared.LoadedMachine.the-variants.{Good};
-ghost use Rattle.machine.specs.Saved.{inHand, faultIn, fieldsOf, keeps as keepsOf, workOf, phaseOf, machineOf, savedAs, WasLoaded, WasSaved};
+ghost use Rattle.machine.specs.Saved.{inHand, faultIn, fieldsOf, keeps as keepsOf, spoiled as spoiledOf, workOf, phaseOf, machineOf, savedAs, WasLoaded, WasSaved};
 ghost use Rattle.machine.specs.Helpers.Put.{MachineWasPut};
 use crate::Fault;
 use crate::LoadedMachine;
@@ -121,7 +121,7 @@ fn machine_of(f: Fields) -> LoadedMachine
     ensures { λ r. ⌜ r ≡ Good (machineOf f) ⌝ }
 {
     let CheckedWindow::Good(window) = Window::checked(f.base as u64, f.window as u64) else {
-        return LoadedMachine::Refused(Refusal::BadImage);
+        return LoadedMachine::Refused(Refusal::BadWindow);
     };
     LoadedMachine::Good(Machine {
         mode: mode_of(f.mode),
@@ -188,6 +188,13 @@ impl Machine {
         ensures { λ r. ⌜ r ≡ keepsOf self ⌝ }
     {
         image::keeps(self.fields())
+    }
+
+    // 8 for one that does not, with the lowest field of its image that breaks a rule. No good path comes here.
+    pub(crate) fn spoiled(self) -> Refusal
+        ensures { λ r. ⌜ r ≡ spoiledOf self ⌝ }
+    {
+        Refusal::BadImage(image::broken(self.fields()))
     }
 
     // The machine of 44 bytes that keep the rules.

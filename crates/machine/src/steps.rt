@@ -149,7 +149,7 @@ impl Machine {
 
 // Of any machine, and of whatever is lent.
 impl Machine {
-    // 8 where the machine is not good; 9 where beats, in or out, have an odd number of bytes; 19 where the ledger is not whole
+    // 8 where the machine is not good, with the field; 9 where beats, in or out, have an odd number of bytes; 19 where the ledger is not whole
     // records, or fewer than are said to be used; 4 where the window's length is not the machine's.
     pub(crate) fn served(
         self,
@@ -164,7 +164,7 @@ impl Machine {
             servedAs r ≡ servedIf good self (lent (now (window .entry)) (now (beats .entry)) (now (out .entry)) (now (ledger .entry)) used) ⌝ }
     {
         if !good {
-            return Served::Refused(Refusal::BadImage);
+            return Served::Refused(self.spoiled());
         }
         let even = (beats.len() % 2 == 0) & (out.len() % 2 == 0);
         if !even {

@@ -12,18 +12,19 @@ use Rattle.words.specs.Slices.{AllBytes}
 use Rattle.image.specs.declared.Fields.{Fields}
 use Rattle.image.specs.declared.ReadImage.{ReadImage}
 use Rattle.image.specs.declared.ReadImage.the-variants as read
-use Rattle.image.specs.Layout.{image, Typed}
-use Rattle.image.specs.Rules.{lowestBroken, working, inFaulted}
+use Rattle.image.specs.Layout.{image, fields, Typed}
+use Rattle.image.specs.Rules.{lowestBroken, keepsRules, working, inFaulted}
 use Rattle.image.specs.Promise.{readOf}
 use Rattle.image.proofs.Facts.{edition-is, mode-le, phase-le, armed-is, status-lt, zero15-is, fault-none, faultat-none, no-address, no-source, no-destination, no-size, no-dcontrol, no-errors, no-moved, no-eop}
-use Rattle.image.proofs.Answers.{keeps, kept-none, good-keeps, good-image, good-typed, read-image, wrote-done}
+use Rattle.image.proofs.Answers.{keeps, kept-none, good-keeps, good-image, good-typed, read-broken, read-image, wrote-done}
+use Rattle.image.proofs.RoundTrip.{length-image, fields-image}
 use Rattle.machine.specs.declared.Machine.{Machine}
 use Rattle.machine.specs.declared.LoadedMachine.the-variants.{Good}
 use Rattle.machine.specs.declared.SavedMachine.{SavedMachine}
 use Rattle.machine.specs.declared.SavedMachine.the-variants as saved
 use Rattle.machine.specs.Saved as core
 use Rattle.machine.proofs.Answers.{was-loaded}
-use Rattle.met.specs.Theorems.{SavedAgain, LoadsBack, LoadsExactly}
+use Rattle.met.specs.Theorems.{SavedAgain, LoadsBack, LoadsExactly, SameField}
 use Rattle.met.proofs.Numbers.{mode-back, mode-there, status-back, status-there, phase-back, phase-there}
 
 -- ---- a machine as fields, and back
@@ -146,3 +147,11 @@ loads-exactly xs m g t = (there, back)
 
     back : (core.keeps m ≡ true) × (xs ≡ image (core.fieldsOf m)) → core.WasLoaded xs (Good m)
     back (k, e) = was-loaded (sym (ap core.loadOf e ∙ loads m t k))
+
+-- A machine that breaks a rule is refused with the same field as its image is.
+pub same-field : SameField
+unfolding core.loadOf
+same-field m fit k =
+    let f = core.fieldsOf m in
+    let back : fields (image f) ≡ f = fields-image f fit in
+    ap core.loadedAs (read-broken (image f) (length-image f) (ap keepsRules back ∙ k) (sym (ap lowestBroken back)))

@@ -2,24 +2,25 @@
 -- Assumes nothing.
 use Prim.Native.Nat.{ℕ, _^_, _<_}
 use mathlib.Core.Path.{_≡_}
-use mathlib.Core.Bool.{true}
+use mathlib.Core.Bool.{true, false}
 use mathlib.Core.List.{List}
 use mathlib.Core.Logic.{_↔_}
 use lib.ListN.{length}
 use Rattle.words.specs.Bits.{bit}
+use Rattle.words.specs.Numbers.{Fit}
 use Rattle.words.specs.Slices.{AllBytes}
-use Rattle.image.specs.Layout.{image, Typed}
+use Rattle.image.specs.Layout.{values, widths, image, Typed}
 use Rattle.machine.specs.declared.Machine.{Machine}
 use Rattle.machine.specs.declared.Work.{Work}
 use Rattle.machine.specs.declared.Fault.{Fault}
 use Rattle.machine.specs.declared.Phase.the-variants.{Fetch, Move, WriteBack, Faulted}
 use Rattle.machine.specs.declared.Reason.the-variants as reason
 use Rattle.machine.specs.declared.LoadedMachine.{LoadedMachine}
-use Rattle.machine.specs.declared.LoadedMachine.the-variants.{Good}
+use Rattle.machine.specs.declared.LoadedMachine.the-variants.{Good, Refused}
 use Rattle.machine.specs.declared.SavedMachine.{SavedMachine}
 use Rattle.machine.specs.declared.SavedMachine.the-variants as saved
 use Rattle.machine.specs.declared.registers.WroteRegister.the-variants as wrote
-use Rattle.machine.specs.Saved.{fieldsOf, keeps, WasLoaded, WasSaved}
+use Rattle.machine.specs.Saved.{fieldsOf, keeps, spoiled, loadOf, WasLoaded, WasSaved}
 use Rattle.machine.specs.Registers.{WasWritten}
 use Rattle.machine.specs.Step.{World, taken, writtenControl, writtenBack, step}
 use Rattle.machine.specs.Run.{run}
@@ -45,6 +46,11 @@ LoadsBack = (m : Machine) (ys zs : List ℕ) (r : SavedMachine) (s : LoadedMachi
 abbrev pub LoadsExactly : Type 0
 LoadsExactly = (xs : List ℕ) (m : Machine) → AllBytes xs → Typed (fieldsOf m)
     → WasLoaded xs (Good m) ↔ ((keeps m ≡ true) × (xs ≡ image (fieldsOf m)))
+
+-- Order 1: a machine that breaks a rule is refused with the same field as its image is, where its numbers fit their widths, so that it
+-- has one.
+abbrev pub SameField : Type 0
+SameField = (m : Machine) → Fit widths (values (fieldsOf m)) → keeps m ≡ false → loadOf (image (fieldsOf m)) ≡ Refused (spoiled m)
 
 -- ---- the rules are kept
 

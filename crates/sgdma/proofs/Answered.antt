@@ -8,7 +8,8 @@ use lib.ListN.{length}
 use borrow.Author.Tests.{eq-eqb, ne-eqb}
 use Rattle.words.specs.Promise.{Gives, Leaves}
 use Rattle.bus.specs.declared.Refusal.{Refusal}
-use Rattle.bus.specs.declared.Refusal.the-variants.{BadSize, BadImage}
+use Rattle.bus.specs.declared.Refusal.the-variants.{BadSize}
+use Rattle.bus.specs.Refusal.{refusalNumber}
 use Rattle.descriptor.specs.declared.ReadDescriptor.{ReadDescriptor}
 use Rattle.descriptor.specs.declared.ReadDescriptor.the-variants as descriptor
 use Rattle.descriptor.specs.Calls.{DescriptorWasRead, descriptorNumber}
@@ -29,7 +30,7 @@ use Rattle.machine.specs.Run.{reasonNumber}
 use Rattle.machine.specs.Saved.{loadOf}
 use Rattle.machine.specs.Registers.{registerReadNumber, lineNumber}
 use Rattle.sgdma.specs.Calls.{registerOf, readCall, valueOver, RegisterRead, lineIn, lineCall, lineOver, LineRead, reportOver, descriptorCall, answerOver, DescriptorRead}
-use Rattle.sgdma.proofs.Opened.{first-wrong, second-wrong, sizes-right, not-loaded, register-loaded, line-loaded}
+use Rattle.sgdma.proofs.Opened.{first-wrong, second-wrong, sizes-right, register-loaded, line-loaded}
 
 -- ---- sgdma_read_register
 
@@ -48,11 +49,10 @@ module _ {xs value ys : List ℕ} {offset r : ℕ} where
     value-short h p q = answers (register.Refused BadSize) (second-wrong _ _ 4 xs value l h) p q
 
     module _ (k : length value ≡ 4) where
-      pub register-spoiled : {why : Refusal} → loadOf xs ≡ loaded.Refused why → r ≡ 8 → ys ≡ value → RegisterRead xs offset value r ys
+      pub register-spoiled : {why : Refusal} → loadOf xs ≡ loaded.Refused why → r ≡ refusalNumber why → ys ≡ value → RegisterRead xs offset value r ys
       unfolding readCall
       register-spoiled {why} e p q =
-          answers (register.Refused BadImage)
-          (sizes-right _ _ 4 xs value l k ∙ ap (λ (x : LoadedMachine). registerOf x offset) (not-loaded xs why l e)) p q
+          answers (register.Refused why) (sizes-right _ _ 4 xs value l k ∙ ap (λ (x : LoadedMachine). registerOf x offset) e) p q
 
       pub register-answers : {m : Machine} {a b : ReadRegister} → loadOf xs ≡ loaded.Good m → Gives (registerAt (m .status) (m .control) (m .pointer) offset) a → a ≡ b
           → r ≡ registerReadNumber b → ys ≡ valueOver b value → RegisterRead xs offset value r ys
@@ -76,10 +76,9 @@ module _ {xs value ys : List ℕ} {r : ℕ} where
     line-value-short h p q = line-says (line.Refused BadSize) (second-wrong _ _ 4 xs value l h) p q
 
     module _ (k : length value ≡ 4) where
-      pub line-spoiled : {why : Refusal} → loadOf xs ≡ loaded.Refused why → r ≡ 8 → ys ≡ value → LineRead xs value r ys
+      pub line-spoiled : {why : Refusal} → loadOf xs ≡ loaded.Refused why → r ≡ refusalNumber why → ys ≡ value → LineRead xs value r ys
       unfolding lineCall
-      line-spoiled {why} e p q =
-          line-says (line.Refused BadImage) (sizes-right _ _ 4 xs value l k ∙ ap lineIn (not-loaded xs why l e)) p q
+      line-spoiled {why} e p q = line-says (line.Refused why) (sizes-right _ _ 4 xs value l k ∙ ap lineIn e) p q
 
       pub line-answers : {m : Machine} {up : Bool} (b : Line) (v : ℕ) → loadOf xs ≡ loaded.Good m → Gives (lineUp (m .control) (m .pending)) up → cond up line.Up line.Down ≡ b
           → r ≡ lineNumber b → valueBytes v ≡ lineOver b value → Leaves (answerPut (valueBytes v) value) ys → LineRead xs value r ys

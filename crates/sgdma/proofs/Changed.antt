@@ -10,7 +10,8 @@ use lib.ListN.{length}
 use borrow.Author.Tests.{eq-eqb, ne-eqb}
 use Rattle.words.specs.Promise.{Gives}
 use Rattle.bus.specs.declared.Refusal.{Refusal}
-use Rattle.bus.specs.declared.Refusal.the-variants.{BadMode, BadSize, BadImage}
+use Rattle.bus.specs.declared.Refusal.the-variants.{BadMode, BadSize}
+use Rattle.bus.specs.Refusal.{refusalNumber}
 use Rattle.bus.specs.declared.Window.{Window}
 use Rattle.bus.specs.declared.CheckedWindow.the-variants as window
 use Rattle.bus.specs.Window.{keepsLimits, checkedOf}
@@ -33,7 +34,7 @@ use Rattle.met.specs.Sound.{Sound}
 use Rattle.met.proofs.RoundTrip.{loaded-keeps, loaded-typed}
 use Rattle.met.proofs.Writes.{fresh-keeps, write-keeps}
 use Rattle.sgdma.specs.Calls.{imageOf, createNumber, Created, writtenIn, writtenOver, RegisterWritten}
-use Rattle.sgdma.proofs.Opened.{not-loaded, write-loaded}
+use Rattle.sgdma.proofs.Opened.{write-loaded}
 
 -- ---- sgdma_write_register
 
@@ -57,9 +58,8 @@ module _ {xs ys : List ℕ} {offset v r : ℕ} where
   unfolding loadOf
   image-short h p q = says (wrote.Refused BadSize) (ap (λ (x : LoadedMachine). writtenIn x offset v) (ap loadedAs (read-size xs h))) p q
 
-  pub image-spoiled : {why : Refusal} → length xs ≡ 44 → loadOf xs ≡ Refused why → r ≡ 8 → ys ≡ xs → RegisterWritten xs offset v r ys
-  image-spoiled {why} l e p q =
-      says (wrote.Refused BadImage) (ap (λ (x : LoadedMachine). writtenIn x offset v) (not-loaded xs why l e)) p q
+  pub image-spoiled : {why : Refusal} → loadOf xs ≡ Refused why → r ≡ refusalNumber why → ys ≡ xs → RegisterWritten xs offset v r ys
+  image-spoiled {why} e p q = says (wrote.Refused why) (ap (λ (x : LoadedMachine). writtenIn x offset v) e) p q
 
   pub write-answers : {m : Machine} {w b : WroteRegister} → loadOf xs ≡ Good m → Gives (wroteTo m offset v) w → w ≡ b
       → r ≡ registerWroteNumber b → ys ≡ writtenOver b xs → RegisterWritten xs offset v r ys

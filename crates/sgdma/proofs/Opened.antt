@@ -1,4 +1,4 @@
--- The sizes of what is lent, an image that does not load, and the registers of one that does.
+-- The sizes of what is lent, and the registers of an image that loads.
 -- Assumes nothing.
 use Prim.Native.Nat.{ℕ}
 use mathlib.Core.Path.{_≡_, sym, ap, _∙_}
@@ -8,8 +8,6 @@ use native.Mathlib.Omega.{arith}
 use lib.ListN.{length}
 use borrow.Author.Tests.{eq-eqb, ne-eqb}
 use Rattle.words.specs.Promise.{Gives}
-use Rattle.bus.specs.declared.Refusal.{Refusal}
-use Rattle.bus.specs.declared.Refusal.the-variants.{BadImage}
 use Rattle.regs.specs.declared.ReadRegister.{ReadRegister}
 use Rattle.regs.specs.Control.{lineUp}
 use Rattle.regs.specs.Offsets.{registerAt}
@@ -40,17 +38,6 @@ module _ {A : Type 0} (a b : A) (n : ℕ) (xs ys : List ℕ) where
 
   pub sizes-right : length xs ≡ 44 → length ys ≡ n → cond (sized xs && isSize n ys) a b ≡ a
   sizes-right l k = rw (eq-eqb (length xs) 44 l, eq-eqb (length ys) n k)
-
-refused-by : (k : Bool) (f : Fields) (why : Refusal) → loadedAs (cond k (read.Good f) (read.Refused BadImage)) ≡ Refused why → why ≡ BadImage
-refused-by true f why e = absurd (let z : _≡_ {A = ℕ} 0 1 = cc in omega arith)
-refused-by false f why e = cc
-
--- an image of the right size that does not load breaks a rule
-pub not-loaded : (xs : List ℕ) (why : Refusal) → length xs ≡ 44 → loadOf xs ≡ Refused why → loadOf xs ≡ Refused BadImage
-unfolding loadOf image.readOf
-not-loaded xs why l e =
-    let h : loadOf xs ≡ loadedAs (cond (keepsRules (fields xs)) (read.Good (fields xs)) (read.Refused BadImage)) = rw (eq-eqb (length xs) 44 l) in
-    e ∙ ap Refused (refused-by (keepsRules (fields xs)) (fields xs) why (sym h ∙ e))
 
 -- ---- a loaded machine keeps the rules, so that its registers are those of any machine
 

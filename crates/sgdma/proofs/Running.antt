@@ -8,7 +8,8 @@ use native.Mathlib.Omega.{arith}
 use lib.ListN.{length}
 use Rattle.words.specs.Slices.{AllBytes}
 use Rattle.bus.specs.declared.Refusal.{Refusal}
-use Rattle.bus.specs.declared.Refusal.the-variants.{BadSize, BadImage}
+use Rattle.bus.specs.declared.Refusal.the-variants.{BadSize}
+use Rattle.bus.specs.Refusal.{refusalNumber}
 use Rattle.image.specs.Promise.{sized}
 use Rattle.machine.specs.declared.Machine.{Machine}
 use Rattle.machine.specs.declared.Ran.{Ran}
@@ -28,7 +29,7 @@ use Rattle.met.specs.Met as met
 use Rattle.met.proofs.InUse.{met-keeps}
 use Rattle.met.proofs.RoundTrip.{loaded-typed, loads-exactly}
 use Rattle.sgdma.specs.Calls.{imageOf, isSize, runIn, runCall, ranOver, reportOver, returnedIn, RunMade}
-use Rattle.sgdma.proofs.Opened.{first-wrong, second-wrong, sizes-right, not-loaded, keeps-loaded}
+use Rattle.sgdma.proofs.Opened.{first-wrong, second-wrong, sizes-right, keeps-loaded}
 
 -- ---- what a run's answer is known to be
 
@@ -97,14 +98,13 @@ module _ {xs report xs' report' : List ℕ} {l : Lent} {b : Returned} {budget r 
     report-short h p x o q = made (ran.Refused BadSize) (second-wrong _ _ 18 xs report s h) (second-wrong _ _ 18 xs report s h) p x o q
 
     module _ (k : length report ≡ 18) where
-      pub run-spoiled : {why : Refusal} → loadOf xs ≡ Refused why → r ≡ 8 → xs' ≡ xs → b ≡ asLent l → report' ≡ report
+      pub run-spoiled : {why : Refusal} → loadOf xs ≡ Refused why → r ≡ refusalNumber why → xs' ≡ xs → b ≡ asLent l → report' ≡ report
           → RunMade xs l budget report r xs' b report'
       unfolding runCall
       run-spoiled {why} e p x o q =
-          let bad = not-loaded xs why s e in
-          made (ran.Refused BadImage)
-          (sizes-right _ _ 18 xs report s k ∙ ap (λ (m : LoadedMachine). runIn m l budget) bad)
-          (sizes-right _ _ 18 xs report s k ∙ ap (λ (m : LoadedMachine). returnedIn m l budget) bad) p x o q
+          made (ran.Refused why)
+          (sizes-right _ _ 18 xs report s k ∙ ap (λ (m : LoadedMachine). runIn m l budget) e)
+          (sizes-right _ _ 18 xs report s k ∙ ap (λ (m : LoadedMachine). returnedIn m l budget) e) p x o q
 
       pub run-answers : {m : Machine} {a c : RunAnswer} {d : Returned} → loadOf xs ≡ Good m → Resumed m l budget a d → a ≡ c
           → r ≡ runNumber c → xs' ≡ ranOver c xs → b ≡ d → report' ≡ reportOver c report → RunMade xs l budget report r xs' b report'

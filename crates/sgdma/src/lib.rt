@@ -72,8 +72,9 @@ pub extern "C" fn sgdma_write_register(image: &mut [u8], offset: u32, value: u32
     if image.len() != IMAGE {
         return Refusal::BadSize.number();
     }
-    let LoadedMachine::Good(m) = Machine::load(image) else {
-        return Refusal::BadImage.number();
+    let loaded = Machine::load(image);
+    let LoadedMachine::Good(m) = loaded else {
+        return loaded.number();
     };
     let wrote = m.write(offset, value);
     match wrote {
@@ -96,8 +97,9 @@ pub extern "C" fn sgdma_read_register(image: &[u8], offset: u32, value: &mut [u8
     if value.len() != VALUE {
         return Refusal::BadSize.number();
     }
-    let LoadedMachine::Good(m) = Machine::load(image) else {
-        return Refusal::BadImage.number();
+    let loaded = Machine::load(image);
+    let LoadedMachine::Good(m) = loaded else {
+        return loaded.number();
     };
     let answer = m.register(offset);
     match answer {
@@ -120,8 +122,9 @@ pub extern "C" fn sgdma_line(image: &[u8], value: &mut [u8]) -> u32
     if value.len() != VALUE {
         return Refusal::BadSize.number();
     }
-    let LoadedMachine::Good(m) = Machine::load(image) else {
-        return Refusal::BadImage.number();
+    let loaded = Machine::load(image);
+    let LoadedMachine::Good(m) = loaded else {
+        return loaded.number();
     };
     if m.up() {
         put_value(value, 1);
@@ -175,8 +178,9 @@ pub extern "C" fn sgdma_run(
     if report.len() != REPORT {
         return Refusal::BadSize.number();
     }
-    let LoadedMachine::Good(m) = Machine::load(image) else {
-        return Refusal::BadImage.number();
+    let loaded = Machine::load(image);
+    let LoadedMachine::Good(m) = loaded else {
+        return loaded.number();
     };
     let answer = m.resume(window, beats, out, ledger, used, budget);
     match answer {

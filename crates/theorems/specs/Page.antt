@@ -5,13 +5,13 @@
 -- Assumes nothing.
 use Rattle.words.specs.Theorems.{RecodeBack, FieldsPacked, RowBack, RowThere}
 use Rattle.bus.specs.Theorems.{LocatedIs}
-use Rattle.image.specs.Theorems.{ReadExactly}
+use Rattle.image.specs.Theorems.{ReadExactly, FieldTold}
 use Rattle.image_rows.specs.Rows.{RowsHold, SampleWritten, SampleRead}
 use Rattle.descriptor.specs.Theorems.{LengthJob, ByOffset, ReadAfterBuild, BuildAfterRead}
 use Rattle.machine.specs.Theorems.{RunAdd, RunTells, BudgetOnly, ResumedRuns, StepPassed, StepSpares, RowSteps, CopySteps, SendSteps, ReceiveSteps}
 use Rattle.known_runs.specs.Theorems.{KnownRunsHold, WorkedCasesHold}
 use Rattle.met.specs.Theorems.{FaultedStands, OnlyResetLeaves, ReadInFetchAlone, NoEffectInFetch, NoEffectInMove, NoEffectInWriteBack, KeptAsGiven}
-use Rattle.met.specs.Theorems.{LoadsExactly, SavedAgain, LoadsBack, WriteKeeps, StepKeeps, RunKeeps, MetKeeps, MetSaves}
+use Rattle.met.specs.Theorems.{LoadsExactly, SameField, SavedAgain, LoadsBack, WriteKeeps, StepKeeps, RunKeeps, MetKeeps, MetSaves}
 use Rattle.sums.specs.Theorems.{SessionAdds}
 use Rattle.chain.specs.Theorems.{ChainTheorem, ChainAtEveryStep, ChainRecords, BudgetExists, ChainOfRun, ChainOfRunAtEveryStep, KnownRun1, ChainOfThree}
 use Rattle.sgdma.specs.Calls.{CreatedUnique, RegisterReadUnique, RegisterWrittenUnique, LineReadUnique, RunMadeUnique, DescriptorBuiltUnique}
@@ -208,6 +208,14 @@ read-exactly = Rattle.image.proofs.Answers.read-exactly
 -- Bytes load as m exactly when m keeps the rules and they are its image.
 pub loads-exactly : LoadsExactly
 loads-exactly = Rattle.met.proofs.RoundTrip.loads-exactly
+
+-- Order 1: the field told breaks its rule, and every field before it keeps its own.
+pub field-told : FieldTold
+field-told = Rattle.image.proofs.EachRule.field-told
+
+-- Order 1: a machine that breaks a rule is refused with the same field as its image is, where its numbers fit their widths.
+pub same-field : SameField
+same-field = Rattle.met.proofs.RoundTrip.same-field
 
 -- A loaded image saved again gives the same bytes.
 pub saved-again : SavedAgain

@@ -1,7 +1,7 @@
 //! What a call and its answer show. A run is taken again step by step with the
 //! model, so that what happens inside it is seen as well.
 
-use super::refusals::{applying, image_read};
+use super::refusals::{applying, broken_fields, broken_rules};
 use super::{ledgers, AtMax, EdgeWindow, Event, LastByte, Point};
 use crate::call::{Call, Lent, Told};
 use crate::compare::Answer;
@@ -51,12 +51,21 @@ fn refused(call: &Call, reach: &mut dyn FnMut(Point)) {
             reach(Point::Outranked(call.function(), first, other));
         }
     }
-    if let ([Refusal::BadLedger, ..], Some(machine)) = (&*applying, loaded(call.image())) {
-        ledgers::refused(call, &machine, reach);
+    match (&*applying, loaded(call.image())) {
+        ([Refusal::BadLedger, ..], Some(machine)) => ledgers::refused(call, &machine, reach),
+        ([Refusal::BadImage, ..], _) => spoiled(call, reach),
+        _ => {}
     }
-    let broken = image_read(call).map(|image| Paper.broken_rules(&image));
-    if let Some([rule]) = broken.as_deref() {
-        reach(Point::BrokenAlone(*rule));
+}
+
+/// The call was refused for its image.
+fn spoiled(call: &Call, reach: &mut dyn FnMut(Point)) {
+    if let [rule] = *broken_rules(call) {
+        reach(Point::BrokenAlone(rule));
+    }
+    let mut fields = broken_fields(call).into_iter();
+    if let Some(lowest) = fields.next() {
+        fields.for_each(|higher| reach(Point::ToldLower(lowest, higher)));
     }
 }
 

@@ -4,9 +4,10 @@
 use super::{LedgerFlaw, Point};
 use crate::call::{Call, Function, Lent};
 use crate::model::{
-    Image, Images, Paper, Refusal, Window, Windows, DESCRIPTOR_ANSWER_SIZE, DESCRIPTOR_SIZE,
-    IMAGE_SIZE, REPORT_SIZE, VALUE_SIZE,
+    Image, ImageRule, Images, Paper, Refusal, Window, Windows, DESCRIPTOR_ANSWER_SIZE,
+    DESCRIPTOR_SIZE, IMAGE_SIZE, REPORT_SIZE, VALUE_SIZE,
 };
+use std::collections::BTreeSet;
 
 /// The refusals that each call can give, first that applies, and those pairs of
 /// them that can apply together.
@@ -33,11 +34,40 @@ const REFUSALS: [CallRefusals; 7] = [
        (BadWindow, Outside), (Misaligned, Outside)]),
 ];
 
-pub(super) fn required() -> Vec<Point> {
+/// The fields of an image against which some rule counts. No rule counts against
+/// armed, pending, pointer and base, which are 4, 5, 10 and 11.
+const FIELDS: [u8; 18] = [
+    1, 2, 3, 6, 7, 8, 9, 12, 13, 14, 15, 16, 17, 18, 19, 20, 21, 22,
+];
+
+/// "8 carries it, in C as 8 + 256 × field."
+fn bad_image_number(field: &u8) -> u32 {
+    8 + 256 * u32::from(*field)
+}
+
+/// The numbers under which a refusal comes back.
+fn numbers(refusal: Refusal) -> Vec<u32> {
+    match refusal {
+        BadImage => FIELDS.iter().map(bad_image_number).collect(),
+        _ => vec![refusal as u32],
+    }
+}
+
+/// Of every two fields the lower is told.
+fn pairs_of_fields() -> Vec<Point> {
     let mut points = Vec::new();
+    for low in FIELDS {
+        let higher = FIELDS.into_iter().filter(|&field| field > low);
+        points.extend(higher.map(|high| Point::ToldLower(low, high)));
+    }
+    points
+}
+
+pub(super) fn required() -> Vec<Point> {
+    let mut points = pairs_of_fields();
     for (function, refusals, pairs) in REFUSALS {
         points.push(Point::Returned(function, 0));
-        let numbers = refusals.iter().map(|&refusal| refusal as u32);
+        let numbers = refusals.iter().flat_map(|&refusal| numbers(refusal));
         points.extend(numbers.map(|number| Point::Returned(function, number)));
         let pairs = pairs.iter();
         points.extend(pairs.map(|&(first, second)| Point::Outranked(function, first, second)));
@@ -65,7 +95,11 @@ pub fn applying(call: &Call) -> Vec<Refusal> {
 
 /// The number that the call must return.
 pub fn first_applying(call: &Call) -> u32 {
-    applying(call).first().map_or(0, |&refusal| refusal as u32)
+    match applying(call).first() {
+        None => 0,
+        Some(BadImage) => broken_fields(call).first().map_or(0, bad_image_number),
+        Some(&refusal) => refusal as u32,
+    }
 }
 
 fn has_bad_size(call: &Call) -> bool {
@@ -82,7 +116,7 @@ fn has_bad_size(call: &Call) -> bool {
 }
 
 /// The image that the call reads: create only writes one.
-pub(super) fn image_read(call: &Call) -> Option<Image> {
+fn image_read(call: &Call) -> Option<Image> {
     let bytes: &Lent = match call {
         Call::Create { .. } => return None,
         _ => call.image()?,
@@ -91,8 +125,20 @@ pub(super) fn image_read(call: &Call) -> Option<Image> {
     Some(Image::unpack(bytes))
 }
 
+/// The rules that the image read by the call breaks.
+pub(super) fn broken_rules(call: &Call) -> Vec<ImageRule> {
+    let broken = |image| Paper.broken_rules(&image);
+    image_read(call).map(broken).unwrap_or_default()
+}
+
+/// The fields that they count against, the lowest first.
+pub(super) fn broken_fields(call: &Call) -> BTreeSet<u8> {
+    let rules = broken_rules(call).into_iter();
+    rules.map(ImageRule::field).collect()
+}
+
 fn has_bad_image(call: &Call) -> bool {
-    image_read(call).is_some_and(|image| !Paper.broken_rules(&image).is_empty())
+    !broken_rules(call).is_empty()
 }
 
 fn has_odd_stream(call: &Call) -> bool {

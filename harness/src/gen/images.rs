@@ -3,17 +3,19 @@
 use super::{Host, Rng};
 use crate::model::{
     control, descriptor_control, status, Descriptors, Image, Kept, Machine, Mode, Paper, Phase,
-    DESCRIPTOR_SIZE,
+    DESCRIPTOR_SIZE, IMAGE_SIZE,
 };
 
 /// What may be spoilt in an image: one field each.
 type Spoil = fn(&mut Image, &mut Rng);
 const SPOIL_FAULT: Spoil = |image, rng| image.fault = rng.pick(&[0, 1, 9, 12, 13, 14, 15, 31]);
 #[rustfmt::skip]
-const SPOILS: [Spoil; 14] = [
+const SPOILS: [Spoil; 16] = [
     |image, rng| image.edition = rng.below(16) as u8,
-    |image, rng| image.mode = rng.below(4) as u8,
-    |image, rng| image.phase = rng.below(8) as u8,
+    |image, _| image.mode = 3,
+    |image, rng| image.mode = rng.below(3) as u8,
+    |image, _| image.phase = 7,
+    |image, rng| image.phase = rng.below(7) as u8,
     |image, _| image.armed = !image.armed,
     SPOIL_FAULT,
     |image, rng| image.status ^= 1 << rng.below(8),
@@ -143,21 +145,51 @@ impl Host {
         }
     }
 
-    /// A good image with one field spoilt, which may break a rule.
+    /// A good image with one field spoilt, or two, or some bytes beside it: it may
+    /// break a rule, or several at once.
     pub(super) fn broken_image(&mut self) -> Image {
         let mut image = if self.rng.chance(30) {
             self.carried_image()
         } else {
             self.good_image()
         };
+        self.spoil_fitting(&mut image);
+        match self.rng.below(10) {
+            0..=1 => self.spoil_any(&mut image),
+            2..=3 => self.write_over(&mut image),
+            _ => {}
+        }
+        image
+    }
+
+    /// Spoils a field that says something in this phase.
+    fn spoil_fitting(&mut self, image: &mut Image) {
         let keeps = image.kept != Kept::default();
         let spoil = match Phase::of_number(image.phase) {
             Phase::Faulted if self.rng.chance(30) => SPOIL_FAULT,
-            _ if keeps || self.rng.chance(10) => self.rng.pick(&KEPT_SPOILS),
+            _ if keeps || self.rng.chance(20) => self.rng.pick(&KEPT_SPOILS),
             _ => self.rng.pick(&SPOILS),
         };
-        spoil(&mut image, &mut self.rng);
-        image
+        spoil(image, &mut self.rng);
+    }
+
+    fn spoil_any(&mut self, image: &mut Image) {
+        let spoils = self.rng.pick(&[SPOILS.as_slice(), &KEPT_SPOILS]);
+        self.rng.pick(spoils)(image, &mut self.rng);
+    }
+
+    /// A write that strays over some bytes of the image.
+    fn write_over(&mut self, image: &mut Image) {
+        let mut bytes = image.pack();
+        let from = self.rng.below(IMAGE_SIZE as u64) as usize;
+        let count = 1 + self.rng.below((IMAGE_SIZE - from) as u64) as usize;
+        let stray = if self.rng.chance(50) {
+            vec![0xFF; count]
+        } else {
+            self.rng.bytes(count)
+        };
+        bytes[from..from + count].copy_from_slice(&stray);
+        *image = Image::unpack(&bytes);
     }
 }
 

@@ -47,12 +47,37 @@ impl Refusal {
     ];
 }
 
-/// The number that a call returns: 0 for done, or the refusal's.
-fn number(outcome: Result<(), Refusal>) -> u32 {
-    match outcome {
-        Ok(()) => 0,
-        Err(refusal) => refusal as u32,
+/// A refusal with the field of the image that comes with it: "8 carries it"; with
+/// every other it is 0.
+#[derive(Clone, Copy, Debug, PartialEq, Eq)]
+pub struct Refused {
+    pub refusal: Refusal,
+    pub field: u8,
+}
+
+impl Refused {
+    pub fn for_field(field: u8) -> Refused {
+        Refused {
+            refusal: Refusal::BadImage,
+            field,
+        }
     }
+
+    /// "in C as 8 + 256 × field"
+    pub fn number(self) -> u32 {
+        self.refusal as u32 + 256 * u32::from(self.field)
+    }
+}
+
+impl From<Refusal> for Refused {
+    fn from(refusal: Refusal) -> Refused {
+        Refused { refusal, field: 0 }
+    }
+}
+
+/// The number that a call returns: 0 for done, or the refusal's.
+fn number(outcome: Result<(), Refused>) -> u32 {
+    outcome.map_or_else(Refused::number, |()| 0)
 }
 
 /// The lent bytes at exactly the size they must have.

@@ -1,7 +1,7 @@
 //! The saved image: the layout, the rules, loading and saving.
 
 use super::{
-    control, descriptor_control, status, Descriptors, Kept, Machine, Mode, Phase, Refusal, Window,
+    control, descriptor_control, status, Descriptors, Kept, Machine, Mode, Phase, Refused, Window,
     DESCRIPTOR_SIZE,
 };
 
@@ -153,6 +153,11 @@ impl Image {
         phases.iter().any(|&phase| self.phase == phase as u8)
     }
 
+    #[inline]
+    fn keeps_descriptor(&self) -> bool {
+        self.is_in(&[Phase::Move, Phase::WriteBack])
+    }
+
     /// Modes 0 and 1, where neither beats nor their errors come in.
     #[inline]
     fn is_from_memory(&self) -> bool {
@@ -160,7 +165,8 @@ impl Image {
     }
 }
 
-/// The sentences of the image rules, one by one.
+/// The sentences of the image rules, one by one; one "that makes several zero is a
+/// rule for each".
 #[derive(Clone, Copy, Debug, PartialEq, Eq, PartialOrd, Ord)]
 pub enum ImageRule {
     EditionOne,
@@ -176,7 +182,14 @@ pub enum ImageRule {
     HaltedOnlyInModeTwo,
     StreamStatusOnlyInModeTwo,
     CountAtMost254,
-    KeptOnlyInMoveAndWriteBack,
+    NoAddressElsewhere,
+    NoSourceElsewhere,
+    NoDestinationElsewhere,
+    NoLengthElsewhere,
+    NoControlElsewhere,
+    NoErrorsElsewhere,
+    NoMovedElsewhere,
+    NoEopElsewhere,
     AddressAligned,
     AddressInWindow,
     ControlOwned,
@@ -191,12 +204,13 @@ pub enum ImageRule {
     WriteBackFinished,
     FaultCode,
     FaultCodeOfMode,
-    NoFaultElsewhere,
+    NoFaultCodeElsewhere,
+    NoFaultAddressElsewhere,
     ZeroBitsZero,
 }
 
 impl ImageRule {
-    pub const ALL: [ImageRule; 30] = [
+    pub const ALL: [ImageRule; 38] = [
         ImageRule::EditionOne,
         ImageRule::ModeAtMostTwo,
         ImageRule::PhaseAtMostSix,
@@ -210,7 +224,14 @@ impl ImageRule {
         ImageRule::HaltedOnlyInModeTwo,
         ImageRule::StreamStatusOnlyInModeTwo,
         ImageRule::CountAtMost254,
-        ImageRule::KeptOnlyInMoveAndWriteBack,
+        ImageRule::NoAddressElsewhere,
+        ImageRule::NoSourceElsewhere,
+        ImageRule::NoDestinationElsewhere,
+        ImageRule::NoLengthElsewhere,
+        ImageRule::NoControlElsewhere,
+        ImageRule::NoErrorsElsewhere,
+        ImageRule::NoMovedElsewhere,
+        ImageRule::NoEopElsewhere,
         ImageRule::AddressAligned,
         ImageRule::AddressInWindow,
         ImageRule::ControlOwned,
@@ -225,12 +246,42 @@ impl ImageRule {
         ImageRule::WriteBackFinished,
         ImageRule::FaultCode,
         ImageRule::FaultCodeOfMode,
-        ImageRule::NoFaultElsewhere,
+        ImageRule::NoFaultCodeElsewhere,
+        ImageRule::NoFaultAddressElsewhere,
         ImageRule::ZeroBitsZero,
     ];
 }
 
 impl ImageRule {
+    /// The field that the rule counts against, "in layout order from 1": of the
+    /// fields it speaks of, its condition among them, "the last".
+    pub fn field(self) -> u8 {
+        use ImageRule::*;
+        match self {
+            EditionOne => 1,
+            ModeAtMostTwo => 2,
+            PhaseAtMostSix | HaltedOnlyInModeTwo => 3,
+            FaultCode | FaultCodeOfMode | NoFaultCodeElsewhere => 6,
+            StatusBitsZero | BusyInPhasesOneToFour | StreamStatusOnlyInModeTwo => 7,
+            CountAtMost254 => 8,
+            ControlBitsZero | ArmedIsControlBit16 | RunInEndedAndHalted => 9,
+            WindowLength | WindowEnd => 12,
+            NoAddressElsewhere | AddressAligned | AddressInWindow => 13,
+            NoSourceElsewhere => 14,
+            NoDestinationElsewhere => 15,
+            NoLengthElsewhere | LengthNotZeroFromMemory => 16,
+            NoControlElsewhere | ControlOwned => 17,
+            NoErrorsElsewhere | NoErrorsFromMemory | ErrorsBit7Zero => 18,
+            NoMovedElsewhere
+            | MoveMovedBelowL
+            | MoveNoErrorsBeforeFirstByte
+            | WriteBackMovedOneToL => 19,
+            NoEopElsewhere | NoEopFromMemory | MoveNoEop | WriteBackFinished => 20,
+            ZeroBitsZero => 21,
+            NoFaultAddressElsewhere => 22,
+        }
+    }
+
     /// Whether an image can break this rule and no other. A length of 0 in mode 0
     /// or 1 makes L 0, and then no number of bytes moved keeps the rules of Move
     /// or of WriteBack.
@@ -245,18 +296,34 @@ type Verdicts<const RULES: usize> = [(ImageRule, bool); RULES];
 pub trait Images: Descriptors {
     /// "An image loads exactly when it keeps these rules"
     #[inline]
-    fn load(self, bytes: &[u8; IMAGE_SIZE]) -> Result<Machine, Refusal> {
+    fn load(self, bytes: &[u8; IMAGE_SIZE]) -> Result<Machine, Refused> {
         let image = Image::unpack(bytes);
         let accepted = |&(rule, kept): &(ImageRule, bool)| kept || self.overlooks(rule);
         let keeps_rules = self.machine_rules(&image).iter().all(accepted)
+            && self.none_elsewhere_rules(&image).iter().all(accepted)
             && self.kept_rules(&image).iter().all(accepted)
             && self.progress_rules(&image).iter().all(accepted)
             && self.fault_rules(&image).iter().all(accepted);
         if keeps_rules {
             Ok(image.machine())
         } else {
-            Err(Refusal::BadImage)
+            Err(Refused::for_field(self.field_told(bytes)))
         }
+    }
+
+    /// "give with refusal 8 the lowest field that breaks a rule": 0 where none does.
+    /// It unpacks the bytes anew, so that an image that loads need not stay at hand.
+    #[cold]
+    fn field_told(self, bytes: &[u8; IMAGE_SIZE]) -> u8 {
+        let mut broken = self.broken_rules(&Image::unpack(bytes));
+        broken.retain(|&rule| !self.overlooks(rule));
+        let fields = broken.into_iter().map(|rule| self.field_of(rule));
+        fields.min().unwrap_or(0)
+    }
+
+    /// A deliberate error may count a rule against another field.
+    fn field_of(self, rule: ImageRule) -> u8 {
+        rule.field()
     }
 
     /// ".. and saved again gives the same bytes."
@@ -274,6 +341,7 @@ pub trait Images: Descriptors {
     fn broken_rules(self, image: &Image) -> Vec<ImageRule> {
         self.machine_rules(image)
             .into_iter()
+            .chain(self.none_elsewhere_rules(image))
             .chain(self.kept_rules(image))
             .chain(self.progress_rules(image))
             .chain(self.fault_rules(image))
@@ -325,14 +393,32 @@ pub trait Images: Descriptors {
         ]
     }
 
-    /// "Descriptor fields zero outside Move and WriteBack; there: address aligned
-    /// and in the window, control bit 7 set, in modes 0 and 1 length not 0, errors
-    /// and EOP seen 0; errors bit 7 zero." "Zero bits are zero."
+    /// "Descriptor fields zero outside Move and WriteBack"
     #[inline]
-    fn kept_rules(self, image: &Image) -> Verdicts<9> {
+    fn none_elsewhere_rules(self, image: &Image) -> Verdicts<8> {
         use ImageRule::*;
         let Image { kept, .. } = *image;
-        let keeps = image.is_in(&[Phase::Move, Phase::WriteBack]);
+        let keeps = image.keeps_descriptor();
+        [
+            (NoAddressElsewhere, keeps || kept.address == 0),
+            (NoSourceElsewhere, keeps || kept.source == 0),
+            (NoDestinationElsewhere, keeps || kept.destination == 0),
+            (NoLengthElsewhere, keeps || kept.length == 0),
+            (NoControlElsewhere, keeps || kept.control == 0),
+            (NoErrorsElsewhere, keeps || kept.errors == 0),
+            (NoMovedElsewhere, keeps || kept.moved == 0),
+            (NoEopElsewhere, keeps || !kept.eop_seen),
+        ]
+    }
+
+    /// "there: address aligned and in the window, control bit 7 set, in modes 0 and
+    /// 1 length not 0, errors and EOP seen 0; errors bit 7 zero." "Zero bits are
+    /// zero."
+    #[inline]
+    fn kept_rules(self, image: &Image) -> Verdicts<8> {
+        use ImageRule::*;
+        let Image { kept, .. } = *image;
+        let keeps = image.keeps_descriptor();
         let from_memory = keeps && image.is_from_memory();
         let place = self.place(
             image.window(),
@@ -341,7 +427,6 @@ pub trait Images: Descriptors {
         );
         let owned = kept.control & descriptor_control::OWNED_BY_HW != 0;
         [
-            (KeptOnlyInMoveAndWriteBack, keeps || kept == Kept::default()),
             (
                 AddressAligned,
                 !keeps || self.is_aligned(image.window(), kept.address),
@@ -386,7 +471,7 @@ pub trait Images: Descriptors {
     /// "Faulted: code 10 to 14, 12 and 13 only in modes 0 and 1, 14 only in 0 and
     /// 2; else code and address 0."
     #[inline]
-    fn fault_rules(self, image: &Image) -> Verdicts<3> {
+    fn fault_rules(self, image: &Image) -> Verdicts<4> {
         use ImageRule::*;
         let faulted = image.is_in(&[Phase::Faulted]);
         let met_in_mode = match image.fault {
@@ -397,10 +482,8 @@ pub trait Images: Descriptors {
         [
             (FaultCode, !faulted || (10..=14).contains(&image.fault)),
             (FaultCodeOfMode, !faulted || met_in_mode),
-            (
-                NoFaultElsewhere,
-                faulted || (image.fault == 0 && image.fault_address == 0),
-            ),
+            (NoFaultCodeElsewhere, faulted || image.fault == 0),
+            (NoFaultAddressElsewhere, faulted || image.fault_address == 0),
         ]
     }
 }

@@ -102,7 +102,8 @@ pub fn all() -> Vec<Slip> {
         steps::slips(),
         images::slips(),
         calls::slips(),
-        overlooked_rules(),
+        of_each_rule("is overlooked", Overlooks),
+        of_each_rule("counts against the next field", CountsAgainstNext),
     ]
     .into_iter()
     .flatten()
@@ -121,13 +122,23 @@ impl Images for Overlooks {
 
 paper_otherwise!(Images for Overlooks);
 
-/// One error for every rule that an image can break without breaking another.
-fn overlooked_rules() -> Vec<Slip> {
-    let mut rules = ImageRule::ALL.to_vec();
-    rules.retain(|rule| rule.can_break_alone());
-    let overlook = |rule| -> Slip {
-        let text = format!("the image rule {rule:?} is overlooked");
-        (text, Box::new(Overlooks(rule)))
+/// The error of telling a field behind the one that an image rule counts against.
+#[derive(Clone, Copy)]
+struct CountsAgainstNext(ImageRule);
+
+impl Images for CountsAgainstNext {
+    fn field_of(self, rule: ImageRule) -> u8 {
+        rule.field() + u8::from(self.0 == rule)
+    }
+}
+
+paper_otherwise!(Images for CountsAgainstNext);
+
+/// One such error for every image rule.
+fn of_each_rule<Model: Party + 'static>(error: &str, model: fn(ImageRule) -> Model) -> Vec<Slip> {
+    let slip = |rule| -> Slip {
+        let text = format!("the image rule {rule:?} {error}");
+        (text, Box::new(model(rule)))
     };
-    rules.into_iter().map(overlook).collect()
+    ImageRule::ALL.map(slip).into()
 }

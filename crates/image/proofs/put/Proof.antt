@@ -20,6 +20,9 @@ pack-requires c κs =
     let start = c .before .before .before .before .before in
     (c .before .before .before .if1 .taken, fits-fit _ (typed start) (stored start) (sym (c .before .before .fit .ensures) ∙ c .before .if2 .taken))
 
+broken-requires : tie.Need-broken-requires
+broken-requires c κs = search needs
+
 same-length : tie.Need-same-length
 same-length c = search needs
 
@@ -29,10 +32,12 @@ returns c =
     wrote-done _ _ (tested .before .before .if1 .taken) (sym (tested .before .fit .ensures) ∙ tested .if2 .taken) _ (c .before .before .pack .ensures .lent)
 
 returns-2 : tie.Need-returns-2
-returns-2 c = wrote-broken _ _ (c .before .before .if1 .taken) (sym (c .before .fit .ensures) ∙ c .if2 .left)
+returns-2 c =
+    let tested = c .before in
+    wrote-broken _ _ (tested .before .before .if1 .taken) (sym (tested .before .fit .ensures) ∙ tested .if2 .left) (c .broken .ensures .value)
 
 returns-3 : tie.Need-returns-3
 returns-3 c = wrote-size _ _ (c .if1 .left)
 
 pub put-spec : {M : Type 1} → statement M
-put-spec = tie.close (tie.spec fit-requires pack-requires same-length returns returns-2 returns-3)
+put-spec = tie.close (tie.spec fit-requires pack-requires broken-requires same-length returns returns-2 returns-3)

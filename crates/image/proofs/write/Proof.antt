@@ -13,8 +13,13 @@ returns c = wrote-size _ _ (c .if1 .taken)
 keeps-requires : tie.Need-keeps-requires
 keeps-requires c κs = search needs
 
+broken-requires : tie.Need-broken-requires
+broken-requires c κs = search needs
+
 returns-2 : tie.Need-returns-2
-returns-2 c = wrote-broken _ _ (c .before .before .if1 .left) (sym (c .before .keeps .ensures .value) ∙ not-true _ (c .if2 .taken))
+returns-2 c =
+    let tested = c .before in
+    wrote-broken _ _ (tested .before .before .if1 .left) (sym (tested .before .keeps .ensures .value) ∙ not-true _ (tested .if2 .taken)) (c .broken .ensures .value)
 
 typed : (c : tie.Start) → Typed (c .args .f)
 typed c = search needs
@@ -30,4 +35,4 @@ returns-3 c = wrote-done _ _ (c .before .before .before .before .before .before 
 
 pub write-spec : {M : Type 1} → statement M
 write-spec =
-    tie.close (tie.spec returns keeps-requires returns-2 pack-requires same-length returns-3)
+    tie.close (tie.spec returns keeps-requires broken-requires returns-2 pack-requires same-length returns-3)

@@ -3,18 +3,13 @@
 use Prim.Native.Nat.{ℕ}
 use mathlib.Core.Bool.{Bool, true, _&&_}
 use mathlib.Core.List.{List, [], _∷_, map}
-use lib.ListN.{getD}
 use Rattle.image.specs.declared.Fields.{Fields}
-use Rattle.image.specs.Rules.{rules}
+use Rattle.image.specs.Rules.{ruleAt}
 
 -- tests joined from the left on, as code joins them
 abbrev pub every : Bool → List Bool → Bool
 every a [] = a
 every a (b ∷ bs) = every (a && b) bs
-
--- the rule of the field with this number
-abbrev pub ruleAt : Fields → ℕ → Bool
-ruleAt f n = getD (true ∷ rules f) n true
 
 -- the fields with these numbers keep their rules
 abbrev pub keptAt : List ℕ → Fields → Bool

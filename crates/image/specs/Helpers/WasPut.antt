@@ -13,9 +13,9 @@ use Rattle.image.specs.Promise.{wroteIf, imageIf, WroteIf}
 unfoldable pub fits : Fields → Bool
 fits f = zeroFrom 4 (f .edition) && zeroFrom 2 (f .mode) && zeroFrom 3 (f .phase) && zeroFrom 5 (f .fault) && zeroFrom 15 (f .zero15)
 
--- 8 where a number does not fit its width
+-- 8 where a number does not fit its width: then its field breaks its rule too
 abbrev pub imagePutOf : Fields → List ℕ → WroteImage
-imagePutOf f xs = wroteIf (fits f) xs
+imagePutOf f xs = wroteIf (fits f) f xs
 
 abbrev pub imagePut : Fields → List ℕ → List ℕ
 imagePut f xs = imageIf (fits f) f xs

@@ -2,6 +2,7 @@ use mathlib.Core.Path.{refl, sym, ap, _∙_}
 use mathlib.Core.Bool.{Bool, cond}
 use Rattle.machine.specs.declared.registers.Line.the-variants.{Up, Down}
 use Rattle.sgdma.proofs.Answered.{line-short, line-value-short, line-spoiled, line-answers}
+use Rattle.machine.specs.Saved.{loadNumber}
 use borrow.Author.Needs.{needs}
 use Rattle.sgdma.proofs.sgdma_line.Statement.{statement}
 use Rattle.sgdma.proofs.sgdma_line.Tie as tie
@@ -21,8 +22,8 @@ returns-2 c = line-value-short (c .before .before .if1 .left) (c .before .if2 .t
 load-requires : tie.Need-load-requires
 load-requires c κs = search needs
 
-enum-known-m : tie.Need-enum-known-m
-enum-known-m c = search needs
+enum-known-loaded : tie.Need-enum-known-loaded
+enum-known-loaded c = search needs
 
 enum-told : tie.Need-enum-told
 enum-told c = search needs
@@ -31,7 +32,7 @@ number-requires-3 : tie.Need-number-requires-3
 number-requires-3 c κs = search needs
 
 returns-3 : tie.Need-returns-3
-returns-3 c = line-spoiled (c .before .before .before .before .before .if1 .left) (c .before .before .before .before .if2 .left) (sym (c .before .before .before .load .ensures .answer) ∙ c .before .enum-told .given .1) (c .number3 .ensures .value) refl
+returns-3 c = line-spoiled (c .before .before .before .before .before .if1 .left) (c .before .before .before .before .if2 .left) (sym (c .before .before .before .load .ensures .answer) ∙ c .before .enum-told .given .1) (c .number3 .ensures .value ∙ ap loadNumber (c .before .enum-told .given .1)) refl
 
 up-requires : tie.Need-up-requires
 up-requires c κs = search needs
@@ -46,7 +47,7 @@ returns-4 : tie.Need-returns-4
 returns-4 c =
     let up = c .before .before .before .before .before in
     let load = up .before .before .before .before in
-    line-answers (load .before .before .if1 .left) (load .before .if2 .left) Up 1 (sym (load .load .ensures .answer) ∙ up .before .before .m .given .1) (up .up .ensures)
+    line-answers (load .before .before .if1 .left) (load .before .if2 .left) Up 1 (sym (load .load .ensures .answer) ∙ up .before .before .loaded .given .1) (up .up .ensures)
     (ap (λ (b : Bool). cond b Up Down) (c .before .before .before .before .if3 .taken)) refl refl (c .before .before .put-value .ensures)
 
 put-value-requires-2 : tie.Need-put-value-requires-2
@@ -59,7 +60,7 @@ returns-5 : tie.Need-returns-5
 returns-5 c =
     let up = c .before .before .before .before .before in
     let load = up .before .before .before .before in
-    line-answers (load .before .before .if1 .left) (load .before .if2 .left) Down 0 (sym (load .load .ensures .answer) ∙ up .before .before .m .given .1) (up .up .ensures)
+    line-answers (load .before .before .if1 .left) (load .before .if2 .left) Down 0 (sym (load .load .ensures .answer) ∙ up .before .before .loaded .given .1) (up .up .ensures)
     (ap (λ (b : Bool). cond b Up Down) (c .before .before .before .before .if3 .left)) refl refl (c .before .before .put-value2 .ensures)
 
 pub sgdma-line-spec : {M : Type 1} → statement M
@@ -71,7 +72,7 @@ sgdma-line-spec =
     number-requires-2
     returns-2
     load-requires
-    enum-known-m
+    enum-known-loaded
     enum-told
     number-requires-3
     returns-3

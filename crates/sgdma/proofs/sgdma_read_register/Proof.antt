@@ -1,6 +1,7 @@
 use Rattle.sgdma.proofs.Answered.{register-short, value-short, register-spoiled, register-answers}
 use Rattle.answers.proofs.Filled.{is-put}
-use mathlib.Core.Path.{refl, sym, _∙_}
+use mathlib.Core.Path.{refl, sym, ap, _∙_}
+use Rattle.machine.specs.Saved.{loadNumber}
 use borrow.Author.Needs.{needs}
 use Rattle.sgdma.proofs.sgdma_read_register.Statement.{statement}
 use Rattle.sgdma.proofs.sgdma_read_register.Tie as tie
@@ -20,8 +21,8 @@ returns-2 c = value-short (c .before .before .if1 .left) (c .before .if2 .taken)
 load-requires : tie.Need-load-requires
 load-requires c κs = search needs
 
-enum-known-m : tie.Need-enum-known-m
-enum-known-m c = search needs
+enum-known-loaded : tie.Need-enum-known-loaded
+enum-known-loaded c = search needs
 
 enum-told : tie.Need-enum-told
 enum-told c = search needs
@@ -30,7 +31,7 @@ number-requires-3 : tie.Need-number-requires-3
 number-requires-3 c κs = search needs
 
 returns-3 : tie.Need-returns-3
-returns-3 c = register-spoiled (c .before .before .before .before .before .if1 .left) (c .before .before .before .before .if2 .left) (sym (c .before .before .before .load .ensures .answer) ∙ c .before .enum-told .given .1) (c .number3 .ensures .value) refl
+returns-3 c = register-spoiled (c .before .before .before .before .before .if1 .left) (c .before .before .before .before .if2 .left) (sym (c .before .before .before .load .ensures .answer) ∙ c .before .enum-told .given .1) (c .number3 .ensures .value ∙ ap loadNumber (c .before .enum-told .given .1)) refl
 
 register-requires : tie.Need-register-requires
 register-requires c κs = search needs
@@ -51,7 +52,7 @@ returns-4 : tie.Need-returns-4
 returns-4 c =
     let register = c .before .before .before .before in
     let load = register .before .before .before .before in
-    register-answers (load .before .before .if1 .left) (load .before .if2 .left) (sym (load .load .ensures .answer) ∙ register .before .before .m .given .1) (register .register .ensures) (c .before .before .answer .given .1)
+    register-answers (load .before .before .if1 .left) (load .before .if2 .left) (sym (load .load .ensures .answer) ∙ register .before .before .loaded .given .1) (register .register .ensures) (c .before .before .answer .given .1)
     (c .number4 .ensures .value) refl
 
 same-length : tie.Need-same-length
@@ -61,7 +62,7 @@ returns-5 : tie.Need-returns-5
 returns-5 c =
     let register = c .before .before .before .before .before .before .before in
     let load = register .before .before .before .before in
-    register-answers (load .before .before .if1 .left) (load .before .if2 .left) (sym (load .load .ensures .answer) ∙ register .before .before .m .given .1) (register .register .ensures) (c .before .before .before .before .before .answer2 .given .1)
+    register-answers (load .before .before .if1 .left) (load .before .if2 .left) (sym (load .load .ensures .answer) ∙ register .before .before .loaded .given .1) (register .register .ensures) (c .before .before .before .before .before .answer2 .given .1)
     refl (c .before .before .put-value .ensures .lent ∙ is-put _ _ (load .before .if2 .left))
 
 pub sgdma-read-register-spec : {M : Type 1} → statement M
@@ -73,7 +74,7 @@ sgdma-read-register-spec =
     number-requires-2
     returns-2
     load-requires
-    enum-known-m
+    enum-known-loaded
     enum-told
     number-requires-3
     returns-3

@@ -1,6 +1,7 @@
 use Rattle.sgdma.proofs.Running.{ran-fits, ran-keeps, ran-nowhere, run-short, report-short, run-spoiled, run-answers}
 use Rattle.words.proofs.Bytes.{all-bytes}
-use mathlib.Core.Path.{refl, sym, _∙_}
+use mathlib.Core.Path.{refl, sym, ap, _∙_}
+use Rattle.machine.specs.Saved.{loadNumber}
 use borrow.Author.Needs.{needs}
 use Rattle.sgdma.proofs.sgdma_run.Statement.{statement}
 use Rattle.sgdma.proofs.sgdma_run.Tie as tie
@@ -20,8 +21,8 @@ returns-2 c = report-short (c .before .before .if1 .left) (c .before .if2 .taken
 load-requires : tie.Need-load-requires
 load-requires c κs = search needs
 
-enum-known-m : tie.Need-enum-known-m
-enum-known-m c = search needs
+enum-known-loaded : tie.Need-enum-known-loaded
+enum-known-loaded c = search needs
 
 enum-told : tie.Need-enum-told
 enum-told c = search needs
@@ -33,7 +34,7 @@ same-length : tie.Need-same-length
 same-length c = search needs
 
 returns-3 : tie.Need-returns-3
-returns-3 c = run-spoiled (c .before .before .before .before .before .before .if1 .left) (c .before .before .before .before .before .if2 .left) (sym (c .before .before .before .load .ensures .answer) ∙ c .before .enum-told .given .1) (c .number3 .ensures .value) refl refl refl
+returns-3 c = run-spoiled (c .before .before .before .before .before .before .if1 .left) (c .before .before .before .before .before .if2 .left) (sym (c .before .before .before .load .ensures .answer) ∙ c .before .enum-told .given .1) (c .number3 .ensures .value ∙ ap loadNumber (c .before .enum-told .given .1)) refl refl refl
 
 resume-requires : tie.Need-resume-requires
 resume-requires c κs = search needs
@@ -53,7 +54,7 @@ put-run-requires c κs =
     let ran = c .before .before .before .before .before .before .before .before .before .before .before .resume .ensures in
     let done = c .before .before .before .answer2 .given .1 in
     let xs = s .args .image .now in
-    let loaded = sym (c .before .before .before .before .before .before .before .before .before .before .before .before .before .before .before .before .before .before .load .ensures .answer) ∙ c .before .before .before .before .before .before .before .before .before .before .before .before .before .before .before .before .m .given .1 in (
+    let loaded = sym (c .before .before .before .before .before .before .before .before .before .before .before .before .before .before .before .before .before .before .load .ensures .answer) ∙ c .before .before .before .before .before .before .before .before .before .before .before .before .before .before .before .before .loaded .given .1 in (
       ran-keeps ran done xs loaded (all-bytes (s .args .window .now) (λ i. c .before .before .before .before .before .before .before .before .before .before .before .before .before .before .before .before .before .before .before .before .before .before .before .before .before .before .slice-known2 .given i .fits)) (all-bytes (s .args .beats .now) (λ i. c .before .before .before .before .before .before .before .before .before .before .before .before .before .before .before .before .before .before .before .before .before .before .before .before .before .shared-slice-known .given i .fits)),
       (ran-fits ran done (s .fits .budget .fits), ((c .before .before .before .before .before .before .before .before .before .before .before .before .before .before .before .before .before .before .before .before .before .if1 .left, c .before .before .before .before .before .before .before .before .before .before .before .before .before .before .before .before .before .before .before .before .if2 .left), ran-nowhere ran done xs loaded (all-bytes xs (λ i. c .before .before .before .before .before .before .before .before .before .before .before .before .before .before .before .before .before .before .before .before .before .before .before .before .before .before .before .slice-known .given i .fits)))),
     )
@@ -71,7 +72,7 @@ same-length-5 : tie.Need-same-length-5
 same-length-5 c = search needs
 
 returns-4 : tie.Need-returns-4
-returns-4 c = run-answers (c .before .before .before .before .before .before .before .before .before .before .before .before .before .before .before .before .before .before .before .before .if1 .left) (c .before .before .before .before .before .before .before .before .before .before .before .before .before .before .before .before .before .before .before .if2 .left) (sym (c .before .before .before .before .before .before .before .before .before .before .before .before .before .before .before .before .before .load .ensures .answer) ∙ c .before .before .before .before .before .before .before .before .before .before .before .before .before .before .before .m .given .1) (c .before .before .before .before .before .before .before .before .before .before .resume .ensures) (c .before .before .answer .given .1) (c .number4 .ensures .value) refl refl refl
+returns-4 c = run-answers (c .before .before .before .before .before .before .before .before .before .before .before .before .before .before .before .before .before .before .before .before .if1 .left) (c .before .before .before .before .before .before .before .before .before .before .before .before .before .before .before .before .before .before .before .if2 .left) (sym (c .before .before .before .before .before .before .before .before .before .before .before .before .before .before .before .before .before .load .ensures .answer) ∙ c .before .before .before .before .before .before .before .before .before .before .before .before .before .before .before .loaded .given .1) (c .before .before .before .before .before .before .before .before .before .before .resume .ensures) (c .before .before .answer .given .1) (c .number4 .ensures .value) refl refl refl
 
 same-length-6 : tie.Need-same-length-6
 same-length-6 c = search needs
@@ -89,7 +90,7 @@ same-length-10 : tie.Need-same-length-10
 same-length-10 c = search needs
 
 returns-5 : tie.Need-returns-5
-returns-5 c = run-answers (c .before .before .before .before .before .before .before .before .before .before .before .before .before .before .before .before .before .before .before .before .before .before .before .before .before .before .if1 .left) (c .before .before .before .before .before .before .before .before .before .before .before .before .before .before .before .before .before .before .before .before .before .before .before .before .before .if2 .left) (sym (c .before .before .before .before .before .before .before .before .before .before .before .before .before .before .before .before .before .before .before .before .before .before .before .load .ensures .answer) ∙ c .before .before .before .before .before .before .before .before .before .before .before .before .before .before .before .before .before .before .before .before .before .m .given .1) (c .before .before .before .before .before .before .before .before .before .before .before .before .before .before .before .before .resume .ensures) (c .before .before .before .before .before .before .before .before .answer2 .given .1) refl (c .before .before .before .before .put-run .ensures .0 .lent) refl (c .before .before .before .before .put-run .ensures .1 .lent)
+returns-5 c = run-answers (c .before .before .before .before .before .before .before .before .before .before .before .before .before .before .before .before .before .before .before .before .before .before .before .before .before .before .if1 .left) (c .before .before .before .before .before .before .before .before .before .before .before .before .before .before .before .before .before .before .before .before .before .before .before .before .before .if2 .left) (sym (c .before .before .before .before .before .before .before .before .before .before .before .before .before .before .before .before .before .before .before .before .before .before .before .load .ensures .answer) ∙ c .before .before .before .before .before .before .before .before .before .before .before .before .before .before .before .before .before .before .before .before .before .loaded .given .1) (c .before .before .before .before .before .before .before .before .before .before .before .before .before .before .before .before .resume .ensures) (c .before .before .before .before .before .before .before .before .answer2 .given .1) refl (c .before .before .before .before .put-run .ensures .0 .lent) refl (c .before .before .before .before .put-run .ensures .1 .lent)
 
 pub sgdma-run-spec : {M : Type 1} → statement M
 sgdma-run-spec =
@@ -100,7 +101,7 @@ sgdma-run-spec =
     number-requires-2
     returns-2
     load-requires
-    enum-known-m
+    enum-known-loaded
     enum-told
     number-requires-3
     same-length

@@ -22,6 +22,11 @@ fn refused_for_window(image: &[u8], window: &[u8], report: &[u8]) -> bool {
     ) == 4
 }
 
+/// Whether a call was refused for its image, whatever field it told.
+fn is_bad_image(number: u32) -> bool {
+    number % 256 == 8
+}
+
 slips! { Calls;
 
 check_mode(mode: u32) -> Result<(), Refusal> {
@@ -57,7 +62,7 @@ sgdma_create(image: &mut [u8], mode: u32, base: u64, length: u64) -> u32 {
 sgdma_read_register(image: &[u8], offset: u32, value: &mut [u8]) -> u32 {
     "a register read refuses NoRegister before BadImage" => {
         let number = Paper.sgdma_read_register(image, offset, value);
-        if number == 8 && ![0, 4, 8].contains(&offset) { 1 } else { number }
+        if is_bad_image(number) && ![0, 4, 8].contains(&offset) { 1 } else { number }
     }
     "a refused register read clears the value" => {
         let number = Paper.sgdma_read_register(image, offset, value);
@@ -66,19 +71,28 @@ sgdma_read_register(image: &[u8], offset: u32, value: &mut [u8]) -> u32 {
         }
         number
     }
+    "a register read tells no field" => {
+        Paper.sgdma_read_register(image, offset, value) % 256
+    }
 }
 
 sgdma_write_register(image: &mut [u8], offset: u32, value: u32) -> u32 {
     "a register write refuses NoRegister before BadImage" => {
         let number = Paper.sgdma_write_register(image, offset, value);
-        if number == 8 && ![0, 4, 8].contains(&offset) { 1 } else { number }
+        if is_bad_image(number) && ![0, 4, 8].contains(&offset) { 1 } else { number }
+    }
+    "a register write tells no field" => {
+        Paper.sgdma_write_register(image, offset, value) % 256
     }
 }
 
 sgdma_line(image: &[u8], value: &mut [u8]) -> u32 {
     "the line refuses BadImage before BadSize" => {
         let number = Paper.sgdma_line(image, &mut [0; VALUE_SIZE]);
-        if number == 8 { 8 } else { Paper.sgdma_line(image, value) }
+        if is_bad_image(number) { number } else { Paper.sgdma_line(image, value) }
+    }
+    "the line tells no field" => {
+        Paper.sgdma_line(image, value) % 256
     }
     "the line takes a value of another size" => {
         match Paper.sgdma_line(image, value) {
@@ -101,7 +115,7 @@ sgdma_run(
     "a run refuses OddStream before BadImage" => {
         let odd = beats.len() % 2 + out.len() % 2 != 0;
         let number = Paper.sgdma_run(image, window, beats, out, ledger, used, budget, report);
-        if number == 8 && odd { 9 } else { number }
+        if is_bad_image(number) && odd { 9 } else { number }
     }
     "a run refuses OtherWindow before OddStream" => {
         match refused_for_window(image, window, report) {
@@ -119,11 +133,14 @@ sgdma_run(
     }
     "a run refuses BadLedger before BadImage" => {
         let number = Paper.sgdma_run(image, window, beats, out, ledger, used, budget, report);
-        if number == 8 && !Paper.is_ledger(ledger.len() as u64, used) { 19 } else { number }
+        if is_bad_image(number) && !Paper.is_ledger(ledger.len() as u64, used) { 19 } else { number }
     }
     "a run refuses BadLedger before BadSize" => {
         let number = Paper.sgdma_run(image, window, beats, out, ledger, used, budget, report);
         if number == 7 && !Paper.is_ledger(ledger.len() as u64, used) { 19 } else { number }
+    }
+    "a run tells no field" => {
+        Paper.sgdma_run(image, window, beats, out, ledger, used, budget, report) % 256
     }
     "a run takes a longer report" => {
         let size = report.len().min(REPORT_SIZE);

@@ -18,8 +18,13 @@ decided : (s : tie.Start) {same : Bool} → s .args .good ≡ true → (even (s 
     ≡ servedIf (s .args .good) (s .args .self) (lent (s .args .window .now) (s .args .beats .now) (s .args .out .now) (s .args .ledger .now) (s .args .used))
 decided s good evens whole told window = rw (good, evens, whole, ← told, window) refl
 
+spoiled-requires : tie.Need-spoiled-requires
+spoiled-requires c κs = search needs
+
 returns : tie.Need-returns
-returns c = let bad : c .before .before .before .before .before .args .good ≡ false = not-true _ (c .if1 .taken) in rw bad
+returns c =
+    let bad : c .before .before .before .before .before .before .args .good ≡ false = not-true _ (c .before .if1 .taken) in
+    rw (bad, c .spoiled .ensures)
 
 returns-2 : tie.Need-returns-2
 returns-2 c =
@@ -61,6 +66,7 @@ pub served-spec : {M : Type 1} → statement M
 served-spec =
     tie.close
     (tie.spec
+    spoiled-requires
     returns
     returns-2
     serves-requires
