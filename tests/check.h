@@ -29,5 +29,6 @@ void test_layouts(void);
 void test_ledger(void);
 void test_largest_ledger(void);
 void test_refusals(void);
+void test_controller(void);
 
 #endif

@@ -13,5 +13,6 @@ int main(void)
     test_ledger();
     test_largest_ledger();
     test_refusals();
+    test_controller();
     return check_figures();
 }
