@@ -438,7 +438,8 @@ fn unpack(from: &[u8]) -> Fields
 // The bytes of an image.
 const SIZE: usize = 44;
 
-// Reads an image: its fields, where it has the right size and they keep the rules.
+// Reads an image: its fields, where it has the right size and they keep the rules. Where they do not, a copy is looked at: that the
+// fields themselves are handed to `broken` would cost every good image their way through memory.
 pub fn read(from: &[u8]) -> ReadImage
     ensures { λ r. ⌜ ImageWasRead (now (from .entry)) r ⌝ }
 {
@@ -447,7 +448,8 @@ pub fn read(from: &[u8]) -> ReadImage
     }
     let f = unpack(from);
     if !keeps(f) {
-        return ReadImage::Refused(Refusal::BadImage(broken(f)));
+        let spoiled = f;
+        return ReadImage::Refused(Refusal::BadImage(broken(spoiled)));
     }
     ReadImage::Good(f)
 }
