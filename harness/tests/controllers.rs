@@ -113,8 +113,17 @@ fn the_bytes_of_a_controller() {
     }
 }
 
+fn trigger(party: &dyn Party, vic: Lent, port: u32, on: u32) -> Lent {
+    controller_after(party, Call::VicTrigger { vic, port, on })
+}
+
+fn enable(party: &dyn Party, vic: Lent, port: u32, on: u32) -> Lent {
+    controller_after(party, Call::VicEnable { vic, port, on })
+}
+
 /// Largest level first, then the lowest index; what is served goes down again.
 #[test]
+#[rustfmt::skip]
 fn ports_are_told_in_order_of_level() {
     for party in parties() {
         let party = party.as_ref();
@@ -123,47 +132,14 @@ fn ports_are_told_in_order_of_level() {
         for port in 0..3 {
             vic = drive(party, vic, port, 1);
         }
-        vic = controller_after(
-            party,
-            Call::VicTrigger {
-                vic,
-                port: 3,
-                on: 9,
-            },
-        );
-        assert_eq!(
-            told(party, &vic),
-            Ok([0, 1, 0, 3, 63, 4, 0, 1, 0, 0, 0x80, 0x30])
-        );
-        vic = controller_after(
-            party,
-            Call::VicTrigger {
-                vic,
-                port: 3,
-                on: 0,
-            },
-        );
-        assert_eq!(
-            told(party, &vic),
-            Ok([0, 1, 0, 1, 9, 2, 0, 1, 0, 0, 0x80, 0x10])
-        );
+        vic = trigger(party, vic, 3, 9);
+        assert_eq!(told(party, &vic), Ok([0, 1, 0, 3, 63, 4, 0, 1, 0, 0, 0x80, 0x30]));
+        vic = trigger(party, vic, 3, 0);
+        assert_eq!(told(party, &vic), Ok([0, 1, 0, 1, 9, 2, 0, 1, 0, 0, 0x80, 0x10]));
         vic = drive(party, vic, 1, 0);
-        assert_eq!(
-            told(party, &vic),
-            Ok([0, 1, 0, 2, 9, 3, 0, 0, 0, 0, 0x80, 0x20])
-        );
-        vic = controller_after(
-            party,
-            Call::VicEnable {
-                vic,
-                port: 2,
-                on: 0,
-            },
-        );
-        assert_eq!(
-            told(party, &vic),
-            Ok([0, 1, 0, 0, 5, 1, 0, 0, 0, 0, 0x80, 0x00])
-        );
+        assert_eq!(told(party, &vic), Ok([0, 1, 0, 2, 9, 3, 0, 0, 0, 0, 0x80, 0x20]));
+        vic = enable(party, vic, 2, 0);
+        assert_eq!(told(party, &vic), Ok([0, 1, 0, 0, 5, 1, 0, 0, 0, 0, 0x80, 0x00]));
         vic = drive(party, vic, 0, 0);
         assert_eq!(told(party, &vic), Ok([0; CHOICE_SIZE]));
     }
@@ -254,48 +230,46 @@ fn the_field_that_spoiled_a_controller() {
     }
 }
 
-/// Counts and ports that there are not, on a controller of four ports.
+/// The four calls on a port.
+#[rustfmt::skip]
+fn port_calls(vic: &Lent, port: u32) -> [Call; 4] {
+    let vic = || vic.clone();
+    [
+        Call::VicConfigure { vic: vic(), port, level: 1, set: 1, nmi: 1 },
+        Call::VicEnable { vic: vic(), port, on: 1 },
+        Call::VicTrigger { vic: vic(), port, on: 1 },
+        Call::VicLine { vic: vic(), port, up: 1 },
+    ]
+}
+
+fn create(vic: Lent, ports: u32) -> Call {
+    Call::VicCreate {
+        vic,
+        ports,
+        vector_bytes: 4,
+        base: 0,
+    }
+}
+
+/// The call must be refused with this number, and every byte keeps its value.
+fn check_refused(party: &dyn Party, call: &Call, number: u32) {
+    let answer = ask(party, call);
+    assert_eq!(answer.returned, number, "{} on\n{call}", party.name());
+    assert!(answer.after == *call && answer.canaries_live);
+}
+
+/// Counts that are not 1 to 32, and ports that a controller of four lacks.
 #[test]
 fn ports_that_there_are_not() {
     for party in parties() {
-        let party = party.as_ref();
         for ports in [0, 33, 256, 257, 288, u32::MAX] {
-            let call = Call::VicCreate {
-                vic: Lent::from(vec![0x5A; CONTROLLER_SIZE]),
-                ports,
-                vector_bytes: 4,
-                base: 0,
-            };
-            let answer = ask(party, &call);
-            assert_eq!(answer.returned, 21, "{} on\n{call}", party.name());
-            assert!(answer.after == call);
+            let vic = Lent::from(vec![0x5A; CONTROLLER_SIZE]);
+            check_refused(party.as_ref(), &create(vic, ports), 21);
         }
+        let vic = four_ports(party.as_ref());
         for port in [4, 5, 31, 32, 256, u32::MAX] {
-            let vic = four_ports(party);
-            let calls = [
-                Call::VicConfigure {
-                    vic: vic.clone(),
-                    port,
-                    level: 1,
-                    set: 1,
-                    nmi: 1,
-                },
-                Call::VicEnable {
-                    vic: vic.clone(),
-                    port,
-                    on: 1,
-                },
-                Call::VicTrigger {
-                    vic: vic.clone(),
-                    port,
-                    on: 1,
-                },
-                Call::VicLine { vic, port, up: 1 },
-            ];
-            for call in calls {
-                let answer = ask(party, &call);
-                assert_eq!(answer.returned, 21, "{} on\n{call}", party.name());
-                assert!(answer.after == call);
+            for call in port_calls(&vic, port) {
+                check_refused(party.as_ref(), &call, 21);
             }
         }
     }
@@ -304,57 +278,20 @@ fn ports_that_there_are_not() {
 /// 7 where a slice is of another size, whatever else is wrong.
 #[test]
 fn wrong_sizes_are_refused() {
+    let lent = |size| Lent::from(vec![0xFF; size]);
+    let choose = |size, answer| Call::VicChoose {
+        vic: lent(size),
+        answer: lent(answer),
+    };
+    let mut calls = Vec::new();
+    for size in [0, 1, 87, 89, 176] {
+        calls.extend(port_calls(&lent(size), 40));
+        calls.extend([create(lent(size), 0), choose(size, CHOICE_SIZE)]);
+    }
+    calls.extend([0, 1, 11, 13, 88].map(|answer| choose(CONTROLLER_SIZE, answer)));
     for party in parties() {
-        let sizes = [0, 1, 87, 89, 176];
-        let lent = |size| Lent::from(vec![0xFF; size]);
-        let mut calls: Vec<Call> = Vec::new();
-        for vic in sizes.map(lent) {
-            calls.extend([
-                Call::VicCreate {
-                    vic: vic.clone(),
-                    ports: 0,
-                    vector_bytes: 0,
-                    base: 0,
-                },
-                Call::VicConfigure {
-                    vic: vic.clone(),
-                    port: 40,
-                    level: 0,
-                    set: 0,
-                    nmi: 0,
-                },
-                Call::VicEnable {
-                    vic: vic.clone(),
-                    port: 40,
-                    on: 0,
-                },
-                Call::VicTrigger {
-                    vic: vic.clone(),
-                    port: 40,
-                    on: 0,
-                },
-                Call::VicLine {
-                    vic: vic.clone(),
-                    port: 40,
-                    up: 0,
-                },
-                Call::VicChoose {
-                    vic,
-                    answer: lent(CHOICE_SIZE),
-                },
-            ]);
-        }
-        for size in [0, 1, 11, 13, 88] {
-            let vic = lent(CONTROLLER_SIZE);
-            calls.push(Call::VicChoose {
-                vic,
-                answer: lent(size),
-            });
-        }
-        for call in calls {
-            let answer = ask(party.as_ref(), &call);
-            assert_eq!(answer.returned, 7, "{} on\n{call}", party.name());
-            assert!(answer.after == call && answer.canaries_live);
+        for call in &calls {
+            check_refused(party.as_ref(), call, 7);
         }
     }
 }

@@ -9,7 +9,7 @@ use native.Mathlib.Nat.{le-refl, le-trans, lt-trans, lt-of-le-of-lt}
 use native.Mathlib.Numerals.{add-one}
 use lib.Bits.{bitOr, bitAnd}
 use lib.Dec.{eqb, ltb}
-use borrow.Author.Tests.{ltb-true, ltb-false, lt-ltb, le-ltb, eqb-true, eqb-false}
+use borrow.Author.Tests.{ltb-true, ltb-false, eqb-true, eqb-false}
 use Rattle.words.specs.Bits.{bit}
 use Rattle.words.proofs.Bits.{half-last, bit-or, bit-and}
 use Rattle.vic.specs.Layout.{ports, lines, software, enabled}

@@ -1,14 +1,12 @@
 -- The bits of a number, and one of them made so.
 -- Assumes nothing.
-use Prim.Native.Nat.{ℕ, zero, suc, _+_, _*_, _-_, _/_, _%_, _^_, _≤_, _<_, max, min}
+use Prim.Native.Nat.{ℕ, zero, suc, _+_, _*_, _-_, _/_, _%_, _^_, _≤_, _<_, max}
 use mathlib.Core.Path.{_≡_, refl, sym, ap, subst, _∙_}
 use mathlib.Core.Bool.{Bool, true, false, cond, _&&_, _||_}
-use native.Mathlib.Nat.{pow-suc, mul-comm, div-div-eq-div-mul, div-self, zero-div, two-pow-succ, pow-le-pow-right, mod-lt, max-zero}
+use native.Mathlib.Nat.{two-pow-succ, pow-le-pow-right, mod-lt, max-zero}
 use native.Mathlib.Omega.{arith}
-use lib.Bits.{bitOr, bitAnd, or-step, and-step, or-shr, and-shr, or-zero-r, or-lt}
+use lib.Bits.{bitOr, or-step, or-zero-r, or-lt}
 use lib.Dec.{eqb}
-use lib.Pow.{pow-pos}
-use borrow.Author.Tests.{eq-eqb, ne-eqb}
 use Rattle.words.specs.Bits.{bit}
 use Rattle.words.proofs.Bits.{bit-suc, bit-or, bit-power, other-power}
 use Rattle.vic.specs.Layout.{withBit}

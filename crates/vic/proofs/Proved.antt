@@ -1,24 +1,24 @@
 -- The theorems of specs/Theorems.
 -- Assumes nothing.
 use Prim.Native.Nat.{ℕ, suc, _+_, _*_, _-_, _/_, _%_, _^_, _≤_, _<_}
-use mathlib.Core.Path.{_≡_, refl, sym, ap, subst, _∙_}
+use mathlib.Core.Path.{_≡_, refl, sym, ap, _∙_}
 use mathlib.Core.Bool.{Bool, true, false, cond, _&&_}
 use mathlib.Core.List.{List}
 use native.Mathlib.Nat.{mod-lt}
 use native.Mathlib.Omega.{arith}
 use lib.Dec.{eqb, leb, ltb}
 use lib.ListN.{length}
-use borrow.Author.Tests.{ltb-true, ltb-false, lt-ltb, le-ltb, leb-true, leb-false}
+use borrow.Author.Tests.{ltb-true, ltb-false, leb-true, leb-false}
 use Rattle.words.specs.declared.Order.the-variants.{MostFirst}
 use Rattle.words.specs.Bits.{bit}
 use Rattle.words.specs.Orders.{bytesOf, rowNumbers}
 use Rattle.words.proofs.Beside.{number-before, number-after, number-own}
 use Rattle.words.proofs.Bits.{kept-bit}
 use Rattle.words.proofs.Orders.{length-bytes, row-back}
-use Rattle.vic.specs.Layout.{word, place, ports, vectorBytes, base, lines, software, enabled, config, setOf, maskOf, configOf, withBit, bitMade, configured}
+use Rattle.vic.specs.Layout.{word, place, ports, lines, software, enabled, config, setOf, maskOf, configOf, withBit, bitMade, configured}
 use Rattle.vic.specs.Choice.{level, chosenPort, chosenLevel, handler, Asks}
-use Rattle.vic.specs.Calls.{loadNumber, portNumber, chooseNumber, chosen, answerWidths, told}
-use Rattle.vic.specs.Theorems.{ChosenIs, ChosenOne, NothingChosen, TooLargeExactly, ToldWhole, SamePort, SameCommon, OnlyPort, ConfiguredOne, Configures, MarkedOne, Drives, Triggers, Enables}
+use Rattle.vic.specs.Calls.{portNumber, chosen, answerWidths, told}
+use Rattle.vic.specs.Theorems.{ChosenIs, ChosenOne, NothingChosen, TooLargeExactly, ToldWhole, SameCommon, OnlyPort, ConfiguredOne, Configures, Drives, Triggers, Enables}
 use Rattle.vic.proofs.Marks.{bit-made, other-made}
 use Rattle.vic.proofs.Choosing.{both-true, chosen-is, chosen-one, asks-chosen}
 use Rattle.vic.proofs.Refusing.{loaded, ported, port-below, choose-by, choose-large, choose-loaded, answer-told}
@@ -86,6 +86,15 @@ config-below level set false = omega arith
 
 -- ---- one port
 
+same-common : (xs ys : List ℕ) → ((k : ℕ) → k ≤ 8 → word ys k ≡ word xs k) → SameCommon xs ys
+same-common xs ys same =
+    record {
+      count = ap (λ (w : ℕ). w / 2 ^ 24) (same 0 (omega arith));
+      blank = ap (λ (w : ℕ). w % 2 ^ 24) (same 0 (omega arith));
+      each = same 4 (omega arith);
+      start = same 8 (omega arith);
+    }
+
 module _ (xs : List ℕ) (p : ℕ) (e : portNumber xs p ≡ 0) where
   sized : length xs ≡ 88
   sized = loaded xs (ported xs p e .0) .0
@@ -127,12 +136,16 @@ module _ (xs : List ℕ) (p : ℕ) (e : portNumber xs p ≡ 0) where
     config-kept q l = number-after MostFirst xs at (bytesOf MostFirst 4 bits) fits (place q) 2 (omega (arith, four)) (omega (arith, sized))
 
     common : SameCommon xs after
-    common =
+    common = same-common xs after (λ k l. word-before k (omega arith))
+
+    -- the other ports, by what was done to each number of bits
+    only-port : ((q : ℕ) → q < 32 → (q ≡ p → ⊥) → bit q (lines after) ≡ bit q (lines xs))
+        → ((q : ℕ) → q < 32 → (q ≡ p → ⊥) → bit q (software after) ≡ bit q (software xs))
+        → ((q : ℕ) → q < 32 → (q ≡ p → ⊥) → bit q (enabled after) ≡ bit q (enabled xs)) → OnlyPort xs after p
+    only-port a b c =
         record {
-          count = ap (λ (w : ℕ). w / 2 ^ 24) (word-before 0 (omega arith));
-          blank = ap (λ (w : ℕ). w % 2 ^ 24) (word-before 0 (omega arith));
-          each = word-before 4 (omega arith);
-          start = word-before 8 (omega arith);
+          common = common;
+          others = λ q l d. record { line = a q l d; trigger = b q l d; enable = c q l d; configuration = config-kept q l };
         }
 
   -- ---- a configuration
@@ -178,13 +191,7 @@ module _ (xs : List ℕ) (p : ℕ) (e : portNumber xs p ≡ 0) where
           enable = word-kept 20 (omega arith);
           rest =
               record {
-                common =
-                    record {
-                      count = ap (λ (w : ℕ). w / 2 ^ 24) (word-kept 0 (omega arith));
-                      blank = ap (λ (w : ℕ). w % 2 ^ 24) (word-kept 0 (omega arith));
-                      each = word-kept 4 (omega arith);
-                      start = word-kept 8 (omega arith);
-                    };
+                common = same-common xs made (λ k l. word-kept k (omega arith));
                 others = λ q l d.
                     record {
                       line = ap (bit q) (word-kept 12 (omega arith));
@@ -207,17 +214,7 @@ drives xs p on e =
       first = s;
       second = n;
       configuration = config-kept xs p e 12 on (omega arith) (omega arith) p (below xs p e);
-      rest =
-          record {
-            common = common xs p e 12 on (omega arith) (omega arith);
-            others = λ q l d.
-                record {
-                  line = other-bit xs p e 12 on (omega arith) (omega arith) q l d;
-                  trigger = ap (bit q) s;
-                  enable = ap (bit q) n;
-                  configuration = config-kept xs p e 12 on (omega arith) (omega arith) q l;
-                };
-          };
+      rest = only-port xs p e 12 on (omega arith) (omega arith) (other-bit xs p e 12 on (omega arith) (omega arith)) (λ q l d. ap (bit q) s) (λ q l d. ap (bit q) n);
     }
 
 pub triggers : Triggers
@@ -229,17 +226,7 @@ triggers xs p on e =
       first = s;
       second = n;
       configuration = config-kept xs p e 16 on (omega arith) (omega arith) p (below xs p e);
-      rest =
-          record {
-            common = common xs p e 16 on (omega arith) (omega arith);
-            others = λ q l d.
-                record {
-                  line = ap (bit q) s;
-                  trigger = other-bit xs p e 16 on (omega arith) (omega arith) q l d;
-                  enable = ap (bit q) n;
-                  configuration = config-kept xs p e 16 on (omega arith) (omega arith) q l;
-                };
-          };
+      rest = only-port xs p e 16 on (omega arith) (omega arith) (λ q l d. ap (bit q) s) (other-bit xs p e 16 on (omega arith) (omega arith)) (λ q l d. ap (bit q) n);
     }
 
 pub enables : Enables
@@ -251,15 +238,5 @@ enables xs p on e =
       first = s;
       second = n;
       configuration = config-kept xs p e 20 on (omega arith) (omega arith) p (below xs p e);
-      rest =
-          record {
-            common = common xs p e 20 on (omega arith) (omega arith);
-            others = λ q l d.
-                record {
-                  line = ap (bit q) s;
-                  trigger = ap (bit q) n;
-                  enable = other-bit xs p e 20 on (omega arith) (omega arith) q l d;
-                  configuration = config-kept xs p e 20 on (omega arith) (omega arith) q l;
-                };
-          };
+      rest = only-port xs p e 20 on (omega arith) (omega arith) (λ q l d. ap (bit q) s) (λ q l d. ap (bit q) n) (other-bit xs p e 20 on (omega arith) (omega arith));
     }

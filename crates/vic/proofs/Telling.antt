@@ -2,15 +2,15 @@
 -- Assumes nothing.
 use Prim.Native.Nat.{ℕ, _+_, _*_, _/_, _%_, _^_, _≤_, _<_}
 use mathlib.Core.Path.{_≡_, refl, sym, ap, _∙_}
-use mathlib.Core.List.{List, [], _∷_, _++_, append-nil}
+use mathlib.Core.List.{List, [], _∷_, _++_}
 use native.Mathlib.Nat.{mul-le-mul-right, mod-lt}
 use native.Mathlib.Omega.{arith}
-use lib.ListN.{length, replicate, drop-of-length-le}
+use lib.ListN.{length, replicate}
 use Rattle.words.specs.declared.Order.the-variants.{MostFirst}
 use Rattle.words.specs.Orders.{bytesOf, rowBytes, wordBytes}
 use Rattle.words.specs.Slices.{putAt}
 use Rattle.words.proofs.Slices.{put-all}
-use Rattle.vic.specs.Layout.{ports, config, levelOf, setOf, maskOf, fresh}
+use Rattle.vic.specs.Layout.{ports, config, setOf, maskOf, fresh}
 use Rattle.vic.specs.Choice.{level, chosenPort, chosenLevel, handler}
 use Rattle.vic.specs.Calls.{loadNumber, answerWidths, told}
 use Rattle.vic.proofs.Choosing.{held}

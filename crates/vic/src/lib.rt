@@ -1,6 +1,6 @@
 // The vectored interrupt controller. All there is of one are its 88 bytes, which the caller keeps: each call works in them, looks at
 // their size and their rules first, and where it is refused has changed nothing.
-ghost use mathlib.Core.Bool.{cond, _&&_};
+ghost use mathlib.Core.Bool.{cond};
 ghost use mathlib.Core.Path.{_≡_};
 ghost use Prim.Native.Nat.{_+_, _*_, _%_, _/_, _^_, _≤_, _<_};
 ghost use lib.ListN.{length};
@@ -8,11 +8,10 @@ ghost use mathlib.Core.List.{[], _∷_};
 ghost use Rattle.words.specs.Bits.{flag as flagOf};
 ghost use Rattle.words.specs.Orders.{rowBytes};
 ghost use lib.Bits.{bitOr, bitAnd};
-ghost use lib.Dec.{ltb};
 ghost use Rattle.words.specs.declared.Order.the-variants.{MostFirst};
 ghost use Rattle.words.specs.Promise.{Gives, Leaves};
 ghost use Rattle.words.specs.Slices.{numberAt};
-ghost use Rattle.vic.specs.Layout.{ports as portsOf, lines, software, enabled, config, withBit, bitMade, configOf, setOf, maskOf};
+ghost use Rattle.vic.specs.Layout.{ports as portsOf, lines, software, enabled, withBit, bitMade, configOf, setOf, maskOf};
 ghost use Rattle.vic.specs.Rules.{configKept, bitsKept, lowestBroken, firstFalse, configRules};
 ghost use Rattle.vic.specs.Choice.{mostLevel, bestPort};
 ghost use Rattle.vic.specs.Calls.{loadNumber, portNumber, answerWidths, Answers, VicCreated, VicConfigured, VicEnabled, VicTriggered, VicDriven, VicChosen};
