@@ -31,7 +31,7 @@ broken_field(controller: &Controller) -> Option<usize> {
     "the last field that breaks a rule is told" => {
         (1..=CONTROLLER_FIELDS).rfind(|&field| !Paper.field_kept(controller, field))
     }
-    "fields are counted from 0" => {
+    "the fields of a controller are counted from 0" => {
         Paper.broken_field(controller).map(|field| field - 1)
     }
     "the zero bits behind the ports are not looked at" => {
