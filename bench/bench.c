@@ -3,6 +3,7 @@
  * it is not. Each scene is played, shown and compared with what must come of
  * it; the program fails where one is not as it must be.
  */
+#include "shared.h"
 #include "show.h"
 
 #include <inttypes.h>
@@ -371,6 +372,7 @@ int main(void)
     show_legend();
     for (size_t i = 0; i < SCENE_COUNT; i++)
         good += play(i + 1, &SCENES[i]);
-    printf("\n%zu of %d scenes are as they must be\n", good, SCENE_COUNT);
-    return good == SCENE_COUNT ? 0 : 1;
+    good += play_shared(SCENE_COUNT + 1, ENABLES);
+    printf("\n%zu of %d scenes are as they must be\n", good, SCENE_COUNT + 1);
+    return good == SCENE_COUNT + 1 ? 0 : 1;
 }

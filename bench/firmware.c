@@ -62,8 +62,7 @@ void firmware_start(struct firmware *firmware)
     core_write(&firmware->core, SGDMA_REGISTER_CONTROL, firmware->control);
 }
 
-/* Clears the status bits that were read, and what is pending. */
-static uint32_t acknowledge(struct firmware *firmware)
+uint32_t firmware_acknowledge(struct firmware *firmware)
 {
     struct core *core = &firmware->core;
     uint32_t status = core_read(core, SGDMA_REGISTER_STATUS);
@@ -74,17 +73,24 @@ static uint32_t acknowledge(struct firmware *firmware)
     return status;
 }
 
-struct slice firmware_slice(struct firmware *firmware)
+struct ran firmware_run(struct firmware *firmware)
 {
     static const struct stream no_room = {NULL, 0};
+    struct ran ran = core_run(&firmware->core, firmware->in, no_room,
+                              firmware->ledger, SLICE);
+
+    firmware->in = stream_from(firmware->in, ran.taken);
+    firmware->ledger.used = ran.used;
+    return ran;
+}
+
+struct slice firmware_slice(struct firmware *firmware)
+{
     struct slice slice;
 
-    slice.ran = core_run(&firmware->core, firmware->in, no_room,
-                         firmware->ledger, SLICE);
-    firmware->in = stream_from(firmware->in, slice.ran.taken);
-    firmware->ledger.used = slice.ran.used;
+    slice.ran = firmware_run(firmware);
     slice.line = core_line(&firmware->core);
-    slice.status = slice.line ? acknowledge(firmware) : 0;
+    slice.status = slice.line ? firmware_acknowledge(firmware) : 0;
     return slice;
 }
 

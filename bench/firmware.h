@@ -62,10 +62,13 @@ size_t firmware_done(const struct firmware *firmware);
 /* Points the core to the chain and sets RUN. */
 void firmware_start(struct firmware *firmware);
 
-/*
- * Runs a slice, and keeps what the next one is to be lent. Where the line is up
- * then, reads status and acknowledges.
- */
+/* Runs a slice, and keeps what the next one is to be lent. */
+struct ran firmware_run(struct firmware *firmware);
+
+/* Reads status, and clears the bits that were read and what is pending. */
+uint32_t firmware_acknowledge(struct firmware *firmware);
+
+/* Runs a slice, and where the line is up then, acknowledges. */
 struct slice firmware_slice(struct firmware *firmware);
 
 /* Lends all of the ledger from now on; the room that is new, in records. */

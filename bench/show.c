@@ -119,17 +119,21 @@ void show_slice_heading(void)
            "status read and cleared\n");
 }
 
+void show_status(uint32_t status)
+{
+    printf("  0x%02" PRIX32, status);
+    for (size_t i = 0; i < sizeof STATUS_BITS / sizeof *STATUS_BITS; i++)
+        if (status & STATUS_BITS[i].bit)
+            printf(" %s", STATUS_BITS[i].name);
+}
+
 void show_slice(size_t number, const struct slice *slice)
 {
     printf("    %5zu  %5" PRIu32 "  %5" PRIu32 "  %7" PRIu32 "  %-10s  %-4s",
            number, slice->ran.steps, slice->ran.taken, slice->ran.used,
            reason_name(slice->ran.reason), slice->line ? "up" : "down");
-    if (slice->line) {
-        printf("  0x%02" PRIX32, slice->status);
-        for (size_t i = 0; i < sizeof STATUS_BITS / sizeof *STATUS_BITS; i++)
-            if (slice->status & STATUS_BITS[i].bit)
-                printf(" %s", STATUS_BITS[i].name);
-    }
+    if (slice->line)
+        show_status(slice->status);
     printf("\n");
 }
 

@@ -26,6 +26,10 @@ struct found find(const struct core *core, uint32_t address, size_t first);
 void show_legend(void);
 void show_slice_heading(void);
 void show_slice(size_t number, const struct slice *slice);
+
+/* A status as it was read, in number and names. */
+void show_status(uint32_t status);
+
 void show_found_heading(void);
 void show_found(const struct found *found);
 

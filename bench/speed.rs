@@ -9,6 +9,8 @@
 //! The ratios are printed beside what is aimed at, with a word where that is
 //! missed; nothing fails by it.
 
+mod choices;
+
 use harness::bulk::Bulk;
 use harness::call::{libraries, Call, Lent, Party, Told};
 use harness::firmware::{stream, Firmware};
@@ -479,6 +481,7 @@ fn main() -> ExitCode {
     };
     compare_runs(library.as_ref());
     compare_calls(library.as_ref());
+    choices::compare_choices(library.as_ref());
     show_growth(library.as_ref());
     ExitCode::SUCCESS
 }

@@ -13,9 +13,20 @@
  *   sgdma_read_register       what has happened
  *   sgdma_read_descriptor     what was done with each descriptor
  *
+ * Several cores can share an interrupt controller (chapter 29, Vectored
+ * Interrupt Controller Core):
+ *
+ *   sgdma_vic_create          a controller with 1 to 32 ports
+ *   sgdma_vic_configure       level, register set and flag of a port
+ *   sgdma_vic_enable          which ports are listened to
+ *   sgdma_vic_line            the line of a core, brought to its port
+ *   sgdma_vic_trigger         an interrupt by software
+ *   sgdma_vic_choose          which port is to be served, and by which handler
+ *
  * The library keeps nothing between calls. All there is of a core is its image,
  * 44 bytes that belong to the caller. A copy of the image, with a copy of the
- * window, is the saved core; lent to the next call, it goes on from there.
+ * window, is the saved core; lent to the next call, it goes on from there. A
+ * controller is 88 bytes in the same way.
  *
  * For every call
  *
@@ -40,9 +51,9 @@
  *   refused call has changed no lent byte.
  *
  *   Numbers in lent bytes have the most significant byte first, in the image,
- *   the report, the value, the descriptor answer, the beats and the records of
- *   the ledger. Descriptors in the window are little-endian, as the core has
- *   them.
+ *   the report, the value, the descriptor answer, the beats, the records of the
+ *   ledger, the controller and its answer. Descriptors in the window are
+ *   little-endian, as the core has them.
  */
 #ifndef SGDMA_H
 #define SGDMA_H
@@ -62,6 +73,8 @@ extern "C" {
 #define SGDMA_VALUE_SIZE              4
 #define SGDMA_REPORT_SIZE             18
 #define SGDMA_DESCRIPTOR_ANSWER_SIZE  18
+#define SGDMA_VIC_SIZE                88
+#define SGDMA_VIC_ANSWER_SIZE         12
 
 /*
  * The window
@@ -374,6 +387,61 @@ extern "C" {
                                            /* for 13 and 14 the byte's, modulo 2^32 */
 
 /*
+ * The interrupt controller
+ *
+ * A port has a line, a software trigger, an enable, a level, a register set and
+ * the non-maskable flag. It is pending while its line is up or its trigger set,
+ * and it is enabled. The chosen port is that of the largest level among the
+ * pending ones; of several with that level the one of the lowest index. A port
+ * with level 0 is never chosen. The flag is told with the port and changes no
+ * choice. Nothing here goes down by itself: firmware that has served a port
+ * drives its line as the core's then is, or clears its trigger.
+ *
+ * The handler of a port is at port x vector_bytes + base, as a whole number. Any
+ * 32-bit numbers will do for these two, as long as the handler of each port that
+ * comes to be chosen is on the bus.
+ */
+#define SGDMA_VIC_PORTS_MAX  32
+#define SGDMA_VIC_LEVEL_MAX  63 /* of level and register set; 6 bits of each are kept */
+
+/*
+ * The answer of sgdma_vic_choose, 12 bytes: where each number stands. Where no
+ * port is chosen all are 0.
+ */
+#define SGDMA_VIC_ANSWER_CHOSEN_AT        0 /* 16 bits: 1 where a port is chosen */
+#define SGDMA_VIC_ANSWER_PORT_AT          2 /* 16 bits */
+#define SGDMA_VIC_ANSWER_LEVEL_AT         4 /* 8 bits */
+#define SGDMA_VIC_ANSWER_SET_AT           5 /* 8 bits: the register set */
+#define SGDMA_VIC_ANSWER_NON_MASKABLE_AT  6 /* 16 bits: 0 or 1 */
+#define SGDMA_VIC_ANSWER_ADDRESS_AT       8 /* 32 bits: the handler's */
+
+/*
+ * A controller, 88 bytes. For the reader of a dump, by byte and bits:
+ *
+ *   0   count of ports 8, zero 24
+ *   4   bytes per vector 32
+ *   8   base 32
+ *   12  lines 32, software triggers 32, enables 32: bit p for port p
+ *   24  for each port, 0 to 31: zero 3, register set 6, non-maskable 1, level 6
+ *
+ * The count is 1 to 32, what is called zero is zero, and so are the bits and the
+ * 16 bits of every port that the controller lacks. A controller that
+ * sgdma_vic_create made keeps these rules, and so does what every call leaves of
+ * one that keeps them. One that breaks a rule is refused with
+ *
+ *   SGDMA_BAD_IMAGE + 256 x field
+ *
+ * where field is the lowest that does, of these, counted in the order of the
+ * bytes. The bytes per vector and the base, 3 and 4, break none.
+ */
+#define SGDMA_VIC_FIELD_PORTS         UINT32_C(1)
+#define SGDMA_VIC_FIELD_ZERO          UINT32_C(2)
+#define SGDMA_VIC_FIELD_LINES         UINT32_C(5)
+#define SGDMA_VIC_FIELD_SOFTWARE      UINT32_C(6)
+#define SGDMA_VIC_FIELD_ENABLED       UINT32_C(7)
+#define SGDMA_VIC_FIELD_FIRST_CONFIG  UINT32_C(8) /* the 16 bits of port p: 8 + p, to 39 */
+
+/*
  * What a call returns
  *
  * SGDMA_DONE, or the number of a refusal. SGDMA_BAD_IMAGE comes back as 8 + 256 x
@@ -382,7 +450,8 @@ extern "C" {
  *
  *   SGDMA_REFUSAL(r)  which refusal it is
  *   SGDMA_FIELD(r)    with SGDMA_BAD_IMAGE the field that is wrong, by the table
- *                     of the image; with every other refusal 0
+ *                     of the image or of the controller; with every other
+ *                     refusal 0
  */
 #define SGDMA_REFUSAL(r)    ((r) & 255)
 #define SGDMA_FIELD(r)      ((r) >> 8)
@@ -394,9 +463,11 @@ extern "C" {
 #define SGDMA_MISALIGNED    UINT32_C(5)  /* the descriptor's address is not a multiple of 4 */
 #define SGDMA_OUTSIDE       UINT32_C(6)  /* its 32 bytes are not in the window */
 #define SGDMA_BAD_SIZE      UINT32_C(7)  /* an image, value, report or answer of wrong size */
-#define SGDMA_BAD_IMAGE     UINT32_C(8)  /* a field of the image is wrong: + 256 x field */
+#define SGDMA_BAD_IMAGE     UINT32_C(8)  /* a field of image or controller is wrong: + 256 x field */
 #define SGDMA_ODD_STREAM    UINT32_C(9)  /* an odd number of beat bytes, in or out */
 #define SGDMA_BAD_LEDGER    UINT32_C(19) /* part of a record, or fewer records than are used */
+#define SGDMA_NO_PORT       UINT32_C(21) /* the controller lacks the port; or a count not 1 to 32 */
+#define SGDMA_ADDRESS_TOO_LARGE  UINT32_C(22) /* the chosen port's handler is past 32 bits */
 
 /*
  * Makes a fresh core: every register 0, nothing pending, phase Rest.
@@ -525,6 +596,63 @@ uint32_t sgdma_build_descriptor(uint8_t *window, size_t window_len,
 uint32_t sgdma_read_descriptor(const uint8_t *window, size_t window_len,
                                uint64_t base, uint32_t address,
                                uint8_t *answer, size_t answer_len);
+
+/*
+ * Makes a controller of so many ports: no line up, nothing triggered, enabled or
+ * configured.
+ *
+ * Reads    nothing: what the 88 bytes held before does not matter
+ * Writes   vic
+ * Returns  SGDMA_BAD_SIZE  vic_len is not 88
+ *          SGDMA_NO_PORT   ports is not 1 to 32
+ *          SGDMA_DONE
+ */
+uint32_t sgdma_vic_create(uint8_t *vic, size_t vic_len,
+                          uint32_t ports, uint32_t vector_bytes, uint32_t base);
+
+/*
+ * Configures a port: its level and its register set, of which the lowest 6 bits
+ * are kept, and its non-maskable flag.
+ *
+ * The next four calls are alike. Each reads the controller, writes what it says
+ * of its one port and leaves every other port, and the rest of this one, as it
+ * was. A flag is given as a number: 0 is 0, and any other number is 1.
+ *
+ * Reads    vic
+ * Writes   vic
+ * Returns  SGDMA_BAD_SIZE   vic_len is not 88
+ *          SGDMA_BAD_IMAGE  + 256 x field: the 88 bytes break a rule
+ *          SGDMA_NO_PORT    the controller has no such port
+ *          SGDMA_DONE
+ */
+uint32_t sgdma_vic_configure(uint8_t *vic, size_t vic_len, uint32_t port,
+                             uint32_t level, uint32_t set, uint32_t nmi);
+
+/* Enables a port, or disables it. Refused as sgdma_vic_configure is. */
+uint32_t sgdma_vic_enable(uint8_t *vic, size_t vic_len,
+                          uint32_t port, uint32_t on);
+
+/* Sets a port's software trigger, or clears it. Refused as that is. */
+uint32_t sgdma_vic_trigger(uint8_t *vic, size_t vic_len,
+                           uint32_t port, uint32_t on);
+
+/* Drives a port's line up or down, as sgdma_line tells it. Refused as that is. */
+uint32_t sgdma_vic_line(uint8_t *vic, size_t vic_len,
+                        uint32_t port, uint32_t up);
+
+/*
+ * Tells the port to be served, or that there is none.
+ *
+ * Reads    vic
+ * Writes   answer: the chosen port and its handler, 12 bytes
+ * Returns  SGDMA_BAD_SIZE   vic_len is not 88 or answer_len not 12
+ *          SGDMA_BAD_IMAGE  + 256 x field: the 88 bytes break a rule
+ *          SGDMA_ADDRESS_TOO_LARGE  the chosen port's handler would be at 2^32
+ *                           or above; then nothing is told
+ *          SGDMA_DONE       also where no port is chosen
+ */
+uint32_t sgdma_vic_choose(const uint8_t *vic, size_t vic_len,
+                          uint8_t *answer, size_t answer_len);
 
 #ifdef __cplusplus
 }

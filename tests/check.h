@@ -30,5 +30,6 @@ void test_ledger(void);
 void test_largest_ledger(void);
 void test_refusals(void);
 void test_fields(void);
+void test_controller(void);
 
 #endif

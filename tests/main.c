@@ -14,5 +14,6 @@ int main(void)
     test_largest_ledger();
     test_refusals();
     test_fields();
+    test_controller();
     return check_figures();
 }

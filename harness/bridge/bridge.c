@@ -25,6 +25,12 @@ enum function {
     RUN,
     BUILD_DESCRIPTOR,
     READ_DESCRIPTOR,
+    VIC_CREATE,
+    VIC_CONFIGURE,
+    VIC_ENABLE,
+    VIC_TRIGGER,
+    VIC_LINE,
+    VIC_CHOOSE,
 };
 
 /* The numbers and the slices each stand in the order of the prototype. */
@@ -97,6 +103,18 @@ static uint32_t make_call(uint64_t function, const uint64_t *number, const struc
                                       number[4], number[5], number[6]);
     case READ_DESCRIPTOR:
         return sgdma_read_descriptor(SLICE(0), number[0], number[1], SLICE(1));
+    case VIC_CREATE:
+        return sgdma_vic_create(SLICE(0), number[0], number[1], number[2]);
+    case VIC_CONFIGURE:
+        return sgdma_vic_configure(SLICE(0), number[0], number[1], number[2], number[3]);
+    case VIC_ENABLE:
+        return sgdma_vic_enable(SLICE(0), number[0], number[1]);
+    case VIC_TRIGGER:
+        return sgdma_vic_trigger(SLICE(0), number[0], number[1]);
+    case VIC_LINE:
+        return sgdma_vic_line(SLICE(0), number[0], number[1]);
+    case VIC_CHOOSE:
+        return sgdma_vic_choose(SLICE(0), SLICE(1));
     }
 #undef SLICE
     fail("no such function");

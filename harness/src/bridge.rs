@@ -1,4 +1,4 @@
-//! The seven calls of the library, made by another program over its pipes.
+//! The calls of the library, made by another program over its pipes.
 //!
 //! For a host that cannot link the archive. `SGDMA_BRIDGE` is the command that
 //! starts the program of `bridge/bridge.c`, which also says what a frame is.

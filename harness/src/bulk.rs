@@ -8,8 +8,8 @@
 pub mod rows;
 
 use crate::model::{
-    descriptor_control, Calls, Descriptors, Fault, Images, Ledgers, Machine, Mode, Phase, Ports,
-    Reason, Registers, Report, Steps, Windows, OUTPUT_EOP, OUTPUT_SOP,
+    descriptor_control, Calls, Controllers, Descriptors, Fault, Images, Ledgers, Machine, Mode,
+    Phase, Ports, Reason, Registers, Report, Steps, Windows, OUTPUT_EOP, OUTPUT_SOP,
 };
 use rows::Row;
 
@@ -21,6 +21,7 @@ impl Registers for Bulk {}
 impl Descriptors for Bulk {}
 impl Ledgers for Bulk {}
 impl Images for Bulk {}
+impl Controllers for Bulk {}
 
 impl Calls for Bulk {
     const NAME: &'static str = "bulk model";

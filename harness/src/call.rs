@@ -72,7 +72,7 @@ impl DerefMut for Lent {
     }
 }
 
-/// The seven functions.
+/// The functions.
 #[derive(Clone, Copy, Debug, PartialEq, Eq, PartialOrd, Ord)]
 pub enum Function {
     Create,
@@ -82,6 +82,12 @@ pub enum Function {
     Run,
     BuildDescriptor,
     ReadDescriptor,
+    VicCreate,
+    VicConfigure,
+    VicEnable,
+    VicTrigger,
+    VicLine,
+    VicChoose,
 }
 
 /// One call with all its arguments, in the order of the C prototypes.
@@ -131,6 +137,38 @@ pub enum Call {
         window: Lent,
         base: u64,
         address: u32,
+        answer: Lent,
+    },
+    VicCreate {
+        vic: Lent,
+        ports: u32,
+        vector_bytes: u32,
+        base: u32,
+    },
+    VicConfigure {
+        vic: Lent,
+        port: u32,
+        level: u32,
+        set: u32,
+        nmi: u32,
+    },
+    VicEnable {
+        vic: Lent,
+        port: u32,
+        on: u32,
+    },
+    VicTrigger {
+        vic: Lent,
+        port: u32,
+        on: u32,
+    },
+    VicLine {
+        vic: Lent,
+        port: u32,
+        up: u32,
+    },
+    VicChoose {
+        vic: Lent,
         answer: Lent,
     },
 }
@@ -203,6 +241,12 @@ impl Call {
             Call::Run { .. } => Function::Run,
             Call::BuildDescriptor { .. } => Function::BuildDescriptor,
             Call::ReadDescriptor { .. } => Function::ReadDescriptor,
+            Call::VicCreate { .. } => Function::VicCreate,
+            Call::VicConfigure { .. } => Function::VicConfigure,
+            Call::VicEnable { .. } => Function::VicEnable,
+            Call::VicTrigger { .. } => Function::VicTrigger,
+            Call::VicLine { .. } => Function::VicLine,
+            Call::VicChoose { .. } => Function::VicChoose,
         }
     }
 
@@ -214,7 +258,20 @@ impl Call {
             | Call::WriteRegister { image, .. }
             | Call::Line { image, .. }
             | Call::Run { image, .. } => Some(image),
-            Call::BuildDescriptor { .. } | Call::ReadDescriptor { .. } => None,
+            _ => None,
+        }
+    }
+
+    /// The controller that the call is given, where it is given one.
+    pub fn controller(&self) -> Option<&Lent> {
+        match self {
+            Call::VicCreate { vic, .. }
+            | Call::VicConfigure { vic, .. }
+            | Call::VicEnable { vic, .. }
+            | Call::VicTrigger { vic, .. }
+            | Call::VicLine { vic, .. }
+            | Call::VicChoose { vic, .. } => Some(vic),
+            _ => None,
         }
     }
 
@@ -252,6 +309,16 @@ impl Call {
                      Long(destination), Long(next), Short(length), Byte(control)],
             Call::ReadDescriptor { window, base, address, answer } =>
                 vec![Lent("window", window), Wide(base), Long(address), Lent("answer", answer)],
+            Call::VicCreate { vic, ports, vector_bytes, base } =>
+                vec![Lent("vic", vic), Long(ports), Long(vector_bytes), Long(base)],
+            Call::VicConfigure { vic, port, level, set, nmi } =>
+                vec![Lent("vic", vic), Long(port), Long(level), Long(set), Long(nmi)],
+            Call::VicEnable { vic, port, on } | Call::VicTrigger { vic, port, on } =>
+                vec![Lent("vic", vic), Long(port), Long(on)],
+            Call::VicLine { vic, port, up } =>
+                vec![Lent("vic", vic), Long(port), Long(up)],
+            Call::VicChoose { vic, answer } =>
+                vec![Lent("vic", vic), Lent("answer", answer)],
         }
     }
 }
@@ -267,6 +334,12 @@ impl Display for Call {
             Function::Run => "run",
             Function::BuildDescriptor => "build_descriptor",
             Function::ReadDescriptor => "read_descriptor",
+            Function::VicCreate => "vic_create",
+            Function::VicConfigure => "vic_configure",
+            Function::VicEnable => "vic_enable",
+            Function::VicTrigger => "vic_trigger",
+            Function::VicLine => "vic_line",
+            Function::VicChoose => "vic_choose",
         };
         let mut passed = Vec::new();
         for argument in self.clone().arguments() {
@@ -311,7 +384,7 @@ pub trait Party {
     fn answer(&self, call: &mut Call) -> u32;
 }
 
-/// A model answers with its own seven calls.
+/// A model answers with its own calls.
 impl<Model: Calls> Party for Model {
     fn name(&self) -> &'static str {
         Model::NAME
@@ -337,6 +410,14 @@ impl<Model: Calls> Party for Model {
                                             *length, *control),
             Call::ReadDescriptor { window, base, address, answer } =>
                 self.sgdma_read_descriptor(window, *base, *address, answer),
+            Call::VicCreate { vic, ports, vector_bytes, base } =>
+                self.sgdma_vic_create(vic, *ports, *vector_bytes, *base),
+            Call::VicConfigure { vic, port, level, set, nmi } =>
+                self.sgdma_vic_configure(vic, *port, *level, *set, *nmi),
+            Call::VicEnable { vic, port, on } => self.sgdma_vic_enable(vic, *port, *on),
+            Call::VicTrigger { vic, port, on } => self.sgdma_vic_trigger(vic, *port, *on),
+            Call::VicLine { vic, port, up } => self.sgdma_vic_line(vic, *port, *up),
+            Call::VicChoose { vic, answer } => self.sgdma_vic_choose(vic, answer),
         }
     }
 }

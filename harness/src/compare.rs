@@ -1,7 +1,7 @@
 //! The same calls put to two parties.
 
 use crate::call::{Argument, Call, Function, Party};
-use crate::gen::Host;
+use crate::gen::{Host, Hosts};
 use crate::shrink::shrink;
 use std::fmt::{self, Display, Formatter};
 
@@ -55,7 +55,16 @@ pub fn drive<Stop>(
     count: u64,
     observe: &mut dyn FnMut(&Call, &Answer) -> Result<(), Stop>,
 ) -> Result<(), Stop> {
-    let mut host = Host::new(seed);
+    drive_host(&mut Host::new(seed), party, count, observe)
+}
+
+/// The same with the calls of any host.
+fn drive_host<Stop>(
+    host: &mut dyn Hosts,
+    party: &dyn Party,
+    count: u64,
+    observe: &mut dyn FnMut(&Call, &Answer) -> Result<(), Stop>,
+) -> Result<(), Stop> {
     for _ in 0..count {
         let call = host.next_call();
         let answer = ask(party, &call);
@@ -76,9 +85,20 @@ pub fn compare(
     count: u64,
     observe: &mut dyn FnMut(&Call, &Answer),
 ) -> Result<(), Mismatch> {
+    compare_host(&mut Host::new(seed), left, right, count, observe)
+}
+
+/// The same with the calls of any host.
+pub fn compare_host(
+    host: &mut dyn Hosts,
+    left: &dyn Party,
+    right: &dyn Party,
+    count: u64,
+    observe: &mut dyn FnMut(&Call, &Answer),
+) -> Result<(), Mismatch> {
     let mut since_create = Vec::new();
-    drive(left, seed, count, &mut |call, answer| {
-        if call.function() == Function::Create {
+    drive_host(host, left, count, &mut |call, answer| {
+        if matches!(call.function(), Function::Create | Function::VicCreate) {
             since_create.clear();
         }
         since_create.push(call.clone());

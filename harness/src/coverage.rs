@@ -3,6 +3,7 @@
 //! A [`Point`] is one thing that a run of random calls must have done at least
 //! once. [`required`] lists all of them; [`Coverage`] counts them.
 
+pub mod controllers;
 mod ledgers;
 mod observe;
 mod refusals;

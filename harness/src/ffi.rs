@@ -1,4 +1,4 @@
-//! The seven calls of the library, linked, as its header declares them.
+//! The calls of the library, linked, as its header declares them.
 
 use crate::call::Call;
 use crate::library::Library;
@@ -67,6 +67,30 @@ pub mod c {
             answer: *mut u8,
             answer_len: usize,
         ) -> u32;
+        pub fn sgdma_vic_create(
+            vic: *mut u8,
+            vic_len: usize,
+            ports: u32,
+            vector_bytes: u32,
+            base: u32,
+        ) -> u32;
+        pub fn sgdma_vic_configure(
+            vic: *mut u8,
+            vic_len: usize,
+            port: u32,
+            level: u32,
+            set: u32,
+            nmi: u32,
+        ) -> u32;
+        pub fn sgdma_vic_enable(vic: *mut u8, vic_len: usize, port: u32, on: u32) -> u32;
+        pub fn sgdma_vic_trigger(vic: *mut u8, vic_len: usize, port: u32, on: u32) -> u32;
+        pub fn sgdma_vic_line(vic: *mut u8, vic_len: usize, port: u32, up: u32) -> u32;
+        pub fn sgdma_vic_choose(
+            vic: *const u8,
+            vic_len: usize,
+            answer: *mut u8,
+            answer_len: usize,
+        ) -> u32;
     }
 }
 
@@ -117,6 +141,19 @@ pub(crate) fn answer(library: Library, call: &mut Call) -> u32 {
             Call::ReadDescriptor { window, base, address, answer } =>
                 c::sgdma_read_descriptor(library.lend(window), window.len(), *base, *address,
                                          library.lend_mut(answer), answer.len()),
+            Call::VicCreate { vic, ports, vector_bytes, base } =>
+                c::sgdma_vic_create(library.lend_mut(vic), vic.len(), *ports, *vector_bytes, *base),
+            Call::VicConfigure { vic, port, level, set, nmi } =>
+                c::sgdma_vic_configure(library.lend_mut(vic), vic.len(), *port, *level, *set, *nmi),
+            Call::VicEnable { vic, port, on } =>
+                c::sgdma_vic_enable(library.lend_mut(vic), vic.len(), *port, *on),
+            Call::VicTrigger { vic, port, on } =>
+                c::sgdma_vic_trigger(library.lend_mut(vic), vic.len(), *port, *on),
+            Call::VicLine { vic, port, up } =>
+                c::sgdma_vic_line(library.lend_mut(vic), vic.len(), *port, *up),
+            Call::VicChoose { vic, answer } =>
+                c::sgdma_vic_choose(library.lend(vic), vic.len(),
+                                    library.lend_mut(answer), answer.len()),
         }
     }
 }

@@ -6,11 +6,13 @@
 //! descriptor, one step at a time, one enable alone, the last room in the ledger,
 //! images that differ from a good one in a field or two.
 
+mod controllers;
 mod images;
 mod layout;
 mod ledgers;
 mod rng;
 
+pub use controllers::ControllerHost;
 pub use rng::Rng;
 
 use crate::call::{Call, Lent};
@@ -21,6 +23,24 @@ use crate::model::{
 
 const CALLS_WITH_ONE_WINDOW: u64 = 40;
 const TWO_TO_32: u64 = 1 << 32;
+
+/// Whoever makes calls that lead to one another.
+pub trait Hosts {
+    fn next_call(&mut self) -> Call;
+
+    /// Keeps what a call that was done has left in its lent bytes.
+    fn carry(&mut self, after: &Call);
+}
+
+impl Hosts for Host {
+    fn next_call(&mut self) -> Call {
+        Host::next_call(self)
+    }
+
+    fn carry(&mut self, after: &Call) {
+        Host::carry(self, after);
+    }
+}
 
 /// The bytes that a host carries from call to call, and its next choices.
 pub struct Host {

@@ -1,5 +1,6 @@
 //! The core as the scope paper describes it, written from the paper alone, and
-//! the field of a refused image and the ledger as their requests do.
+//! the field of a refused image, the ledger and the interrupt controller as their
+//! requests do.
 //!
 //! One step moves one byte and steps are taken one by one. Each sentence of the
 //! paper is one small rule, and the rules are provided methods of a few traits,
@@ -9,6 +10,7 @@
 //! program is built, so [`Paper`] pays nothing for it.
 
 mod calls;
+mod controllers;
 mod descriptors;
 mod images;
 mod ledgers;
@@ -18,6 +20,9 @@ mod steps;
 mod windows;
 
 pub use calls::{Calls, Refusal, Refused, DESCRIPTOR_ANSWER_SIZE, REPORT_SIZE, VALUE_SIZE};
+pub use controllers::{
+    Choice, Config, Controller, Controllers, CHOICE_SIZE, CONTROLLER_FIELDS, CONTROLLER_SIZE, PORTS,
+};
 pub use descriptors::{descriptor_control, Descriptor, Descriptors, DESCRIPTOR_SIZE};
 pub use images::{Image, ImageRule, Images, IMAGE_SIZE};
 pub use ledgers::{Ledger, Ledgers, Record, RECORD_SIZE};
@@ -36,4 +41,5 @@ impl Descriptors for Paper {}
 impl Ledgers for Paper {}
 impl Steps for Paper {}
 impl Images for Paper {}
+impl Controllers for Paper {}
 impl Calls for Paper {}

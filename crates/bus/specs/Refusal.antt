@@ -3,7 +3,7 @@
 -- Assumes nothing.
 use Prim.Native.Nat.{ℕ, _+_, _*_}
 use Rattle.bus.specs.declared.Refusal.{Refusal}
-use Rattle.bus.specs.declared.Refusal.the-variants.{NoRegister, BadMode, BadWindow, OtherWindow, Misaligned, Outside, BadSize, BadImage, OddStream, BadLedger}
+use Rattle.bus.specs.declared.Refusal.the-variants.{NoRegister, BadMode, BadWindow, OtherWindow, Misaligned, Outside, BadSize, BadImage, OddStream, BadLedger, NoPort, AddressTooLarge}
 
 abbrev pub refusalNumber : Refusal → ℕ
 refusalNumber NoRegister = 1
@@ -16,3 +16,5 @@ refusalNumber BadSize = 7
 refusalNumber (BadImage field) = 8 + 256 * field
 refusalNumber OddStream = 9
 refusalNumber BadLedger = 19
+refusalNumber NoPort = 21
+refusalNumber AddressTooLarge = 22

@@ -16,6 +16,8 @@ pub enum Refusal {
     BadImage(u8),
     OddStream,
     BadLedger,
+    NoPort,
+    AddressTooLarge,
 }
 
 impl Refusal {
@@ -34,6 +36,8 @@ impl Refusal {
             Refusal::BadImage(field) => 8 + 256 * field as u32,
             Refusal::OddStream => 9,
             Refusal::BadLedger => 19,
+            Refusal::NoPort => 21,
+            Refusal::AddressTooLarge => 22,
         }
     }
 }

@@ -7,3 +7,4 @@ pub mod Unchanged
 pub mod Behind
 pub mod Done
 pub mod TwoRuns
+pub mod OfVic

@@ -1,13 +1,13 @@
 -- The paper's "Refusal numbers" of the C calls: for each call the refusals that it can meet, each with its test, and one order. That
--- the number a call gives back is the first that applies is `create-in-order` and the six laws beside it; that a refused call changes
--- nothing is `create-unchanged` and six more.
+-- the number a call gives back is the first that applies is `create-in-order` and the laws beside it; that a refused call changes
+-- nothing is `create-unchanged` and those beside that.
 -- Assumes nothing.
-use Prim.Native.Nat.{ℕ, _+_, _*_, _%_}
+use Prim.Native.Nat.{ℕ, _+_, _*_, _%_, _^_}
 use mathlib.Core.Path.{_≡_}
 use mathlib.Core.Logic.{_≢_}
 use mathlib.Core.Bool.{Bool, true, false, not, cond, _&&_}
 use mathlib.Core.List.{List, [], _∷_}
-use lib.Dec.{eqb, leb}
+use lib.Dec.{eqb, leb, ltb}
 use lib.ListN.{length}
 use Rattle.bus.specs.Window.{keepsLimits, inWindow}
 use Rattle.regs.specs.Offsets.{isRegister}
@@ -17,6 +17,11 @@ use Rattle.image.specs.Promise.{sized}
 use Rattle.ledger.specs.Records.{isLedger}
 use Rattle.machine.specs.Run.{Lent, even}
 use Rattle.sgdma.specs.Calls.{isSize}
+use Rattle.vic.specs.Layout.{ports}
+use Rattle.vic.specs.Rules.{portsKept}
+use Rattle.vic.specs.Rules as controller
+use Rattle.vic.specs.Choice.{handler, chosenPort}
+use Rattle.vic.specs.Calls.{chosen}
 
 -- a refusal's number, the field that it carries, and whether it applies
 pub record Test : Type 0 where
@@ -38,9 +43,9 @@ abbrev pub first : List Test → ℕ
 first [] = 0
 first (t ∷ ts) = cond (t .applies) (told t) (first ts)
 
--- "First that applies: 7, 8, 9, 19, 2, 3, 4, 1, 5, 6."
+-- "First that applies: 7, 8, 9, 19, 2, 3, 4, 1, 5, 6", and those of the controller: 21, 22
 abbrev pub order : List ℕ
-order = 7 ∷ 8 ∷ 9 ∷ 19 ∷ 2 ∷ 3 ∷ 4 ∷ 1 ∷ 5 ∷ 6 ∷ []
+order = 7 ∷ 8 ∷ 9 ∷ 19 ∷ 2 ∷ 3 ∷ 4 ∷ 1 ∷ 5 ∷ 6 ∷ 21 ∷ 22 ∷ []
 
 -- whether tests come in an order
 abbrev pub comeIn : List ℕ → List Test → Bool
@@ -99,6 +104,18 @@ oddStream beats out = 9 when not (even beats && even out)
 abbrev pub badLedger : (ledger : List ℕ) (used : ℕ) → Test
 badLedger ledger used = 19 when not (isLedger (length ledger) used)
 
+-- 8 of a controller: its 88 bytes break a rule; with the lowest field that does
+abbrev pub badController : List ℕ → Test
+badController xs = record { number = 8; field = controller.lowestBroken xs; applies = not (eqb (controller.lowestBroken xs) 0) }
+
+-- 21, NoPort: a port that the controller lacks, or a count of ports not 1 to 32
+abbrev pub noPort : Bool → Test
+noPort has = 21 when not has
+
+-- 22, AddressTooLarge: the handler address of the chosen port would pass 32 bits
+abbrev pub addressTooLarge : List ℕ → Test
+addressTooLarge xs = 22 when (chosen xs && leb (2 ^ 32) (handler xs (chosenPort xs)))
+
 -- ---- what each call can be refused for
 
 abbrev pub createTests : (xs : List ℕ) (mode base length : ℕ) → List Test
@@ -122,3 +139,15 @@ buildTests window base a = badWindow base (length window) ∷ misaligned a ∷ o
 
 abbrev pub descriptorTests : (window : List ℕ) (base a : ℕ) (answer : List ℕ) → List Test
 descriptorTests window base a answer = badSize (isSize 18 answer) ∷ buildTests window base a
+
+-- ---- and each call on a controller
+
+abbrev pub vicCreateTests : (xs : List ℕ) (count : ℕ) → List Test
+vicCreateTests xs count = badSize (isSize 88 xs) ∷ noPort (portsKept count) ∷ []
+
+-- to configure, enable, trigger or drive a port
+abbrev pub vicPortTests : (xs : List ℕ) (p : ℕ) → List Test
+vicPortTests xs p = badSize (isSize 88 xs) ∷ badController xs ∷ noPort (ltb p (ports xs)) ∷ []
+
+abbrev pub vicChooseTests : (xs answer : List ℕ) → List Test
+vicChooseTests xs answer = badSize (isSize 88 xs && isSize 12 answer) ∷ badController xs ∷ addressTooLarge xs ∷ []

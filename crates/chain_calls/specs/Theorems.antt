@@ -9,10 +9,11 @@ use Rattle.machine.specs.Run.{Lent, Returned, asLent}
 use Rattle.chain.specs.Chain.{shares, cost, Premises}
 use Rattle.chain.specs.Known.{known}
 use Rattle.sgdma.specs.Calls.{Created, RegisterRead, RegisterWritten, LineRead, RunMade, DescriptorBuilt, DescriptorRead}
+use Rattle.vic.specs.Calls.{portNumber, Answers, VicCreated, VicChosen}
 use Rattle.chain_calls.specs.InC.{RunLent, RunLeft, Promised, Lends, WellLent, givenIn, Called, AllDone, Found, FoundAtEveryStep}
 use Rattle.chain_calls.specs.Known.{lends, knownLeft}
 use Rattle.chain_calls.specs.Refused.{FirstThatApplies, WhereRefused}
-use Rattle.chain_calls.specs.Refused.{createTests, readTests, writeTests, lineTests, runTests, buildTests, descriptorTests}
+use Rattle.chain_calls.specs.Refused.{createTests, readTests, writeTests, lineTests, runTests, buildTests, descriptorTests, vicCreateTests, vicPortTests, vicChooseTests}
 use Rattle.chain_calls.specs.TwoRuns.{lentNext, lentWith, DoTheSame}
 use Rattle.chain_calls.specs.Images.{InUse, LoadsBack}
 use Rattle.chain_calls.specs.Useless.{Model, InBytes, Keeps, honest, RefusesEverything, OneFixedAnswer, NeverMoves, OnlyMarksTheOthers, MakesUpSteps}
@@ -54,6 +55,21 @@ abbrev pub DescriptorInOrder : Type 0
 DescriptorInOrder = (window : List ℕ) (base a : ℕ) (answer : List ℕ) (r : ℕ) (answer' : List ℕ) → DescriptorRead window base a answer r answer'
     → FirstThatApplies (descriptorTests window base a answer) r
 
+-- sgdma_vic_create does.
+abbrev pub VicCreateInOrder : Type 0
+VicCreateInOrder = (xs : List ℕ) (ports vectorBytes base r : ℕ) (xs' : List ℕ) → VicCreated xs ports vectorBytes base r xs'
+    → FirstThatApplies (vicCreateTests xs ports) r
+
+-- sgdma_vic_configure, sgdma_vic_enable, sgdma_vic_trigger and sgdma_vic_line do, whatever they leave where they are done.
+abbrev pub VicPortInOrder : Type 0
+VicPortInOrder = (xs done : List ℕ) (p r : ℕ) (xs' : List ℕ) → Answers (portNumber xs p) xs done r xs'
+    → FirstThatApplies (vicPortTests xs p) r
+
+-- sgdma_vic_choose does.
+abbrev pub VicChooseInOrder : Type 0
+VicChooseInOrder = (xs answer : List ℕ) (r : ℕ) (answer' : List ℕ) → VicChosen xs answer r answer'
+    → FirstThatApplies (vicChooseTests xs answer) r
+
 -- ---- a call that gives back another number than 0 leaves everything that it may write as it was lent
 
 -- sgdma_create, refused, leaves the image.
@@ -87,6 +103,10 @@ BuildUnchanged = (window : List ℕ) (base a : ℕ) (j : Job) (r : ℕ) (window'
 abbrev pub DescriptorUnchanged : Type 0
 DescriptorUnchanged = (window : List ℕ) (base a : ℕ) (answer : List ℕ) (r : ℕ) (answer' : List ℕ)
     → DescriptorRead window base a answer r answer' → WhereRefused r (answer' ≡ answer)
+
+-- Every call on a controller leaves the bytes that it may write: the controller, and sgdma_vic_choose the answer.
+abbrev pub VicUnchanged : Type 0
+VicUnchanged = (number : ℕ) (lent done : List ℕ) (r : ℕ) (after : List ℕ) → Answers number lent done r after → WhereRefused r (after ≡ lent)
 
 -- ---- images
 

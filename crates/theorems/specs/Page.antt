@@ -20,6 +20,9 @@ use Rattle.chain_calls.specs.Theorems.{CreateInOrder, ReadInOrder, WriteInOrder
 use Rattle.chain_calls.specs.Theorems.{ReadUnchanged, WriteUnchanged, LineUnchanged, RunUnchanged, BuildUnchanged, DescriptorUnchanged, ImagesLoad}
 use Rattle.chain_calls.specs.Theorems.{NoneRefused, ChainOfCalls, ChainOfCallsAtEveryStep, KnownRun1InC, HonestKeeps, RefuserFails, FixedFails}
 use Rattle.chain_calls.specs.Theorems.{NeverMovingFails, MarkerFails, MadeUpFails, TwoRunsAdd}
+use Rattle.chain_calls.specs.Theorems.{VicCreateInOrder, VicPortInOrder, VicChooseInOrder, VicUnchanged}
+use Rattle.vic.specs.Calls.{AnswersUnique}
+use Rattle.vic.specs.Theorems.{ChosenIs, ChosenOne, NothingChosen, TooLargeExactly, ToldWhole, Configures, Drives, Triggers, Enables, Stays, Starts, CasesHold}
 
 -- ======== demand 1: every call gets a defined answer, and one that is refused changes nothing
 
@@ -53,6 +56,10 @@ descriptor-built-unique = Rattle.sgdma.specs.Calls.descriptor-built-unique
 pub descriptor-read-unique : DescriptorReadUnique
 descriptor-read-unique = Rattle.sgdma.specs.Calls.descriptor-read-unique
 
+-- No second outcome of a call on a controller keeps its promise: the six promises are of one form.
+pub answers-unique : AnswersUnique
+answers-unique = Rattle.vic.specs.Calls.answers-unique
+
 -- ---- "First that applies": 0, or the first number in the paper's one order of the refusals that apply
 
 -- sgdma_create gives back the first that applies.
@@ -83,6 +90,18 @@ build-in-order = Rattle.chain_calls.proofs.Refused.build-in-order
 pub descriptor-in-order : DescriptorInOrder
 descriptor-in-order = Rattle.chain_calls.proofs.Refused.descriptor-in-order
 
+-- sgdma_vic_create gives back the first that applies.
+pub vic-create-in-order : VicCreateInOrder
+vic-create-in-order = Rattle.chain_calls.proofs.OfVic.vic-create-in-order
+
+-- So do sgdma_vic_configure, sgdma_vic_enable, sgdma_vic_trigger and sgdma_vic_line.
+pub vic-port-in-order : VicPortInOrder
+vic-port-in-order = Rattle.chain_calls.proofs.OfVic.vic-port-in-order
+
+-- So does sgdma_vic_choose.
+pub vic-choose-in-order : VicChooseInOrder
+vic-choose-in-order = Rattle.chain_calls.proofs.OfVic.vic-choose-in-order
+
 -- ---- "A refused call returns its number and nothing else": what a call may write is left as it was lent
 
 -- sgdma_create, refused, leaves the image.
@@ -112,6 +131,10 @@ build-unchanged = Rattle.chain_calls.proofs.Unchanged.build-unchanged
 -- sgdma_read_descriptor, refused, leaves the answer.
 pub descriptor-unchanged : DescriptorUnchanged
 descriptor-unchanged = Rattle.chain_calls.proofs.Unchanged.descriptor-unchanged
+
+-- A call on a controller, refused, leaves the controller, and sgdma_vic_choose the answer.
+pub vic-unchanged : VicUnchanged
+vic-unchanged = Rattle.chain_calls.proofs.OfVic.vic-unchanged
 
 -- ======== demand 2: registers, descriptors, bytes, status and interrupts, step for step
 
@@ -396,3 +419,61 @@ marker-fails = Rattle.chain_calls.proofs.NoneUseless.marker-fails
 -- One with "a made-up step count" does not.
 pub made-up-fails : MadeUpFails
 made-up-fails = Rattle.chain_calls.proofs.NoneUseless.made-up-fails
+
+-- ======== order 12: the interrupt controller
+
+-- ---- "Prove the choice is that port and no other"
+
+-- The port told is pending with a level above 0, none pending has a larger level, and none with the same level a lower index.
+pub the-chosen : ChosenIs
+the-chosen = Rattle.vic.proofs.Proved.the-chosen
+
+-- No other port has all that.
+pub only-chosen : ChosenOne
+only-chosen = Rattle.vic.proofs.Proved.only-chosen
+
+-- Nothing is told exactly when no port is pending with a level above 0.
+pub nothing-chosen : NothingChosen
+nothing-chosen = Rattle.vic.proofs.Proved.nothing-chosen
+
+-- 22 exactly where port x bytes per vector + base, of the chosen port, is 2^32 or more.
+pub too-large : TooLargeExactly
+too-large = Rattle.vic.proofs.Proved.too-large
+
+-- The numbers told are those of the chosen port, and none is cut.
+pub told-whole : ToldWhole
+told-whole = Rattle.vic.proofs.Proved.told-whole
+
+-- ---- one port leaves the others as they were
+
+-- Configuring a port changes its configuration, and nothing else.
+pub configures : Configures
+configures = Rattle.vic.proofs.Proved.configures
+
+-- Driving the line of a port changes its line, and nothing else.
+pub drives : Drives
+drives = Rattle.vic.proofs.Proved.drives
+
+-- Its software trigger changes that, and nothing else.
+pub triggers : Triggers
+triggers = Rattle.vic.proofs.Proved.triggers
+
+-- Enabling it changes its enable, and nothing else.
+pub enables : Enables
+enables = Rattle.vic.proofs.Proved.enables
+
+-- ---- controllers in use
+
+-- A new controller keeps the rules.
+pub starts : Starts
+starts = Rattle.vic.proofs.Keeping.starts
+
+-- So does what every call leaves of one that keeps them.
+pub stays : Stays
+stays = Rattle.vic.proofs.Keeping.stays
+
+-- ---- the definitions held against the request
+
+-- Nineteen worked cases.
+pub cases-hold : CasesHold
+cases-hold = Rattle.vic.proofs.Cases.cases-hold

@@ -5,3 +5,5 @@ pub mod Orders
 pub mod Slices
 pub mod Groups
 pub mod Packing
+pub mod Beside
+pub mod Bits

@@ -1,4 +1,5 @@
-//! The seven calls for a C host, on bytes.
+//! The seven calls on a core for a C host, on bytes; those on a controller stand
+//! with it.
 //!
 //! Their arguments are those of the C prototypes, with a slice for a pointer and
 //! a length. "A refused call returns its number and nothing else; machine and
@@ -6,7 +7,8 @@
 //! paper's order, and only then writes.
 
 use super::{
-    Descriptor, Images, Ledger, Machine, Mode, Ports, Report, Steps, Window, DESCRIPTOR_SIZE,
+    Controllers, Descriptor, Images, Ledger, Machine, Mode, Ports, Report, Steps, Window,
+    DESCRIPTOR_SIZE,
 };
 
 /// With the ledger "32 bits more in the report, now 18 bytes"
@@ -97,7 +99,7 @@ fn window_at(base: u64, memory: &[u8]) -> Window {
     }
 }
 
-pub trait Calls: Steps + Images {
+pub trait Calls: Steps + Images + Controllers {
     /// What the model is called where its answers differ from another's.
     const NAME: &'static str = "model";
 

@@ -4,7 +4,8 @@
 mod slips;
 
 use harness::call::{Call, Party};
-use harness::compare::{compare, compare_call, Mismatch};
+use harness::compare::{compare, compare_call, compare_host, Mismatch};
+use harness::gen::ControllerHost;
 use harness::model::Paper;
 use slips::Slip;
 use std::collections::BTreeSet;
@@ -36,18 +37,40 @@ fn notice(slip: &dyn Party) -> Option<Mismatch> {
 
 #[test]
 fn the_slips_are_many_and_different() {
-    let slips = slips::all();
+    let mut slips = slips::all();
+    slips.extend(slips::controllers::slips());
     let different: BTreeSet<&String> = slips.iter().map(|(text, _)| text).collect();
     assert_eq!(different.len(), slips.len());
     assert!(slips.len() >= 240, "only {} slips", slips.len());
 }
 
-/// Each is noticed and shown by the smallest case, which is one call, shows the
-/// error again when it is made again, and reads as C.
+fn notice_of_controller(slip: &dyn Party) -> Option<Mismatch> {
+    let mut host = ControllerHost::new(SEED);
+    compare_host(
+        &mut host,
+        &Paper,
+        &Guarded(slip),
+        MOST_CALLS,
+        &mut |_, _| {},
+    )
+    .err()
+}
+
 #[test]
 fn every_slip_is_noticed() {
+    are_noticed(slips::all(), notice);
+}
+
+#[test]
+fn every_slip_of_the_controller_is_noticed() {
+    are_noticed(slips::controllers::slips(), notice_of_controller);
+}
+
+/// Each is noticed and shown by the smallest case, which is one call, shows the
+/// error again when it is made again, and reads as C.
+fn are_noticed(slips: Vec<Slip>, notice: fn(&dyn Party) -> Option<Mismatch>) {
     let mut unnoticed = Vec::new();
-    for (text, slip) in slips::all() {
+    for (text, slip) in slips {
         let Some(mismatch) = notice(slip.as_ref()) else {
             unnoticed.push(text);
             continue;

@@ -7,25 +7,28 @@ use harness::model::{ImageRule, Images};
 /// Takes the rules of every other trait as they stand in the paper.
 macro_rules! paper_otherwise {
     (Windows for $model:ident) => {
-        paper_otherwise!(Registers, Descriptors, Ledgers, Steps, Images, Calls: $model);
+        paper_otherwise!(Registers, Descriptors, Ledgers, Steps, Images, Controllers, Calls: $model);
     };
     (Registers for $model:ident) => {
-        paper_otherwise!(Windows, Descriptors, Ledgers, Steps, Images, Calls: $model);
+        paper_otherwise!(Windows, Descriptors, Ledgers, Steps, Images, Controllers, Calls: $model);
     };
     (Descriptors for $model:ident) => {
-        paper_otherwise!(Windows, Registers, Ledgers, Steps, Images, Calls: $model);
+        paper_otherwise!(Windows, Registers, Ledgers, Steps, Images, Controllers, Calls: $model);
     };
     (Ledgers for $model:ident) => {
-        paper_otherwise!(Windows, Registers, Descriptors, Steps, Images, Calls: $model);
+        paper_otherwise!(Windows, Registers, Descriptors, Steps, Images, Controllers, Calls: $model);
     };
     (Steps for $model:ident) => {
-        paper_otherwise!(Windows, Registers, Descriptors, Ledgers, Images, Calls: $model);
+        paper_otherwise!(Windows, Registers, Descriptors, Ledgers, Images, Controllers, Calls: $model);
     };
     (Images for $model:ident) => {
-        paper_otherwise!(Windows, Registers, Descriptors, Ledgers, Steps, Calls: $model);
+        paper_otherwise!(Windows, Registers, Descriptors, Ledgers, Steps, Controllers, Calls: $model);
     };
     (Calls for $model:ident) => {
-        paper_otherwise!(Windows, Registers, Descriptors, Ledgers, Steps, Images: $model);
+        paper_otherwise!(Windows, Registers, Descriptors, Ledgers, Steps, Images, Controllers: $model);
+    };
+    (Controllers for $model:ident) => {
+        paper_otherwise!(Windows, Registers, Descriptors, Ledgers, Steps, Images, Calls: $model);
     };
     ($($rules:ident),*: $model:ident) => {
         $(impl harness::model::$rules for $model {})*
@@ -82,6 +85,7 @@ macro_rules! slips {
 }
 
 mod calls;
+pub mod controllers;
 mod descriptors;
 mod images;
 mod ledgers;

@@ -43,6 +43,12 @@ enum-told-8 c = search needs
 enum-told-9 : tie.Need-enum-told-9
 enum-told-9 c = search needs
 
+enum-told-10 : tie.Need-enum-told-10
+enum-told-10 c = search needs
+
+enum-told-11 : tie.Need-enum-told-11
+enum-told-11 c = search needs
+
 returns : tie.Need-returns
 returns c = search needs
 
@@ -73,6 +79,12 @@ returns-9 c = search needs
 returns-10 : tie.Need-returns-10
 returns-10 c = search needs
 
+returns-11 : tie.Need-returns-11
+returns-11 c = search needs
+
+returns-12 : tie.Need-returns-12
+returns-12 c = search needs
+
 pub number-spec : {M : Type 1} → statement M
 number-spec =
     tie.close
@@ -90,6 +102,8 @@ number-spec =
     add-result
     enum-told-8
     enum-told-9
+    enum-told-10
+    enum-told-11
     returns
     returns-2
     returns-3
@@ -99,4 +113,6 @@ number-spec =
     returns-7
     returns-8
     returns-9
-    returns-10)
+    returns-10
+    returns-11
+    returns-12)

@@ -1,0 +1,6 @@
+pub mod Layout
+pub mod Rules
+pub mod Choice
+pub mod Calls
+pub mod Rows
+pub mod Theorems
