@@ -1,7 +1,7 @@
 //! The moves of a run and nothing else, by loops written by hand: a run that does
 //! the rest as well cannot be much faster.
 
-use crate::bulk::rows::{copy, receive, send, Row};
+use crate::bulk::rows::{copy, receive, send, Beat, Received, Row};
 use crate::call::Call;
 use crate::model::{
     descriptor_control, Descriptor, Descriptors, Images, Machine, Mode, Paper, Windows,
@@ -35,6 +35,13 @@ fn move_of(machine: &Machine, place: usize, fields: &Descriptor) -> Move {
         bytes: usize::from(Paper.bytes_wanted(machine.mode, fields.length)),
         done_mark: place + DESCRIPTOR_SIZE - 4,
     }
+}
+
+/// By itself the loop is compiled as it stands; beside the two others it was not
+/// always.
+#[inline(never)]
+fn receive_apart(memory: &mut [u8], to: Row, beats: &[Beat]) -> Received {
+    receive(memory, to, beats)
 }
 
 impl Limit {
@@ -85,7 +92,7 @@ impl Limit {
                     end
                 }
                 Mode::StreamToMemory => {
-                    let received = receive(window, row.to, &beats[done..end]);
+                    let received = receive_apart(window, row.to, &beats[done..end]);
                     errors |= received.errors;
                     done + received.beats
                 }
