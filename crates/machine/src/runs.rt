@@ -151,11 +151,8 @@ impl Machine {
         let mut filled: u32 = used;
         let mut steps: u32 = 0;
         let reason = loop {
-            let wait = machine.wait(
-                taken < beats.len() / 2,
-                made < out.len() / 2,
-                has_room(ledger, filled),
-            );
+            let room = has_room(ledger, filled);
+            let wait = machine.wait(taken < beats.len() / 2, made < out.len() / 2, room);
             if let Wait::Stop(why) = wait {
                 break why;
             }

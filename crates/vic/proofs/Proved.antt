@@ -18,7 +18,7 @@ use Rattle.words.proofs.Orders.{length-bytes, row-back}
 use Rattle.vic.specs.Layout.{word, place, ports, lines, software, enabled, config, setOf, maskOf, configOf, withBit, bitMade, configured}
 use Rattle.vic.specs.Choice.{level, chosenPort, chosenLevel, handler, Asks}
 use Rattle.vic.specs.Calls.{portNumber, chosen, answerWidths, told}
-use Rattle.vic.specs.Theorems.{ChosenIs, ChosenOne, NothingChosen, TooLargeExactly, ToldWhole, SameCommon, OnlyPort, ConfiguredOne, Configures, Drives, Triggers, Enables}
+use Rattle.vic.specs.Theorems.{ChosenIs, ChosenOne, NothingChosen, TooLargeExactly, ToldWhole, SameCommon, OnlyPort, ConfiguredOne, MarkedOne, Configures, Drives, Triggers, Enables}
 use Rattle.vic.proofs.Marks.{bit-made, other-made}
 use Rattle.vic.proofs.Choosing.{both-true, chosen-is, chosen-one, asks-chosen}
 use Rattle.vic.proofs.Refusing.{loaded, ported, port-below, choose-by, choose-large, choose-loaded, answer-told}
@@ -148,6 +148,14 @@ module _ (xs : List ℕ) (p : ℕ) (e : portNumber xs p ≡ 0) where
           others = λ q l d. record { line = a q l d; trigger = b q l d; enable = c q l d; configuration = config-kept q l };
         }
 
+    same-bits : (k : ℕ) → word after k ≡ word xs k → (q : ℕ) → q < 32 → (q ≡ p → ⊥) → bit q (word after k) ≡ bit q (word xs k)
+    same-bits k f q l d = ap (bit q) f
+
+    -- where the numbers of bits at `one` and `two` are as they were
+    marked : (one two : ℕ) → word after one ≡ word xs one → word after two ≡ word xs two → OnlyPort xs after p
+        → MarkedOne xs after p on (λ zs. word zs at) (λ zs. word zs one) (λ zs. word zs two)
+    marked one two f g rest = record { own = own-bit; first = f; second = g; configuration = config-kept p below; rest = rest }
+
   -- ---- a configuration
 
   module _ (level set : ℕ) (nmi : Bool) where
@@ -207,36 +215,21 @@ configures xs p level set nmi e = one-configured xs p e level set nmi
 
 pub drives : Drives
 drives xs p on e =
-    let s : word (bitMade xs 12 p on) 16 ≡ word xs 16 = word-after xs p e 12 on (omega arith) (omega arith) 16 (omega arith) (omega arith) in
-    let n : word (bitMade xs 12 p on) 20 ≡ word xs 20 = word-after xs p e 12 on (omega arith) (omega arith) 20 (omega arith) (omega arith) in
-    record {
-      own = own-bit xs p e 12 on (omega arith) (omega arith);
-      first = s;
-      second = n;
-      configuration = config-kept xs p e 12 on (omega arith) (omega arith) p (below xs p e);
-      rest = only-port xs p e 12 on (omega arith) (omega arith) (other-bit xs p e 12 on (omega arith) (omega arith)) (λ q l d. ap (bit q) s) (λ q l d. ap (bit q) n);
-    }
+    let s = word-after xs p e 12 on (omega arith) (omega arith) 16 (omega arith) (omega arith) in
+    let n = word-after xs p e 12 on (omega arith) (omega arith) 20 (omega arith) (omega arith) in
+    marked xs p e 12 on (omega arith) (omega arith) 16 20 s n
+    (only-port xs p e 12 on (omega arith) (omega arith) (other-bit xs p e 12 on (omega arith) (omega arith)) (same-bits xs p e 12 on (omega arith) (omega arith) 16 s) (same-bits xs p e 12 on (omega arith) (omega arith) 20 n))
 
 pub triggers : Triggers
 triggers xs p on e =
-    let s : word (bitMade xs 16 p on) 12 ≡ word xs 12 = word-before xs p e 16 on (omega arith) (omega arith) 12 (omega arith) in
-    let n : word (bitMade xs 16 p on) 20 ≡ word xs 20 = word-after xs p e 16 on (omega arith) (omega arith) 20 (omega arith) (omega arith) in
-    record {
-      own = own-bit xs p e 16 on (omega arith) (omega arith);
-      first = s;
-      second = n;
-      configuration = config-kept xs p e 16 on (omega arith) (omega arith) p (below xs p e);
-      rest = only-port xs p e 16 on (omega arith) (omega arith) (λ q l d. ap (bit q) s) (other-bit xs p e 16 on (omega arith) (omega arith)) (λ q l d. ap (bit q) n);
-    }
+    let s = word-before xs p e 16 on (omega arith) (omega arith) 12 (omega arith) in
+    let n = word-after xs p e 16 on (omega arith) (omega arith) 20 (omega arith) (omega arith) in
+    marked xs p e 16 on (omega arith) (omega arith) 12 20 s n
+    (only-port xs p e 16 on (omega arith) (omega arith) (same-bits xs p e 16 on (omega arith) (omega arith) 12 s) (other-bit xs p e 16 on (omega arith) (omega arith)) (same-bits xs p e 16 on (omega arith) (omega arith) 20 n))
 
 pub enables : Enables
 enables xs p on e =
-    let s : word (bitMade xs 20 p on) 12 ≡ word xs 12 = word-before xs p e 20 on (omega arith) (omega arith) 12 (omega arith) in
-    let n : word (bitMade xs 20 p on) 16 ≡ word xs 16 = word-before xs p e 20 on (omega arith) (omega arith) 16 (omega arith) in
-    record {
-      own = own-bit xs p e 20 on (omega arith) (omega arith);
-      first = s;
-      second = n;
-      configuration = config-kept xs p e 20 on (omega arith) (omega arith) p (below xs p e);
-      rest = only-port xs p e 20 on (omega arith) (omega arith) (λ q l d. ap (bit q) s) (λ q l d. ap (bit q) n) (other-bit xs p e 20 on (omega arith) (omega arith));
-    }
+    let s = word-before xs p e 20 on (omega arith) (omega arith) 12 (omega arith) in
+    let n = word-before xs p e 20 on (omega arith) (omega arith) 16 (omega arith) in
+    marked xs p e 20 on (omega arith) (omega arith) 12 16 s n
+    (only-port xs p e 20 on (omega arith) (omega arith) (same-bits xs p e 20 on (omega arith) (omega arith) 12 s) (same-bits xs p e 20 on (omega arith) (omega arith) 16 n) (other-bit xs p e 20 on (omega arith) (omega arith)))

@@ -22,23 +22,21 @@ bit-suc p n = ap (λ (x : ℕ). eqb (x % 2) 1) (half-first n p)
 
 -- ---- the bits of two numbers
 
+-- what holds of the four pairs of digits holds of any two
+on-digits : (P : ℕ → ℕ → Type 0) → P 0 0 → P 0 1 → P 1 0 → P 1 1 → (x y : ℕ) → x < 2 → y < 2 → P x y
+on-digits P a b c d zero zero h i = a
+on-digits P a b c d zero (suc zero) h i = b
+on-digits P a b c d (suc zero) zero h i = c
+on-digits P a b c d (suc zero) (suc zero) h i = d
+on-digits P a b c d zero (suc (suc y)) h i = absurd (omega arith)
+on-digits P a b c d (suc zero) (suc (suc y)) h i = absurd (omega arith)
+on-digits P a b c d (suc (suc x)) y h i = absurd (omega arith)
+
 larger : (x y : ℕ) → x < 2 → y < 2 → eqb (max x y % 2) 1 ≡ (eqb x 1 || eqb y 1)
-larger zero zero h i = refl
-larger zero (suc zero) h i = refl
-larger (suc zero) zero h i = refl
-larger (suc zero) (suc zero) h i = refl
-larger zero (suc (suc y)) h i = absurd (omega arith)
-larger (suc zero) (suc (suc y)) h i = absurd (omega arith)
-larger (suc (suc x)) y h i = absurd (omega arith)
+larger = on-digits (λ x y. eqb (max x y % 2) 1 ≡ (eqb x 1 || eqb y 1)) refl refl refl refl
 
 smaller : (x y : ℕ) → x < 2 → y < 2 → eqb (min x y % 2) 1 ≡ (eqb x 1 && eqb y 1)
-smaller zero zero h i = refl
-smaller zero (suc zero) h i = refl
-smaller (suc zero) zero h i = refl
-smaller (suc zero) (suc zero) h i = refl
-smaller zero (suc (suc y)) h i = absurd (omega arith)
-smaller (suc zero) (suc (suc y)) h i = absurd (omega arith)
-smaller (suc (suc x)) y h i = absurd (omega arith)
+smaller = on-digits (λ x y. eqb (min x y % 2) 1 ≡ (eqb x 1 && eqb y 1)) refl refl refl refl
 
 last-digit : (n r c : ℕ) → n ≡ r * 2 + c → n % 2 ≡ c % 2
 last-digit n r c e = omega arith
