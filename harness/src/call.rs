@@ -434,6 +434,16 @@ pub fn libraries() -> Vec<Box<dyn Party>> {
     Vec::new()
 }
 
+/// The library; where there is none the model itself, of which random calls then
+/// still show that they reach every case and are refused as they must be.
+pub fn libraries_or_model() -> Vec<Box<dyn Party>> {
+    let mut found = libraries();
+    if found.is_empty() {
+        found.push(Box::new(Paper));
+    }
+    found
+}
+
 /// Both models, and the library where there is one: all must give the same
 /// answers.
 pub fn parties() -> Vec<Box<dyn Party>> {

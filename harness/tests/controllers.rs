@@ -1,40 +1,21 @@
 //! The interrupt controller: random calls put to the model and to the library, and
 //! cases worked out by hand from its request.
 
-use harness::call::{libraries, parties, Call, Lent, Party};
-use harness::compare::{ask, compare_host};
-use harness::coverage::controllers::{numbers_applying, ControllerCoverage};
+use harness::call::{libraries_or_model, parties, Call, Lent, Party};
+use harness::compare::ask;
+use harness::coverage::compare_and_cover;
+use harness::coverage::controllers::Reached;
 use harness::gen::ControllerHost;
-use harness::model::{Controller, Paper, CHOICE_SIZE, CONTROLLER_SIZE};
+use harness::model::{Controller, CHOICE_SIZE, CONTROLLER_SIZE};
 
 const CALLS: u64 = 400_000;
 const SEED: u64 = 12;
 
-fn compare_and_cover(party: &dyn Party, seed: u64) {
-    let mut coverage = ControllerCoverage::default();
-    let mut host = ControllerHost::new(seed);
-    let outcome = compare_host(&mut host, &Paper, party, CALLS, &mut |call, answer| {
-        let first = numbers_applying(call).first().copied().unwrap_or(0);
-        assert_eq!(answer.returned, first, "refusal of\n{call}");
-        coverage.observe(call, answer);
-    });
-    if let Err(mismatch) = outcome {
-        panic!("seed {seed}: {mismatch}");
-    }
-    println!("seed {seed}: rarest {:?}", coverage.rarest());
-    assert_eq!(coverage.missing(), [], "seed {seed}: not reached");
-    assert_eq!(coverage.unlisted(), [], "seed {seed}: not in the list");
-}
-
-/// Without the library this still sees that the calls reach every point, and
-/// that the model refuses as the words of the request say.
 #[test]
 fn random_calls_agree_and_reach_everything() {
-    for (party, seed) in libraries().iter().zip(SEED..) {
-        compare_and_cover(party.as_ref(), seed);
-    }
-    if libraries().is_empty() {
-        compare_and_cover(&Paper, SEED);
+    for (party, seed) in libraries_or_model().iter().zip(SEED..) {
+        let mut host = ControllerHost::new(seed);
+        compare_and_cover::<Reached>(&mut host, party.as_ref(), seed, CALLS);
     }
 }
 

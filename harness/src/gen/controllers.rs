@@ -188,14 +188,6 @@ impl ControllerHost {
         }
     }
 
-    /// The size that is due, or now and then another.
-    fn size(&mut self, due: usize) -> usize {
-        if self.rng.chance(96) {
-            return due;
-        }
-        self.rng.pick(&[0, 1, due - 1, due + 1, 2 * due])
-    }
-
     /// The carried controller, or now and then a broken one or one of another size.
     fn lent(&mut self) -> Lent {
         let mut bytes = if self.rng.chance(20) {
@@ -203,7 +195,7 @@ impl ControllerHost {
         } else {
             self.vic.to_vec()
         };
-        bytes.resize(self.size(CONTROLLER_SIZE), 0);
+        bytes.resize(self.rng.size(CONTROLLER_SIZE), 0);
         Lent::from(bytes)
     }
 
@@ -217,10 +209,9 @@ impl ControllerHost {
     }
 
     fn create(&mut self) -> Call {
-        let size = self.size(CONTROLLER_SIZE);
         let any = self.rng.number() as u32;
         Call::VicCreate {
-            vic: Lent::from(self.rng.bytes(size)),
+            vic: Lent::from(self.rng.to_write_over(CONTROLLER_SIZE)),
             ports: self.rng.pick(&[0, 1, 32, 33, 256, 257, 288, u32::MAX, any]),
             vector_bytes: self.any(),
             base: self.any(),
@@ -263,12 +254,10 @@ impl ControllerHost {
         }
     }
 
-    /// The answer has bytes to be written over.
     fn choose(&mut self) -> Call {
-        let size = self.size(CHOICE_SIZE);
         Call::VicChoose {
             vic: self.lent(),
-            answer: Lent::from(self.rng.bytes(size)),
+            answer: Lent::from(self.rng.to_write_over(CHOICE_SIZE)),
         }
     }
 }
