@@ -27,6 +27,24 @@ pub fn ask(party: &dyn Party, call: &Call) -> Answer {
     }
 }
 
+/// The call must be done. Gives it with its lent bytes after it.
+pub fn check_done(party: &dyn Party, call: &Call) -> Call {
+    let answer = ask(party, call);
+    let name = party.name();
+    assert_eq!(answer.returned, 0, "{name} on\n{call}");
+    assert!(answer.canaries_live, "{name} wrote beside\n{call}");
+    answer.after
+}
+
+/// The call must be refused with this number, and every byte keeps its value.
+pub fn check_refused(party: &dyn Party, call: &Call, number: u32) {
+    let answer = ask(party, call);
+    let name = party.name();
+    assert_eq!(answer.returned, number, "{name} on\n{call}");
+    assert!(answer.after == *call, "{name} changed bytes of\n{call}");
+    assert!(answer.canaries_live, "{name} wrote beside\n{call}");
+}
+
 /// A case on which two parties differ: the last call is the one that shows it.
 pub struct Mismatch {
     pub calls: Vec<Call>,

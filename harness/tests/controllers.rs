@@ -2,7 +2,7 @@
 //! cases worked out by hand from its request.
 
 use harness::call::{libraries_or_model, parties, Call, Lent, Party};
-use harness::compare::ask;
+use harness::compare::{ask, check_done, check_refused};
 use harness::coverage::compare_and_cover;
 use harness::coverage::controllers::Reached;
 use harness::gen::ControllerHost;
@@ -21,14 +21,8 @@ fn random_calls_agree_and_reach_everything() {
 
 /// A call that must be done, and the controller after it.
 fn controller_after(party: &dyn Party, call: Call) -> Lent {
-    let answer = ask(party, &call);
-    assert_eq!(answer.returned, 0, "{} on\n{call}", party.name());
-    assert!(
-        answer.canaries_live,
-        "{} wrote beside\n{call}",
-        party.name()
-    );
-    answer.after.controller().expect("a controller").clone()
+    let after = check_done(party, &call);
+    after.controller().expect("a controller").clone()
 }
 
 /// What is told of a controller, or the number of the refusal.
@@ -204,9 +198,7 @@ fn the_field_that_spoiled_a_controller() {
                 port: 4,
                 up: 1,
             };
-            let answer = ask(party.as_ref(), &call);
-            assert_eq!(answer.returned, number, "{} on\n{call}", party.name());
-            assert!(answer.after == call);
+            check_refused(party.as_ref(), &call, number);
         }
     }
 }
@@ -230,13 +222,6 @@ fn create(vic: Lent, ports: u32) -> Call {
         vector_bytes: 4,
         base: 0,
     }
-}
-
-/// The call must be refused with this number, and every byte keeps its value.
-fn check_refused(party: &dyn Party, call: &Call, number: u32) {
-    let answer = ask(party, call);
-    assert_eq!(answer.returned, number, "{} on\n{call}", party.name());
-    assert!(answer.after == *call && answer.canaries_live);
 }
 
 /// Counts that are not 1 to 32, and ports that a controller of four lacks.
