@@ -3,6 +3,7 @@
 -- those of image_rows in its specs/Rows.antt, and those of sgdma beside the promises, in its specs/Calls.antt. What else a reader
 -- believes are the definitions that the statements use, all of them in specs/.
 -- Assumes nothing.
+use Rattle.words.specs.Promise.{AnswersUnique}
 use Rattle.words.specs.Theorems.{RecodeBack, FieldsPacked, RowBack, RowThere}
 use Rattle.bus.specs.Theorems.{LocatedIs}
 use Rattle.image.specs.Theorems.{ReadExactly, FieldTold}
@@ -21,7 +22,6 @@ use Rattle.chain_calls.specs.Theorems.{ReadUnchanged, WriteUnchanged, LineUncha
 use Rattle.chain_calls.specs.Theorems.{NoneRefused, ChainOfCalls, ChainOfCallsAtEveryStep, KnownRun1InC, HonestKeeps, RefuserFails, FixedFails}
 use Rattle.chain_calls.specs.Theorems.{NeverMovingFails, MarkerFails, MadeUpFails, TwoRunsAdd}
 use Rattle.chain_calls.specs.Theorems.{VicCreateInOrder, VicPortInOrder, VicChooseInOrder, VicUnchanged}
-use Rattle.vic.specs.Calls.{AnswersUnique}
 use Rattle.vic.specs.Theorems.{ChosenIs, ChosenOne, NothingChosen, TooLargeExactly, ToldWhole, Configures, Drives, Triggers, Enables, Stays, Starts, CasesHold}
 
 -- ======== demand 1: every call gets a defined answer, and one that is refused changes nothing
@@ -58,7 +58,7 @@ descriptor-read-unique = Rattle.sgdma.specs.Calls.descriptor-read-unique
 
 -- No second outcome of a call on a controller keeps its promise: the six promises are of one form.
 pub answers-unique : AnswersUnique
-answers-unique = Rattle.vic.specs.Calls.answers-unique
+answers-unique = Rattle.words.specs.Promise.answers-unique
 
 -- ---- "First that applies": 0, or the first number in the paper's one order of the refusals that apply
 
