@@ -4,6 +4,10 @@
 //! holds every byte and number that goes in, and afterwards every byte that came
 //! back.
 
+mod timers;
+
+pub use timers::TimerCall;
+
 use crate::bulk::Bulk;
 use crate::model::{Calls, Paper};
 use std::fmt::{self, Display, Formatter};
@@ -88,6 +92,20 @@ pub enum Function {
     VicTrigger,
     VicLine,
     VicChoose,
+    TimerCreate,
+    TimerRead,
+    TimerWrite,
+    TimerLine,
+    TimerRun,
+    TimerElapsed,
+}
+
+impl Function {
+    /// Whether what the call leaves does not depend on what was there.
+    pub fn creates(self) -> bool {
+        use Function::{Create, TimerCreate, VicCreate};
+        matches!(self, Create | VicCreate | TimerCreate)
+    }
 }
 
 /// One call with all its arguments, in the order of the C prototypes.
@@ -171,6 +189,7 @@ pub enum Call {
         vic: Lent,
         answer: Lent,
     },
+    Timer(TimerCall),
 }
 
 /// The numbers of a run's report.
@@ -247,6 +266,7 @@ impl Call {
             Call::VicTrigger { .. } => Function::VicTrigger,
             Call::VicLine { .. } => Function::VicLine,
             Call::VicChoose { .. } => Function::VicChoose,
+            Call::Timer(call) => call.function(),
         }
     }
 
@@ -319,6 +339,7 @@ impl Call {
                 vec![Lent("vic", vic), Long(port), Long(up)],
             Call::VicChoose { vic, answer } =>
                 vec![Lent("vic", vic), Lent("answer", answer)],
+            Call::Timer(call) => call.arguments(),
         }
     }
 }
@@ -340,6 +361,12 @@ impl Display for Call {
             Function::VicTrigger => "vic_trigger",
             Function::VicLine => "vic_line",
             Function::VicChoose => "vic_choose",
+            Function::TimerCreate => "timer_create",
+            Function::TimerRead => "timer_read",
+            Function::TimerWrite => "timer_write",
+            Function::TimerLine => "timer_line",
+            Function::TimerRun => "timer_run",
+            Function::TimerElapsed => "timer_elapsed",
         };
         let mut passed = Vec::new();
         for argument in self.clone().arguments() {
@@ -418,6 +445,7 @@ impl<Model: Calls> Party for Model {
             Call::VicTrigger { vic, port, on } => self.sgdma_vic_trigger(vic, *port, *on),
             Call::VicLine { vic, port, up } => self.sgdma_vic_line(vic, *port, *up),
             Call::VicChoose { vic, answer } => self.sgdma_vic_choose(vic, answer),
+            Call::Timer(call) => call.answer(*self),
         }
     }
 }

@@ -9,6 +9,7 @@ mod counts;
 mod ledgers;
 mod observe;
 mod refusals;
+pub mod timers;
 
 pub use counts::{compare_and_cover, Coverage, Numbered, Reachable};
 pub use ledgers::{LedgerFlaw, LedgerUse};

@@ -11,9 +11,11 @@ mod images;
 mod layout;
 mod ledgers;
 mod rng;
+mod timers;
 
 pub use controllers::ControllerHost;
 pub use rng::Rng;
+pub use timers::TimerHost;
 
 use crate::call::{Call, Lent};
 use crate::model::{
