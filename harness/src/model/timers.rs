@@ -66,15 +66,19 @@ impl Timer {
 
     /// "counter 32, period 32, snapshot 32, zero 12, CONT 1, ITO 1, RUN 1, TO 1"
     pub fn pack(&self) -> [u8; TIMER_SIZE] {
-        let mut bytes = [0; TIMER_SIZE];
-        bytes[..4].copy_from_slice(&self.counter.to_be_bytes());
-        bytes[4..8].copy_from_slice(&self.period.to_be_bytes());
-        bytes[8..12].copy_from_slice(&self.snapshot.to_be_bytes());
-        let flags = [self.cont, self.ito, self.run, self.to];
-        let last = flags
-            .iter()
-            .fold(self.zero, |bits, &flag| bits << 1 | u16::from(flag));
-        bytes[12..].copy_from_slice(&last.to_be_bytes());
+        let fields = [
+            (32, self.counter),
+            (32, self.period),
+            (32, self.snapshot),
+            (12, u32::from(self.zero)),
+            (1, u32::from(self.cont)),
+            (1, u32::from(self.ito)),
+            (1, u32::from(self.run)),
+            (1, u32::from(self.to)),
+        ];
+        let one_behind_another = |bits: u128, (width, field)| bits << width | u128::from(field);
+        let bits = fields.into_iter().fold(0, one_behind_another);
+        let [_, _, bytes @ ..] = bits.to_be_bytes();
         bytes
     }
 }
