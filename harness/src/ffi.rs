@@ -1,6 +1,6 @@
 //! The calls of the library, linked, as its header declares them.
 
-use crate::call::{Call, TimerCall};
+use crate::call::{Call, TimerCall, VicCall};
 use crate::library::Library;
 
 /// The prototypes: a slice is a pointer and a length.
@@ -171,20 +171,30 @@ pub(crate) fn answer(library: Library, call: &mut Call) -> u32 {
             Call::ReadDescriptor { window, base, address, answer } =>
                 c::sgdma_read_descriptor(library.lend(window), window.len(), *base, *address,
                                          library.lend_mut(answer), answer.len()),
-            Call::VicCreate { vic, ports, vector_bytes, base } =>
+            Call::Vic(call) => answer_controller(library, call),
+            Call::Timer(call) => answer_timer(library, call),
+        }
+    }
+}
+
+#[rustfmt::skip]
+fn answer_controller(library: Library, call: &mut VicCall) -> u32 {
+    // SAFETY: as above.
+    unsafe {
+        match call {
+            VicCall::Create { vic, ports, vector_bytes, base } =>
                 c::sgdma_vic_create(library.lend_mut(vic), vic.len(), *ports, *vector_bytes, *base),
-            Call::VicConfigure { vic, port, level, set, nmi } =>
+            VicCall::Configure { vic, port, level, set, nmi } =>
                 c::sgdma_vic_configure(library.lend_mut(vic), vic.len(), *port, *level, *set, *nmi),
-            Call::VicEnable { vic, port, on } =>
+            VicCall::Enable { vic, port, on } =>
                 c::sgdma_vic_enable(library.lend_mut(vic), vic.len(), *port, *on),
-            Call::VicTrigger { vic, port, on } =>
+            VicCall::Trigger { vic, port, on } =>
                 c::sgdma_vic_trigger(library.lend_mut(vic), vic.len(), *port, *on),
-            Call::VicLine { vic, port, up } =>
+            VicCall::Line { vic, port, up } =>
                 c::sgdma_vic_line(library.lend_mut(vic), vic.len(), *port, *up),
-            Call::VicChoose { vic, answer } =>
+            VicCall::Choose { vic, answer } =>
                 c::sgdma_vic_choose(library.lend(vic), vic.len(),
                                     library.lend_mut(answer), answer.len()),
-            Call::Timer(call) => answer_timer(library, call),
         }
     }
 }

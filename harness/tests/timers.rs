@@ -50,6 +50,14 @@ impl Driven<'_> {
         driven
     }
 
+    /// A timer that is met as it is.
+    fn met<'party>(party: &'party dyn Party, timer: &Timer) -> Driven<'party> {
+        Driven {
+            party,
+            timer: Lent::from(timer.pack().as_slice()),
+        }
+    }
+
     /// Makes the call, keeps the timer, and gives the value where there is one.
     fn make(&mut self, call: TimerCall) -> u32 {
         let Call::Timer(after) = check_done(self.party, &call.into()) else {
@@ -214,10 +222,7 @@ fn ticks_by_hand() {
                 run: true,
                 to,
             };
-            let mut driven = Driven {
-                party: party.as_ref(),
-                timer: Lent::from(before.pack().as_slice()),
-            };
+            let mut driven = Driven::met(party.as_ref(), &before);
             assert_eq!(
                 driven.run(row.ticks),
                 row.reached,
@@ -257,23 +262,27 @@ fn zero_is_reached_every_period_plus_one() {
     }
 }
 
-/// Each of the registers of a timer whose halves all differ.
+/// A timer whose halves all differ, with these flags: TO, RUN, ITO and CONT.
+fn with_flags(bits: u32) -> Timer {
+    let [to, run, ito, cont] = [0, 1, 2, 3].map(|place| bits >> place & 1 == 1);
+    Timer {
+        counter: 0x0506_0708,
+        period: 0x1122_3344,
+        snapshot: 0xAABB_CCDD,
+        zero: 0,
+        cont,
+        ito,
+        run,
+        to,
+    }
+}
+
 #[test]
 fn registers_read_what_they_hold() {
     for party in parties() {
-        let mut timer = Timer {
-            counter: 0x0506_0708,
-            period: 0x1122_3344,
-            snapshot: 0xAABB_CCDD,
-            ..Timer::default()
-        };
         for bits in 0..16 {
-            let flag = |place: u32| bits >> place & 1 == 1;
-            [timer.to, timer.run, timer.ito, timer.cont] = [0, 1, 2, 3].map(flag);
-            let mut driven = Driven {
-                party: party.as_ref(),
-                timer: Lent::from(timer.pack().as_slice()),
-            };
+            let timer = with_flags(bits);
+            let mut driven = Driven::met(party.as_ref(), &timer);
             let read = [STATUS, CONTROL, PERIODL, PERIODH, SNAPL, SNAPH].map(|at| driven.read(at));
             let due = [bits & 3, bits >> 2 & 3, 0x3344, 0x1122, 0xCCDD, 0xAABB];
             assert_eq!(read, due, "{} on {timer:?}", party.name());
@@ -313,10 +322,7 @@ fn commands_start_and_stop() {
                     run,
                     to: true,
                 };
-                let mut driven = Driven {
-                    party: party.as_ref(),
-                    timer: Lent::from(before.pack().as_slice()),
-                };
+                let mut driven = Driven::met(party.as_ref(), &before);
                 driven.write(CONTROL, command | flags);
                 let due = Timer {
                     cont: flags & CONT != 0,
@@ -331,52 +337,40 @@ fn commands_start_and_stop() {
     }
 }
 
-/// A write to any other register: what it leaves of a timer that runs, or not, with
-/// its counter at 0x0506_0708, period 0x1122_3344 and snapshot 0xAABB_CCDD.
+/// What a write to any other register leaves of a timer.
+fn written(before: Timer) -> [(u32, u16, Timer); 8] {
+    let cleared = Timer {
+        to: false,
+        ..before
+    };
+    let taken = Timer {
+        snapshot: 0x0506_0708,
+        ..before
+    };
+    let with_period = |period| Timer {
+        counter: period,
+        period,
+        run: false,
+        ..before
+    };
+    [
+        (STATUS, 0, cleared),
+        (STATUS, 0xFFFF, cleared),
+        (PERIODL, 0x9988, with_period(0x1122_9988)),
+        (PERIODH, 0x9988, with_period(0x9988_3344)),
+        (PERIODH, 0, with_period(0x3344)),
+        (PERIODL, 0x3344, with_period(0x1122_3344)),
+        (SNAPL, 0, taken),
+        (SNAPH, 0xFFFF, taken),
+    ]
+}
+
 #[test]
 fn other_writes() {
     for party in parties() {
-        for bits in 0..16 {
-            let flag = |place: u32| bits >> place & 1 == 1;
-            let before = Timer {
-                counter: 0x0506_0708,
-                period: 0x1122_3344,
-                snapshot: 0xAABB_CCDD,
-                zero: 0,
-                to: flag(0),
-                run: flag(1),
-                ito: flag(2),
-                cont: flag(3),
-            };
-            let cleared = Timer {
-                to: false,
-                ..before
-            };
-            let taken = Timer {
-                snapshot: 0x0506_0708,
-                ..before
-            };
-            let with_period = |period| Timer {
-                counter: period,
-                period,
-                run: false,
-                ..before
-            };
-            let rows = [
-                (STATUS, 0, cleared),
-                (STATUS, 0xFFFF, cleared),
-                (PERIODL, 0x9988, with_period(0x1122_9988)),
-                (PERIODH, 0x9988, with_period(0x9988_3344)),
-                (PERIODH, 0, with_period(0x3344)),
-                (PERIODL, 0x3344, with_period(0x1122_3344)),
-                (SNAPL, 0, taken),
-                (SNAPH, 0xFFFF, taken),
-            ];
-            for (offset, value, due) in rows {
-                let mut driven = Driven {
-                    party: party.as_ref(),
-                    timer: Lent::from(before.pack().as_slice()),
-                };
+        for before in (0..16).map(with_flags) {
+            for (offset, value, due) in written(before) {
+                let mut driven = Driven::met(party.as_ref(), &before);
                 driven.write(offset, value);
                 assert_eq!(
                     *driven.timer,

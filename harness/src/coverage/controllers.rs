@@ -3,7 +3,7 @@
 
 use super::counts::number;
 use super::{Numbered, Reachable};
-use crate::call::{Call, Function};
+use crate::call::{Call, Function, VicCall};
 use crate::compare::Answer;
 use crate::model::{CHOICE_SIZE, CONTROLLER_SIZE, PORTS};
 
@@ -81,7 +81,10 @@ fn is_pending(vic: &[u8], port: usize) -> bool {
 }
 
 /// Every field that breaks its rule.
-pub fn broken_fields(vic: &[u8]) -> Vec<usize> {
+fn broken_fields(vic: &[u8]) -> Vec<usize> {
+    if vic.len() != CONTROLLER_SIZE {
+        return Vec::new();
+    }
     let ports = usize::from(vic[0]);
     let mut broken = Vec::new();
     if !(1..=PORTS).contains(&ports) {
@@ -107,7 +110,7 @@ pub fn broken_fields(vic: &[u8]) -> Vec<usize> {
 /// The port that a controller tells, by the words: it is pending with a level
 /// above 0, and every other such port has a lower level, or the same and a higher
 /// index.
-pub fn port_told(vic: &[u8]) -> Option<usize> {
+fn port_told(vic: &[u8]) -> Option<usize> {
     let asks = |port: &usize| is_pending(vic, *port) && level(vic, *port) > 0;
     let ports = usize::from(vic[0]).min(PORTS);
     let asking: Vec<usize> = (0..ports).filter(asks).collect();
@@ -124,28 +127,26 @@ fn handler(vic: &[u8], port: usize) -> u64 {
     port as u64 * number(vic, 4, 4) + number(vic, 8, 4)
 }
 
-fn port_given(call: &Call) -> Option<u32> {
+fn port_given(call: &VicCall) -> Option<u32> {
     match call {
-        Call::VicConfigure { port, .. }
-        | Call::VicEnable { port, .. }
-        | Call::VicTrigger { port, .. }
-        | Call::VicLine { port, .. } => Some(*port),
+        VicCall::Configure { port, .. }
+        | VicCall::Enable { port, .. }
+        | VicCall::Trigger { port, .. }
+        | VicCall::Line { port, .. } => Some(*port),
         _ => None,
     }
 }
 
 /// The numbers of all refusals that apply, in their order; 8 with its field.
-pub fn numbers_applying(call: &Call) -> Vec<u32> {
-    let Some(vic) = call.controller() else {
-        return Vec::new();
-    };
+fn numbers_applying(call: &VicCall) -> Vec<u32> {
+    let vic = call.vic();
     let mut applying = Vec::new();
     let other_answer =
-        matches!(call, Call::VicChoose { answer, .. } if answer.len() != CHOICE_SIZE);
+        matches!(call, VicCall::Choose { answer, .. } if answer.len() != CHOICE_SIZE);
     if vic.len() != CONTROLLER_SIZE || other_answer {
         applying.push(7);
     }
-    if let Call::VicCreate { ports, .. } = call {
+    if let VicCall::Create { ports, .. } = call {
         if !(1..=32).contains(ports) {
             applying.push(21);
         }
@@ -162,11 +163,19 @@ pub fn numbers_applying(call: &Call) -> Vec<u32> {
     if port_given(call).is_some_and(|port| port >= u32::from(vic[0])) {
         applying.push(21);
     }
-    let chooses = matches!(call, Call::VicChoose { .. });
+    let chooses = matches!(call, VicCall::Choose { .. });
     if chooses && port_told(vic).is_some_and(|port| handler(vic, port) >> 32 != 0) {
         applying.push(22);
     }
     applying
+}
+
+/// The call, where it is one on a controller.
+fn on_controller(call: &Call) -> &VicCall {
+    match call {
+        Call::Vic(call) => call,
+        _ => panic!("no call on a controller:\n{call}"),
+    }
 }
 
 impl Reachable for Reached {
@@ -175,15 +184,14 @@ impl Reachable for Reached {
     }
 
     fn number_due(call: &Call) -> u32 {
-        numbers_applying(call).first().copied().unwrap_or(0)
+        let applying = numbers_applying(on_controller(call));
+        applying.first().copied().unwrap_or(0)
     }
 
     fn shown(call: &Call, answer: &Answer, reach: &mut dyn FnMut(Reached)) {
-        let broken = match call.controller() {
-            Some(vic) if vic.len() == CONTROLLER_SIZE => broken_fields(vic),
-            _ => Vec::new(),
-        };
+        let call = on_controller(call);
         let (function, applying) = (call.function(), numbers_applying(call));
+        let broken = broken_fields(call.vic());
         Numbered::shown(function, answer.returned, &applying, &broken)
             .into_iter()
             .map(Reached::Numbered)
@@ -197,8 +205,8 @@ impl Reachable for Reached {
     }
 }
 
-fn too_large(call: &Call) -> Vec<Reached> {
-    let vic = call.controller().expect("22 is the choice's");
+fn too_large(call: &VicCall) -> Vec<Reached> {
+    let vic = call.vic();
     let port = port_told(vic).expect("a port is chosen");
     let mut reached = Vec::new();
     reached.extend((handler(vic, port) == 1 << 32).then_some(Reached::FirstTooLarge));
@@ -206,10 +214,10 @@ fn too_large(call: &Call) -> Vec<Reached> {
     reached
 }
 
-fn done(call: &Call) -> Vec<Reached> {
+fn done(call: &VicCall) -> Vec<Reached> {
     match call {
-        Call::VicChoose { vic, .. } => chosen(vic),
-        Call::VicConfigure {
+        VicCall::Choose { vic, .. } => chosen(vic),
+        VicCall::Configure {
             level, set, nmi, ..
         } => {
             let mut reached = Vec::new();
@@ -218,17 +226,17 @@ fn done(call: &Call) -> Vec<Reached> {
             reached.extend((*nmi > 1).then_some(Reached::OtherFlag(call.function())));
             reached
         }
-        Call::VicEnable {
+        VicCall::Enable {
             vic,
             port,
             on: flag,
         }
-        | Call::VicTrigger {
+        | VicCall::Trigger {
             vic,
             port,
             on: flag,
         }
-        | Call::VicLine {
+        | VicCall::Line {
             vic,
             port,
             up: flag,
