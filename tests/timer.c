@@ -115,32 +115,35 @@ static void check_commands(void)
         }
 }
 
-/* What a write to another register leaves of a timer with these flags. */
+/* A write to another register, what it leaves, and the flag that it clears. */
+static const struct write {
+    const char *name;
+    uint32_t offset, value;
+    uint32_t counter, period, snapshot;
+    unsigned clears;
+} WRITES[] = {
+    {"status", SGDMA_TIMER_REGISTER_STATUS, 0, 0x000400AB, 0x00050006, 8, IN_TO},
+    {"status, all 1", SGDMA_TIMER_REGISTER_STATUS, 0xFFFF, 0x000400AB, 0x00050006, 8, IN_TO},
+    {"periodl", SGDMA_TIMER_REGISTER_PERIODL, 0x1234, 0x00051234, 0x00051234, 8, IN_RUN},
+    {"periodh", SGDMA_TIMER_REGISTER_PERIODH, 0x1234, 0x12340006, 0x12340006, 8, IN_RUN},
+    {"the same", SGDMA_TIMER_REGISTER_PERIODH, 5, 0x00050006, 0x00050006, 8, IN_RUN},
+    {"snapl", SGDMA_TIMER_REGISTER_SNAPL, 0x1234, 0x000400AB, 0x00050006, 0x000400AB, 0},
+    {"snaph", SGDMA_TIMER_REGISTER_SNAPH, 0, 0x000400AB, 0x00050006, 0x000400AB, 0},
+};
+
+/* Each with every set of flags. */
 static void check_writes(void)
 {
     check_case("writes to a timer");
-    for (unsigned flags = 0; flags < 16; flags++) {
-        unsigned stopped = flags & ~(unsigned)IN_RUN;
-        struct timer timer = laid(3, 0x00050006, 8, flags);
+    for (size_t i = 0; i < COUNT(WRITES); i++)
+        for (unsigned flags = 0; flags < 16; flags++) {
+            const struct write *w = &WRITES[i];
+            struct timer timer = laid(0x000400AB, 0x00050006, 8, flags);
 
-        timer_write(&timer, SGDMA_TIMER_REGISTER_STATUS, 0);
-        check_timer("status", &timer, 3, 0x00050006, 8, flags & ~(unsigned)IN_TO);
-        timer = laid(3, 0x00050006, 8, flags);
-        timer_write(&timer, SGDMA_TIMER_REGISTER_STATUS, 0xFFFF);
-        check_timer("status, all 1", &timer, 3, 0x00050006, 8, flags & ~(unsigned)IN_TO);
-        timer = laid(3, 0x00050006, 8, flags);
-        timer_write(&timer, SGDMA_TIMER_REGISTER_PERIODL, 0x1234);
-        check_timer("periodl", &timer, 0x00051234, 0x00051234, 8, stopped);
-        timer = laid(3, 0x00050006, 8, flags);
-        timer_write(&timer, SGDMA_TIMER_REGISTER_PERIODH, 0x1234);
-        check_timer("periodh", &timer, 0x12340006, 0x12340006, 8, stopped);
-        timer = laid(0x000400AB, 0x00050006, 8, flags);
-        timer_write(&timer, SGDMA_TIMER_REGISTER_SNAPL, 0x1234);
-        check_timer("snapl", &timer, 0x000400AB, 0x00050006, 0x000400AB, flags);
-        timer = laid(0x000400AB, 0x00050006, 8, flags);
-        timer_write(&timer, SGDMA_TIMER_REGISTER_SNAPH, 0);
-        check_timer("snaph", &timer, 0x000400AB, 0x00050006, 0x000400AB, flags);
-    }
+            timer_write(&timer, w->offset, w->value);
+            check_timer(w->name, &timer, w->counter, w->period, w->snapshot,
+                        flags & ~w->clears);
+        }
 }
 
 /* A timer that runs, the ticks that pass, and what must come of it. */
