@@ -10,20 +10,20 @@ pub extern "C" fn sgdma_timer_create(timer: &mut [u8], period: u32) -> u32
     calls::create(timer, period)
 }
 
-// Reads the register at `offset` into the four bytes of `value`.
-#[no_mangle]
-pub extern "C" fn sgdma_timer_read(timer: &[u8], offset: u32, value: &mut [u8]) -> u32
-    ensures { λ r. ⌜ TimerRead (now (timer .entry)) offset (now (value .entry)) r (now (value .exit)) ⌝ }
-{
-    calls::read(timer, offset, value)
-}
-
 // Writes the register at `offset`.
 #[no_mangle]
 pub extern "C" fn sgdma_timer_write(timer: &mut [u8], offset: u32, value: u16) -> u32
     ensures { λ r. ⌜ TimerWritten (now (timer .entry)) offset value r (now (timer .exit)) ⌝ }
 {
     calls::write(timer, offset, value)
+}
+
+// Reads the register at `offset` into the four bytes of `value`.
+#[no_mangle]
+pub extern "C" fn sgdma_timer_read(timer: &[u8], offset: u32, value: &mut [u8]) -> u32
+    ensures { λ r. ⌜ TimerRead (now (timer .entry)) offset (now (value .entry)) r (now (value .exit)) ⌝ }
+{
+    calls::read(timer, offset, value)
 }
 
 // Writes 1 into the four bytes of `value` where the interrupt line is up, else 0.

@@ -153,7 +153,8 @@ module _ (n : ℕ) (t : Timer) where
 
     pub ran-on : t .cont ≡ true → t .counter ≤ n
         → ranOf n t
-        ≡ standing (after (t .period) ((n - t .counter) % (t .period + 1))) true (flag (not (eqb (t .counter) 0)) + (n - t .counter) / (t .period + 1)) t
+        ≡ standing (after (t .period) ((n - t .counter) % (t .period + 1))) true
+        (flag (not (eqb (t .counter) 0)) + (n - t .counter) / (t .period + 1)) t
     ran-on on h =
         let past = n - t .counter in
         let round = t .period + 1 in

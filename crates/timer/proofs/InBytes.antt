@@ -107,7 +107,8 @@ was-loaded {xs} e =
     }
   where
     by : (b c : Bool) (n : ℕ) (t : Timer)
-        → loadNumber (cond b (cond c (loaded.Good t) (loaded.Refused (BadImage n))) (loaded.Refused BadSize)) ≡ cond b (cond c 0 (8 + 256 * n)) 7
+        → loadNumber (cond b (cond c (loaded.Good t) (loaded.Refused (BadImage n))) (loaded.Refused BadSize))
+        ≡ cond b (cond c 0 (8 + 256 * n)) 7
     by true true n t = refl
     by true false n t = refl
     by false c n t = refl
@@ -165,7 +166,8 @@ module _ (t : Timer) (xs : List ℕ) where
     pub save-counter : t .period < t .counter → TimerWasSaved t xs (saved.Refused (BadImage 2)) xs
     unfolding saveOf savedOver
     save-counter h =
-        was-saved (rw (eq-eqb (length xs) 14 l, lt-leb (t .counter) (t .period) h)) (rw (eq-eqb (length xs) 14 l, lt-leb (t .counter) (t .period) h))
+        was-saved (rw (eq-eqb (length xs) 14 l, lt-leb (t .counter) (t .period) h))
+        (rw (eq-eqb (length xs) 14 l, lt-leb (t .counter) (t .period) h))
 
     pub done-is : t .counter ≤ t .period → saveOf t xs ≡ saved.Done
     unfolding saveOf
@@ -191,7 +193,8 @@ values-fit t ty = (
 )
 
 -- the lines put into a packer one after the other, as the code puts them
-pub timer-packed : (t : Timer) (xs : List ℕ) → length xs ≡ 14 → Typed t → packedOver (fieldsPut widths (values t) noFields) xs ≡ bytesOfTimer t
+pub timer-packed : (t : Timer) (xs : List ℕ) → length xs ≡ 14 → Typed t
+    → packedOver (fieldsPut widths (values t) noFields) xs ≡ bytesOfTimer t
 unfolding bytesOfTimer
 timer-packed t xs l ty =
     fields-packed widths (values t) xs (values-fit t ty) (search needs) (omega arith) (omega arith)
@@ -219,10 +222,12 @@ numbers-back t ty = recode-back widths (bytes 14) (values t) refl (values-fit t 
 pub load-saved : (t : Timer) → Typed t → t .counter ≤ t .period → loadOf (bytesOfTimer t) ≡ loaded.Good t
 unfolding loadOf
 load-saved t ty h =
-    rw (eq-eqb (length (bytesOfTimer t)) 14 (length-timer t), numbers-back t ty) (rw (le-leb (t .counter) (t .period) h) (ap loaded.Good (of-values t)))
+    rw (eq-eqb (length (bytesOfTimer t)) 14 (length-timer t), numbers-back t ty)
+    (rw (le-leb (t .counter) (t .period) h) (ap loaded.Good (of-values t)))
 
 -- what a good answer tells
-good-from : (b c : Bool) (n : ℕ) (u t : Timer) → cond b (cond c (loaded.Good u) (loaded.Refused (BadImage n))) (loaded.Refused BadSize) ≡ loaded.Good t
+good-from : (b c : Bool) (n : ℕ) (u t : Timer)
+    → cond b (cond c (loaded.Good u) (loaded.Refused (BadImage n))) (loaded.Refused BadSize) ≡ loaded.Good t
     → (b ≡ true) × (c ≡ true) × (t ≡ u)
 good-from true true n u t e = (refl, refl, cc)
 good-from true false n u t e = absurd (let z : _≡_ {A = ℕ} 0 1 = cc in omega arith)
@@ -243,7 +248,9 @@ module _ (xs : List ℕ) (t : Timer) (e : loadOf xs ≡ loaded.Good t) where
   good-timer = told .2
 
   each-kept : (leb (field 1 (numbers xs)) (field 2 (numbers xs)) ≡ true) × (eqb (field 4 (numbers xs)) 0 ≡ true)
-  each-kept = unbroken (leb (field 1 (numbers xs)) (field 2 (numbers xs))) (eqb (field 4 (numbers xs)) 0) (sym (broken-is (numbers xs)) ∙ good-rules)
+  each-kept =
+      unbroken (leb (field 1 (numbers xs)) (field 2 (numbers xs))) (eqb (field 4 (numbers xs)) 0)
+      (sym (broken-is (numbers xs)) ∙ good-rules)
 
   pub good-keeps : t .counter ≤ t .period
   good-keeps = subst (λ (u : Timer). u .counter ≤ u .period) (sym good-timer) (leb-true _ _ (each-kept .0))

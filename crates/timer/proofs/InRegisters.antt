@@ -123,55 +123,52 @@ wraps earlier later r h i e = omega arith
 
 -- ---- what each answer tells
 
-value-by : (b : Bool) (v w : ℕ) → cond b (read.Value v) (read.Refused NoTimerRegister) ≡ read.Value w → (b ≡ true) × (w ≡ v)
-value-by true v w e = (refl, cc)
-value-by false v w e = absurd (let z : _≡_ {A = ℕ} 0 1 = cc in omega arith)
+-- of an answer that is good where the test holds, and else refused for one reason
+module _ {A B : Type 0} (good : B → A) (bad : Refusal → A) (apart : (x : B) (why : Refusal) → good x ≡ bad why → ⊥) where
+  good-by : ((x y : B) → good x ≡ good y → y ≡ x) → (b : Bool) (x y : B) (why : Refusal) → cond b (good x) (bad why) ≡ good y
+      → (b ≡ true) × (y ≡ x)
+  good-by same true x y why e = (refl, same x y e)
+  good-by same false x y why e = absurd (apart y why (sym e))
 
-no-value-by : (b : Bool) (v : ℕ) (why : Refusal) → cond b (read.Value v) (read.Refused NoTimerRegister) ≡ read.Refused why
-    → (b ≡ false) × (refusalNumber why ≡ 16)
-no-value-by true v why e = absurd (let z : _≡_ {A = ℕ} 0 1 = cc in omega arith)
-no-value-by false v why e = (refl, ap refusalNumber (let f : why ≡ NoTimerRegister = cc in f))
+  bad-by : ((x y : Refusal) → bad x ≡ bad y → y ≡ x) → (b : Bool) (x : B) (why other : Refusal) → cond b (good x) (bad why) ≡ bad other
+      → (b ≡ false) × (refusalNumber other ≡ refusalNumber why)
+  bad-by same true x why other e = absurd (apart x other e)
+  bad-by same false x why other e = (refl, ap refusalNumber (same why other e))
 
-done-by : (b : Bool) (t u : Timer) → cond b (wrote.Done t) (wrote.Refused NoTimerRegister) ≡ wrote.Done u → (b ≡ true) × (u ≡ t)
-done-by true t u e = (refl, cc)
-done-by false t u e = absurd (let z : _≡_ {A = ℕ} 0 1 = cc in omega arith)
+read-apart : (v : ℕ) (why : Refusal) → read.Value v ≡ read.Refused why → ⊥
+read-apart v why e = absurd (let z : _≡_ {A = ℕ} 0 1 = cc in omega arith)
 
-not-done-by : (b : Bool) (t : Timer) (why : Refusal) → cond b (wrote.Done t) (wrote.Refused NoTimerRegister) ≡ wrote.Refused why
-    → (b ≡ false) × (refusalNumber why ≡ 16)
-not-done-by true t why e = absurd (let z : _≡_ {A = ℕ} 0 1 = cc in omega arith)
-not-done-by false t why e = (refl, ap refusalNumber (let f : why ≡ NoTimerRegister = cc in f))
+write-apart : (t : Timer) (why : Refusal) → wrote.Done t ≡ wrote.Refused why → ⊥
+write-apart t why e = absurd (let z : _≡_ {A = ℕ} 0 1 = cc in omega arith)
 
-ticks-by : (b : Bool) (n m : ℕ) → cond b (between.Ticks n) (between.Refused NotFullPeriod) ≡ between.Ticks m → (b ≡ true) × (m ≡ n)
-ticks-by true n m e = (refl, cc)
-ticks-by false n m e = absurd (let z : _≡_ {A = ℕ} 0 1 = cc in omega arith)
-
-no-ticks-by : (b : Bool) (n : ℕ) (why : Refusal) → cond b (between.Ticks n) (between.Refused NotFullPeriod) ≡ between.Refused why
-    → (b ≡ false) × (refusalNumber why ≡ 17)
-no-ticks-by true n why e = absurd (let z : _≡_ {A = ℕ} 0 1 = cc in omega arith)
-no-ticks-by false n why e = (refl, ap refusalNumber (let f : why ≡ NotFullPeriod = cc in f))
+ticks-apart : (n : ℕ) (why : Refusal) → between.Ticks n ≡ between.Refused why → ⊥
+ticks-apart n why e = absurd (let z : _≡_ {A = ℕ} 0 1 = cc in omega arith)
 
 module _ (t : Timer) (offset : ℕ) where
   pub value-is : {w : ℕ} → readOf t offset ≡ read.Value w → (isRegister offset ≡ true) × (w ≡ registerOf t offset)
   unfolding readOf
-  value-is {w} e = value-by (isRegister offset) (registerOf t offset) w e
+  value-is {w} e = good-by read.Value read.Refused read-apart (λ x y f. cc) (isRegister offset) (registerOf t offset) w NoTimerRegister e
 
   pub no-value : {why : Refusal} → readOf t offset ≡ read.Refused why → (isRegister offset ≡ false) × (refusalNumber why ≡ 16)
   unfolding readOf
-  no-value {why} e = no-value-by (isRegister offset) (registerOf t offset) why e
+  no-value {why} e = bad-by read.Value read.Refused read-apart (λ x y f. cc) (isRegister offset) (registerOf t offset) NoTimerRegister why e
 
   pub written-is : (v : ℕ) {u : Timer} → writeOf t offset v ≡ wrote.Done u → (isRegister offset ≡ true) × (u ≡ writtenOf t offset v)
   unfolding writeOf
-  written-is v {u} e = done-by (isRegister offset) (writtenOf t offset v) u e
+  written-is v {u} e =
+      good-by wrote.Done wrote.Refused write-apart (λ x y f. cc) (isRegister offset) (writtenOf t offset v) u NoTimerRegister e
 
-  pub not-written : (v : ℕ) {why : Refusal} → writeOf t offset v ≡ wrote.Refused why → (isRegister offset ≡ false) × (refusalNumber why ≡ 16)
+  pub not-written : (v : ℕ) {why : Refusal} → writeOf t offset v ≡ wrote.Refused why
+      → (isRegister offset ≡ false) × (refusalNumber why ≡ 16)
   unfolding writeOf
-  not-written v {why} e = not-done-by (isRegister offset) (writtenOf t offset v) why e
+  not-written v {why} e =
+      bad-by wrote.Done wrote.Refused write-apart (λ x y f. cc) (isRegister offset) (writtenOf t offset v) NoTimerRegister why e
 
 module _ (t : Timer) (earlier later : ℕ) where
   pub ticks-are : {n : ℕ} → betweenOf t earlier later ≡ between.Ticks n → (isFull t ≡ true) × (n ≡ elapsedOf earlier later)
   unfolding betweenOf
-  ticks-are {n} e = ticks-by (isFull t) (elapsedOf earlier later) n e
+  ticks-are {n} e = good-by between.Ticks between.Refused ticks-apart (λ x y f. cc) (isFull t) (elapsedOf earlier later) n NotFullPeriod e
 
   pub no-ticks : {why : Refusal} → betweenOf t earlier later ≡ between.Refused why → (isFull t ≡ false) × (refusalNumber why ≡ 17)
   unfolding betweenOf
-  no-ticks {why} e = no-ticks-by (isFull t) (elapsedOf earlier later) why e
+  no-ticks {why} e = bad-by between.Ticks between.Refused ticks-apart (λ x y f. cc) (isFull t) (elapsedOf earlier later) NotFullPeriod why e

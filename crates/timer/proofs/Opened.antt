@@ -23,7 +23,7 @@ use Rattle.timer.specs.declared.Between.the-variants as between
 use Rattle.timer.specs.Counting.{createdOf, afterTicks, zerosIn, ranOf}
 use Rattle.timer.specs.Registers.{isRegister, registerOf, writtenOf, readOf, writeOf, lineUp, isFull, betweenOf}
 use Rattle.timer.specs.Saved.{timerOf, numbers, lowestBroken, sized, bytesOfTimer, loadOf}
-use Rattle.timer.specs.Calls.{timerIn, valueBytes, isValue, once, registerNumber, periodNumber, createNumber, readNumber, writeNumber, valueNumber, elapsedNumber, TimerCreated, TimerRead, TimerWritten, TimerLine, TimerRan, TimerElapsed}
+use Rattle.timer.specs.Calls.{timerIn, valueBytes, isValue, afterRules, registerNumber, periodNumber, createNumber, readNumber, writeNumber, valueNumber, elapsedNumber, TimerCreated, TimerRead, TimerWritten, TimerLine, TimerRan, TimerElapsed}
 use Rattle.timer.proofs.InBytes.{good-length, good-rules, good-timer}
 use Rattle.timer.proofs.InRegisters.{value-is, no-value, written-is, not-written, ticks-are, no-ticks}
 
@@ -42,10 +42,10 @@ and-false true = refl
 and-false false = refl
 
 module _ (xs value : List ℕ) (rest : ℕ) where
-  value-wrong : (length value ≡ 4 → ⊥) → once (sized xs && isValue value) xs rest ≡ 7
+  value-wrong : (length value ≡ 4 → ⊥) → afterRules (sized xs && isValue value) xs rest ≡ 7
   value-wrong h = rw (ne-eqb (length value) 4 h, and-false (sized xs))
 
-  value-right : length value ≡ 4 → once (sized xs && isValue value) xs rest ≡ once (sized xs) xs rest
+  value-right : length value ≡ 4 → afterRules (sized xs && isValue value) xs rest ≡ afterRules (sized xs) xs rest
   value-right l = rw (eq-eqb (length value) 4 l, and-true (sized xs))
 
 -- by what loading answers
@@ -63,28 +63,28 @@ spoiled-by false c n u why rest e =
     (g, λ z. absurd (omega (arith, g, z)))
 
 module _ (xs : List ℕ) (rest : ℕ) where
-  spoiled : {why : Refusal} → loadOf xs ≡ Refused why → (once (sized xs) xs rest ≡ refusalNumber why) × (refusalNumber why ≡ 0 → ⊥)
+  spoiled : {why : Refusal} → loadOf xs ≡ Refused why → (afterRules (sized xs) xs rest ≡ refusalNumber why) × (refusalNumber why ≡ 0 → ⊥)
   unfolding loadOf
   spoiled {why} e =
       spoiled-by (sized xs) (eqb (lowestBroken (numbers xs)) 0) (lowestBroken (numbers xs)) (timerOf (numbers xs)) why rest e
 
-  pub opened : {t : Timer} → loadOf xs ≡ Good t → once (sized xs) xs rest ≡ rest
+  pub opened : {t : Timer} → loadOf xs ≡ Good t → afterRules (sized xs) xs rest ≡ rest
   opened {t} e = rw (eq-eqb (length xs) 14 (good-length xs t e), eq-eqb (lowestBroken (numbers xs)) 0 (good-rules xs t e))
 
 -- ---- a call that tells a value, whatever it may write
 
 module _ (xs value before done : List ℕ) (rest : ℕ) where
-  short-answers : {r : ℕ} → (length value ≡ 4 → ⊥) → r ≡ 7 → Answers (once (sized xs && isValue value) xs rest) before done r before
+  short-answers : {r : ℕ} → (length value ≡ 4 → ⊥) → r ≡ 7 → Answers (afterRules (sized xs && isValue value) xs rest) before done r before
   short-answers h p = answers-refused (p ∙ sym (value-wrong xs value rest h)) (named p)
 
   spoiled-answers : {r : ℕ} {why : Refusal} → length value ≡ 4 → loadOf xs ≡ Refused why → r ≡ refusalNumber why
-      → Answers (once (sized xs && isValue value) xs rest) before done r before
+      → Answers (afterRules (sized xs && isValue value) xs rest) before done r before
   spoiled-answers l e p =
       let s = spoiled xs rest e in
       answers-refused (p ∙ sym (value-right xs value rest l ∙ s .0)) (λ z. s .1 (sym p ∙ z))
 
 module _ (xs value : List ℕ) (rest : ℕ) where
-  loaded-number : {t : Timer} → length value ≡ 4 → loadOf xs ≡ Good t → once (sized xs && isValue value) xs rest ≡ rest
+  loaded-number : {t : Timer} → length value ≡ 4 → loadOf xs ≡ Good t → afterRules (sized xs && isValue value) xs rest ≡ rest
   loaded-number l e = value-right xs value rest l ∙ opened xs rest e
 
 -- ---- create
@@ -105,12 +105,14 @@ module _ (xs : List ℕ) (offset : ℕ) (value : List ℕ) where
   unfolding readNumber
   read-short h p = short-answers xs value value _ (registerNumber offset) h p
 
-  pub read-spoiled : {r : ℕ} {why : Refusal} → length value ≡ 4 → loadOf xs ≡ Refused why → r ≡ refusalNumber why → TimerRead xs offset value r value
+  pub read-spoiled : {r : ℕ} {why : Refusal} → length value ≡ 4 → loadOf xs ≡ Refused why → r ≡ refusalNumber why
+      → TimerRead xs offset value r value
   unfolding readNumber
   read-spoiled l e p = spoiled-answers xs value value _ (registerNumber offset) l e p
 
   module _ (l : length value ≡ 4) (t : Timer) (e : loadOf xs ≡ Good t) where
-    pub read-refused : {r : ℕ} {why : Refusal} → readOf t offset ≡ read.Refused why → r ≡ refusalNumber why → TimerRead xs offset value r value
+    pub read-refused : {r : ℕ} {why : Refusal} → readOf t offset ≡ read.Refused why → r ≡ refusalNumber why
+        → TimerRead xs offset value r value
     unfolding readNumber
     read-refused f p =
         let n = no-value t offset f in
@@ -134,7 +136,8 @@ module _ (xs : List ℕ) (offset v : ℕ) where
       answers-refused (p ∙ sym (s .0)) (λ z. s .1 (sym p ∙ z))
 
   module _ (t : Timer) (e : loadOf xs ≡ Good t) where
-    pub write-refused : {r : ℕ} {why : Refusal} → writeOf t offset v ≡ wrote.Refused why → r ≡ refusalNumber why → TimerWritten xs offset v r xs
+    pub write-refused : {r : ℕ} {why : Refusal} → writeOf t offset v ≡ wrote.Refused why → r ≡ refusalNumber why
+        → TimerWritten xs offset v r xs
     unfolding writeNumber
     write-refused f p =
         let n = not-written t offset v f in
@@ -155,7 +158,8 @@ module _ (xs value : List ℕ) where
   unfolding valueNumber
   line-short h p = short-answers xs value value _ 0 h p
 
-  pub line-spoiled : {r : ℕ} {why : Refusal} → length value ≡ 4 → loadOf xs ≡ Refused why → r ≡ refusalNumber why → TimerLine xs value r value
+  pub line-spoiled : {r : ℕ} {why : Refusal} → length value ≡ 4 → loadOf xs ≡ Refused why → r ≡ refusalNumber why
+      → TimerLine xs value r value
   unfolding valueNumber
   line-spoiled l e p = spoiled-answers xs value value _ 0 l e p
 
@@ -172,7 +176,8 @@ module _ (xs : List ℕ) (n : ℕ) (value : List ℕ) where
   unfolding valueNumber
   run-short h p = record { timer = short-answers xs value xs _ 0 h p; zeros = short-answers xs value value _ 0 h p }
 
-  pub run-spoiled : {r : ℕ} {why : Refusal} → length value ≡ 4 → loadOf xs ≡ Refused why → r ≡ refusalNumber why → TimerRan xs n value r xs value
+  pub run-spoiled : {r : ℕ} {why : Refusal} → length value ≡ 4 → loadOf xs ≡ Refused why → r ≡ refusalNumber why
+      → TimerRan xs n value r xs value
   unfolding valueNumber
   run-spoiled l e p = record { timer = spoiled-answers xs value xs _ 0 l e p; zeros = spoiled-answers xs value value _ 0 l e p }
 

@@ -113,12 +113,15 @@ module _ (t : Timer) (e : t .run ≡ true) (on : t .cont ≡ true) where
   every : (j r : ℕ) → r ≤ t .period → hits (first t + j * (t .period + 1) + r) t ≡ eqb r 0
   every zero zero h =
       let g = some .0 in
-      hit-at t _ (first t - 1) 1 0 (rw (zero-mul (t .period + 1)) (omega (arith, g))) (times 0 0 h) (none (first t - 1) (omega (arith, g))) refl
+      hit-at t _ (first t - 1) 1 0 (rw (zero-mul (t .period + 1)) (omega (arith, g))) (times 0 0 h)
+      (none (first t - 1) (omega (arith, g))) refl
   every (suc j) zero h =
-      hit-at t _ (first t + j * (t .period + 1) + t .period) (1 + suc j) (1 + j) (rw (suc-mul j (t .period + 1)) (omega arith)) (times (suc j) 0 h)
+      hit-at t _ (first t + j * (t .period + 1) + t .period) (1 + suc j) (1 + j) (rw (suc-mul j (t .period + 1)) (omega arith))
+      (times (suc j) 0 h)
       (times j (t .period) (omega arith)) (omega arith)
   every j (suc r) h =
-      hit-not t _ (first t + j * (t .period + 1) + r) (1 + j) (1 + j) (omega arith) (times j (suc r) h) (times j r (omega arith)) refl ∙ sym (above r)
+      hit-not t _ (first t + j * (t .period + 1) + r) (1 + j) (1 + j) (omega arith) (times j (suc r) h) (times j r (omega arith)) refl
+      ∙ sym (above r)
 
   periodic : Periodic t
   periodic = record {
@@ -167,7 +170,8 @@ module _ (t : Timer) (e : t .run ≡ true) (off : t .cont ≡ false) where
     loaded = λ n h. ap (λ (r : Ran). r .timer .counter) (ran-once n t e off h);
     stands = λ n h. ap (λ (r : Ran). r .timer .run) (ran-once n t e off h);
     count = λ n h i g. counts (n - t .counter) n (omega arith) h i;
-    count-zero = λ n c p h. ap (λ (r : Ran). r .zeros) (ran-once n t e off (omega arith)) ∙ rw (eq-eqb (t .counter) 0 c, eq-eqb (t .period) 0 p);
+    count-zero = λ n c p h. ap (λ (r : Ran). r .zeros) (ran-once n t e off (omega arith))
+        ∙ rw (eq-eqb (t .counter) 0 c, eq-eqb (t .period) 0 p);
   }
 
 -- A running one-shot timer reaches zero once, and on the next tick it is loaded again and stands.
@@ -199,7 +203,8 @@ module _ (t : Timer) (n : ℕ) (e : t .run ≡ true) (on : t .cont ≡ true) (fu
           told _ (ap (λ (r : Ran). r .timer) (ran-down n (snappedOf t) e i)) refl (omega (arith, i, h, full))
       by false f =
           let i = ltb-false n (t .counter) f in
-          told _ (ap (λ (r : Ran). r .timer) (ran-on n (snappedOf t) e on i)) refl (rw full (full-at (t .counter) n i (omega (arith, h, full))))
+          told _ (ap (λ (r : Ran). r .timer) (ran-on n (snappedOf t) e on i)) refl
+          (rw full (full-at (t .counter) n i (omega (arith, h, full))))
 
 same-done : {t u : Timer} → wrote.Done t ≡ wrote.Done u → u ≡ t
 same-done e = cc

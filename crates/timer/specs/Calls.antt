@@ -32,8 +32,8 @@ isValue value = eqb (length value) 4
 -- ---- the numbers, the first that applies
 
 -- 7 where a size is wrong, 8 + 256 x field where a rule is broken, then the rest
-abbrev pub once : (sizes : Bool) (xs : List ℕ) (rest : ℕ) → ℕ
-once sizes xs rest =
+abbrev pub afterRules : (sizes : Bool) (xs : List ℕ) (rest : ℕ) → ℕ
+afterRules sizes xs rest =
     if not sizes then refusalNumber BadSize
     else if not (eqb (lowestBroken (numbers xs)) 0) then refusalNumber (BadImage (lowestBroken (numbers xs)))
     else rest
@@ -52,19 +52,19 @@ createNumber xs = if not (sized xs) then refusalNumber BadSize else 0
 
 -- 7, 8, 16
 unfoldable pub readNumber : (xs : List ℕ) (offset : ℕ) (value : List ℕ) → ℕ
-readNumber xs offset value = once (sized xs && isValue value) xs (registerNumber offset)
+readNumber xs offset value = afterRules (sized xs && isValue value) xs (registerNumber offset)
 
 -- 7, 8, 16
 unfoldable pub writeNumber : (xs : List ℕ) (offset : ℕ) → ℕ
-writeNumber xs offset = once (sized xs) xs (registerNumber offset)
+writeNumber xs offset = afterRules (sized xs) xs (registerNumber offset)
 
 -- 7, 8: of the line and of a run
 unfoldable pub valueNumber : (xs value : List ℕ) → ℕ
-valueNumber xs value = once (sized xs && isValue value) xs 0
+valueNumber xs value = afterRules (sized xs && isValue value) xs 0
 
 -- 7, 8, 17
 unfoldable pub elapsedNumber : (xs value : List ℕ) → ℕ
-elapsedNumber xs value = once (sized xs && isValue value) xs (periodNumber (timerIn xs))
+elapsedNumber xs value = afterRules (sized xs && isValue value) xs (periodNumber (timerIn xs))
 
 -- ---- the six calls: each promises Answers, of its number and of what it leaves where it is done
 

@@ -24,14 +24,13 @@ stand counter run to t =
 abbrev pub nextOf : (counter period : ℕ) → ℕ
 nextOf counter period = if eqb counter 0 then period else counter - 1
 
--- a tick where RUN is 1; where it is 0 nothing happens
+-- a tick, where RUN is 1: the counter has its new value; RUN becomes 0 where the period is loaded and CONT is 0; TO becomes 1 where the new
+-- value is 0. Where RUN is 0 nothing happens
 unfoldable pub tickOf : Timer → Timer
 tickOf t =
-    if t .run then stand
-    (nextOf (t .counter) (t .period))  -- the counter has its new value
-    (not (eqb (t .counter) 0) || t .cont)  -- RUN becomes 0 where the period was loaded and CONT is 0
-    (eqb (nextOf (t .counter) (t .period)) 0 || t .to)  -- TO becomes 1 where the new value is 0
-    t else t
+    let next : ℕ = nextOf (t .counter) (t .period) in
+    if t .run then stand next (not (eqb (t .counter) 0) || t .cont) (eqb next 0 || t .to) t
+    else t
 
 -- whether a tick reaches zero: the timer runs, and the new value is 0
 abbrev pub reaches : Timer → Bool

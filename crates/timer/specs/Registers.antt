@@ -147,7 +147,8 @@ pub record TimerWasElapsed (t : Timer) (earlier later : ℕ) (r : Between) : Typ
 pub timer-read-unique : {t : Timer} {offset : ℕ} {r s : ReadTimer} → TimerWasRead t offset r → TimerWasRead t offset s → r ≡ s
 timer-read-unique p q = p .answer ∙ sym (q .answer)
 
-pub timer-written-unique : {t : Timer} {offset v : ℕ} {r s : WroteTimer} → TimerWasWritten t offset v r → TimerWasWritten t offset v s → r ≡ s
+pub timer-written-unique : {t : Timer} {offset v : ℕ} {r s : WroteTimer}
+    → TimerWasWritten t offset v r → TimerWasWritten t offset v s → r ≡ s
 timer-written-unique p q = p .answer ∙ sym (q .answer)
 
 pub timer-elapsed-unique : {t : Timer} {earlier later : ℕ} {r s : Between}

@@ -94,7 +94,8 @@ pub record Snap (t : Timer) (offset v : ℕ) (u : Timer) : Type 0 where
 
 -- The time between two snapshots of a full-period continuous timer, n ticks apart and written to in no other way, is n modulo 2^32.
 abbrev pub ElapsedIsTicks : Type 0
-ElapsedIsTicks = (t earlier later : Timer) (n a v b w : ℕ) → t .run ≡ true → t .cont ≡ true → t .period ≡ 4294967295 → t .counter ≤ t .period
+ElapsedIsTicks = (t earlier later : Timer) (n a v b w : ℕ)
+    → t .run ≡ true → t .cont ≡ true → t .period ≡ 4294967295 → t .counter ≤ t .period
     → Snap t a v earlier → Snap (afterTicks n earlier) b w later
     → betweenOf later (earlier .snapshot) (later .snapshot) ≡ Ticks (n % 2 ^ 32)
 
