@@ -463,11 +463,14 @@ extern "C" {
  * that is in every tick. A timer that is stopped stays as it is, however many
  * ticks pass. Its line is up exactly while TO and ITO are both 1.
  *
+ * It has all its registers and both commands. The pulse, the watchdog and the
+ * options that leave registers out are not modelled.
+ *
  * Firmware times a stall of the stream with two snapshots. It makes the timer with
- * SGDMA_TIMER_FULL_PERIOD and starts it with START and CONT; where the stall begins
- * and where it ends it writes to snapl, which keeps the counter as it is, and reads
- * snapl and snaph. sgdma_timer_elapsed then gives the ticks between the two, also
- * where the counter has passed zero since, as long as they are fewer than 2^32.
+ * SGDMA_TIMER_FULL_PERIOD and starts it with START and CONT. Where the stall begins
+ * and where it ends it takes a snapshot: it writes to snapl, and then reads snapl
+ * and snaph. sgdma_timer_elapsed gives the ticks between the two, also where the
+ * counter has passed zero since, as long as they are fewer than 2^32.
  */
 #define SGDMA_TIMER_FULL_PERIOD  UINT32_C(0xFFFFFFFF)
 
@@ -492,8 +495,8 @@ extern "C" {
 /*
  * control (table 26-6). A write stores ITO and CONT as they are given, also one
  * that starts or stops. START starts the counter from where it is, and STOP stops
- * it; both together mean STOP, and neither leaves it running or stopped as it is.
- * START and STOP read 0, as do bits 4 to 15, which are ignored.
+ * it; both together mean STOP, and with neither it runs on or stays stopped. START
+ * and STOP read 0, and so do bits 4 to 15, which are ignored.
  */
 #define SGDMA_TIMER_CONTROL_ITO    SGDMA_BIT(0) /* TO raises the line */
 #define SGDMA_TIMER_CONTROL_CONT   SGDMA_BIT(1) /* go on when the counter has reached zero */
