@@ -81,8 +81,10 @@ pub enum Reached {
     StartedBetween,
     /// This half of the period was written, of a timer with this RUN,
     Period(u32, bool),
-    /// .. with this TO.
+    /// .. with this TO,
     PeriodUnder(bool),
+    /// .. and so the period became 0, with this TO.
+    PeriodCleared(bool),
     /// A snapshot was taken by this register, of a timer with this RUN, with another
     /// counter than the last and another value than its half.
     Snapshot(u32, bool),
@@ -205,10 +207,7 @@ fn not_full(call: &TimerCall) -> Vec<Reached> {
 }
 
 fn done(call: &TimerCall, after: &TimerCall) -> Vec<Reached> {
-    let before = match call {
-        TimerCall::Create { .. } => return Vec::new(),
-        _ => Seen::of(call.timer()),
-    };
+    let before = Seen::of(call.timer());
     match call {
         TimerCall::Create { .. } => Vec::new(),
         TimerCall::Read { offset, .. } => read(&before, *offset),
@@ -265,10 +264,14 @@ fn period_written(before: &Seen, offset: u32, value: u16) -> Vec<Reached> {
     if half == u64::from(value) {
         return Vec::new();
     }
-    vec![
+    let mut reached = vec![
         Reached::Period(offset, before.run),
         Reached::PeriodUnder(before.to),
-    ]
+    ];
+    let other = before.period >> (16 * (3 - offset)) & 0xFFFF;
+    let cleared = value == 0 && other == 0;
+    reached.extend(cleared.then_some(Reached::PeriodCleared(before.to)));
+    reached
 }
 
 fn snapshot_taken(before: &Seen, offset: u32, value: u16) -> Vec<Reached> {
@@ -342,7 +345,7 @@ fn registers() -> Vec<Reached> {
     for first in BOTH {
         points.extend([2, 3].map(|offset| Period(offset, first)));
         points.extend([4, 5].map(|offset| Snapshot(offset, first)));
-        points.push(PeriodUnder(first));
+        points.extend([PeriodUnder(first), PeriodCleared(first)]);
         for second in BOTH {
             points.extend([Status(first, second), Control(first, second)]);
             points.extend([StatusWritten(first, second), Stored(first, second)]);
