@@ -180,7 +180,8 @@ pub trait Timers: Copy {
 
     /// "reads give ITO and CONT alone"
     fn timer_control(self, timer: &Timer) -> u16 {
-        u16::from(timer.ito) * timer_control::ITO | u16::from(timer.cont) * timer_control::CONT
+        let bit = |set: bool, bit: u16| if set { bit } else { 0 };
+        bit(timer.ito, timer_control::ITO) | bit(timer.cont, timer_control::CONT)
     }
 
     /// Bit 0 is TO and bit 1 RUN.
