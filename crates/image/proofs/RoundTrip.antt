@@ -6,8 +6,6 @@ use mathlib.Core.List.{List, [], _∷_}
 use native.Mathlib.Omega.{arith}
 use borrow.Author.Needs.{needs}
 use lib.ListN.{length, length-replicate}
-use lib.Dec.{eqb}
-use Rattle.words.specs.Bits.{flag}
 use Rattle.words.specs.Numbers.{total, join, split, recode, bytes, Fit}
 use Rattle.words.specs.Slices.{AllBytes}
 use Rattle.words.proofs.Recode.{recode-back, recode-fit}

@@ -24,7 +24,7 @@ use Rattle.chain_calls.specs.Theorems.{NeverMovingFails, MarkerFails, MadeUpFai
 use Rattle.chain_calls.specs.Theorems.{VicCreateInOrder, VicPortInOrder, VicChooseInOrder, VicUnchanged}
 use Rattle.chain_calls.specs.Theorems.{TimerInOrder, TimerUnchanged}
 use Rattle.timer.specs.Calls.{TimerRanUnique}
-use Rattle.timer.specs.Theorems.{TicksAdd, TicksSetTO, ReachesEveryPeriod, OneShot, ElapsedIsTicks, TimerSavesLoaded, TimerMetSaves, TimersLoad}
+use Rattle.timer.specs.Theorems.{TicksAdd, ZerosWithin, TicksSetTO, ReachesEveryPeriod, OneShot, ElapsedIsTicks, TimerSavesLoaded, TimerMetSaves, TimersLoad}
 use Rattle.timer.specs.Theorems.{TimerFieldTold, TimerCasesHold}
 use Rattle.vic.specs.Theorems.{ChosenIs, ChosenOne, NothingChosen, TooLargeExactly, ToldWhole, Configures, Drives, Triggers, Enables, Stays, Starts, CasesHold}
 
@@ -457,6 +457,10 @@ one-shot = Rattle.timer.proofs.Periods.one-shot
 -- Ticks made in two goes are the ticks of both.
 pub ticks-add : TicksAdd
 ticks-add = Rattle.timer.proofs.Periods.ticks-add
+
+-- No more than n of n ticks reach zero: so the value of a run tells their number whole.
+pub zeros-within : ZerosWithin
+zeros-within = Rattle.timer.proofs.Periods.zeros-within
 
 -- "Time between two snapshots of a full-period timer": n ticks apart, and written to in no other way, it is n modulo 2^32.
 pub elapsed-is-ticks : ElapsedIsTicks

@@ -15,7 +15,7 @@ use Rattle.timer.specs.declared.Between.the-variants.{Ticks}
 use Rattle.timer.specs.Counting.{reaches, tickOf, afterTicks, zerosIn, ranOf}
 use Rattle.timer.specs.Registers.{snappedOf, elapsedOf, betweenOf}
 use Rattle.timer.specs.Helpers.Parts.{after}
-use Rattle.timer.specs.Theorems.{hits, InTwo, TicksAdd, SetsTO, TicksSetTO, first, Periodic, ReachesEveryPeriod, Once, OneShot, Snap, ElapsedIsTicks}
+use Rattle.timer.specs.Theorems.{hits, InTwo, TicksAdd, ZerosWithin, SetsTO, TicksSetTO, first, Periodic, ReachesEveryPeriod, Once, OneShot, Snap, ElapsedIsTicks}
 use Rattle.timer.proofs.Along.{Stands, stands-is, down, bottom, within, round, turns, above, ran-down, ran-on, ran-once}
 use Rattle.timer.proofs.InRegisters.{between-full, write-snapl, write-snaph}
 
@@ -33,6 +33,15 @@ ticks-add n (suc m) t =
       timer = ap (λ (k : ℕ). afterTicks k t) (add-suc n m) ∙ ap tickOf (both .timer);
       zeros = ap (λ (k : ℕ). zerosIn k t) (add-suc n m) ∙ rw (both .zeros, both .timer) (add-assoc (zerosIn n t) _ _);
     }
+
+flag-le : (b : Bool) → flag b ≤ 1
+flag-le true = omega arith
+flag-le false = omega arith
+
+pub zeros-within : ZerosWithin
+unfolding zerosIn
+zeros-within zero t = omega arith
+zeros-within (suc n) t = let h = zeros-within n t in let f = flag-le (reaches (afterTicks n t)) in omega (arith, h, f)
 
 tick-to : (t : Timer) → tickOf t .to ≡ (reaches t || t .to)
 unfolding tickOf

@@ -36,6 +36,10 @@ pub record InTwo (n m : ℕ) (t : Timer) : Type 0 where
 abbrev pub TicksAdd : Type 0
 TicksAdd = (n m : ℕ) (t : Timer) → InTwo n m t
 
+-- No more than n of n ticks reach zero: so the value of a run tells their number whole.
+abbrev pub ZerosWithin : Type 0
+ZerosWithin = (n : ℕ) (t : Timer) → zerosIn n t ≤ n
+
 -- A tick that reaches zero sets TO, whatever TO was; another leaves it.
 pub record SetsTO (t : Timer) : Type 0 where
   pub sets : reaches t ≡ true → tickOf t .to ≡ true
