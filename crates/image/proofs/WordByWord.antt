@@ -9,7 +9,7 @@ use lib.ListN.{length, drop}
 use lib.Seq.{drop-drop}
 use lib.Dec.{lit≤}
 use Rattle.words.specs.declared.Order.the-variants.{MostFirst}
-use Rattle.words.specs.Numbers.{join, split, recode, bytes}
+use Rattle.words.specs.Numbers.{split, recode, bytes}
 use Rattle.words.specs.Slices.{numberAt, AllBytes}
 use Rattle.words.proofs.Groups.{recodes, Even, parts, fours, recode-groups, parts-all, parts-fit, number-join, number-lt}
 use Rattle.image.specs.Layout.{widths, fromNumbers, fields}

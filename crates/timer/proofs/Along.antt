@@ -2,14 +2,13 @@
 -- Assumes nothing.
 use Prim.Native.Nat.{ℕ, zero, suc, _+_, _-_, _*_, _/_, _%_, _≤_, _<_}
 use mathlib.Core.Path.{_≡_, refl, sym, ap, subst, _∙_}
-use mathlib.Core.Bool.{Bool, true, false, not, cond, _&&_, _||_}
+use mathlib.Core.Bool.{Bool, true, false, not, _||_}
 use native.Mathlib.Nat.{zero-add, add-zero, suc-mul, zero-mul, mod-lt, div-add-mod'}
 use native.Mathlib.Omega.{arith}
 use lib.Dec.{eqb}
-use borrow.Author.Tests.{eq-eqb, ne-eqb}
+use borrow.Author.Tests.{ne-eqb}
 use Rattle.words.specs.Bits.{flag}
 use Rattle.timer.specs.declared.Timer.{Timer}
-use Rattle.timer.specs.declared.Ran.{Ran}
 use Rattle.timer.specs.Counting.{stand, reaches, tickOf, afterTicks, zerosIn, ranOf}
 use Rattle.timer.specs.Helpers.Parts.{standing, after}
 

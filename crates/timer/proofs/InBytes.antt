@@ -20,7 +20,7 @@ use Rattle.words.specs.Packed.{noFields, packedOver, fieldsPut}
 use Rattle.words.specs.Fields.{firstFalse}
 use Rattle.words.proofs.Bits.{flag-back, flag-bit}
 use Rattle.words.proofs.Bytes.{bytes-fit, fit-bytes}
-use Rattle.words.proofs.Recode.{recode-back, recode-fit, split-fit}
+use Rattle.words.proofs.Recode.{recode-back, recode-fit}
 use Rattle.words.proofs.Orders.{length-split}
 use Rattle.words.proofs.Groups.{recodes, parts, recode-groups, parts-all, parts-fit, number-join, number-lt}
 use Rattle.words.proofs.Packing.{fields-packed}
@@ -31,9 +31,9 @@ use Rattle.timer.specs.declared.LoadedTimer.{LoadedTimer}
 use Rattle.timer.specs.declared.LoadedTimer.the-variants as loaded
 use Rattle.timer.specs.declared.SavedTimer.{SavedTimer}
 use Rattle.timer.specs.declared.SavedTimer.the-variants as saved
-use Rattle.timer.specs.Saved.{field, timerOf, values, widths, bytesOfTimer, numbers, rules, lowestBroken, sized, judged, loadOf, saveOf, savedOver, loadNumber, saveNumber, imageNumber, TimerWasLoaded, TimerWasSaved, Typed}
+use Rattle.timer.specs.Saved.{field, timerOf, values, widths, bytesOfTimer, numbers, rules, lowestBroken, sized, judged, loadOf, saveOf, savedOver, loadNumber, saveNumber, TimerWasLoaded, TimerWasSaved, Typed}
 use Rattle.timer.specs.Helpers.Parts.{flagWidths}
-use Rattle.timer.specs.Theorems.{SavesBack, TimerSavesLoaded, TimerFieldTold}
+use Rattle.timer.specs.Theorems.{TimerSavesLoaded, TimerFieldTold}
 
 -- ---- the layout in words
 
@@ -87,10 +87,6 @@ unbroken false c e = absurd (omega (arith, e))
 
 broken-is : (vs : List ℕ) → lowestBroken vs ≡ cond (leb (field 1 vs) (field 2 vs)) (cond (eqb (field 4 vs) 0) 0 4) 2
 broken-is vs = broken-by (leb (field 1 vs) (field 2 vs)) (eqb (field 4 vs) 0)
-
--- a timer that keeps the one rule that its numbers can break
-pub keeps-rule : (t : Timer) → t .counter ≤ t .period → lowestBroken (values t) ≡ 0
-keeps-rule t h = rw (le-leb (t .counter) (t .period) h)
 
 -- The field told breaks its rule, and every field before it keeps its own.
 pub timer-field-told : TimerFieldTold

@@ -1,17 +1,15 @@
 -- Every timer met in use keeps the rules, and saves to bytes that load; so do all bytes that the calls leave.
 -- Assumes nothing.
-use Prim.Native.Nat.{ℕ, zero, suc, _+_, _*_, _^_, _≤_, _<_}
+use Prim.Native.Nat.{ℕ, zero, suc, _^_, _≤_, _<_}
 use mathlib.Core.Path.{_≡_, refl, sym, ap, subst, _∙_}
 use mathlib.Core.Bool.{Bool, true, false, cond, not}
 use mathlib.Core.List.{List, [], _∷_}
 use native.Mathlib.Omega.{arith}
 use borrow.Author.Tests.{eqb-true}
 use lib.Dec.{eqb}
-use lib.ListN.{length, getD}
+use lib.ListN.{getD}
 use Rattle.words.specs.Promise.{Answers}
 use Rattle.timer.specs.declared.Timer.{Timer}
-use Rattle.timer.specs.declared.LoadedTimer.the-variants.{Good}
-use Rattle.timer.specs.declared.WroteTimer.the-variants.{Done}
 use Rattle.timer.specs.Counting.{createdOf, nextOf, tickOf, afterTicks}
 use Rattle.timer.specs.Registers.{isRegister, writes, writtenOf, writeOf}
 use Rattle.timer.specs.Saved.{bytesOfTimer, loadOf, Typed}
@@ -19,7 +17,7 @@ use Rattle.timer.specs.Calls.{timerIn, registerNumber, writeNumber}
 use Rattle.timer.specs.Met.{Met}
 use Rattle.timer.specs.Met as met
 use Rattle.timer.specs.InUse as bytes
-use Rattle.timer.specs.Theorems.{SavesToLoad, TimerMetSaves, LoadsAs, TimersLoad}
+use Rattle.timer.specs.Theorems.{TimerMetSaves, LoadsAs, TimersLoad}
 use Rattle.timer.proofs.Along.{above, tick-stopped}
 use Rattle.timer.proofs.InBytes.{done-is, lent-is, load-saved, good-keeps, good-typed, good-timer, good-bytes}
 use Rattle.timer.proofs.InRegisters.{written-is}

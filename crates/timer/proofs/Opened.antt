@@ -20,8 +20,8 @@ use Rattle.timer.specs.declared.LoadedTimer.the-variants.{Good, Refused}
 use Rattle.timer.specs.declared.ReadTimer.the-variants as read
 use Rattle.timer.specs.declared.WroteTimer.the-variants as wrote
 use Rattle.timer.specs.declared.Between.the-variants as between
-use Rattle.timer.specs.Counting.{createdOf, afterTicks, zerosIn, ranOf}
-use Rattle.timer.specs.Registers.{isRegister, registerOf, writtenOf, readOf, writeOf, lineUp, isFull, betweenOf}
+use Rattle.timer.specs.Counting.{createdOf, ranOf}
+use Rattle.timer.specs.Registers.{registerOf, writtenOf, readOf, writeOf, lineUp, isFull, betweenOf}
 use Rattle.timer.specs.Saved.{timerOf, numbers, lowestBroken, sized, bytesOfTimer, loadOf}
 use Rattle.timer.specs.Calls.{timerIn, valueBytes, isValue, afterRules, registerNumber, periodNumber, createNumber, readNumber, writeNumber, valueNumber, elapsedNumber, TimerCreated, TimerRead, TimerWritten, TimerLine, TimerRan, TimerElapsed}
 use Rattle.timer.proofs.InBytes.{good-length, good-rules, good-timer}

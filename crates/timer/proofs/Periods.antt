@@ -15,7 +15,7 @@ use Rattle.timer.specs.declared.Between.the-variants.{Ticks}
 use Rattle.timer.specs.Counting.{reaches, tickOf, afterTicks, zerosIn, ranOf}
 use Rattle.timer.specs.Registers.{snappedOf, elapsedOf, betweenOf}
 use Rattle.timer.specs.Helpers.Parts.{after}
-use Rattle.timer.specs.Theorems.{hits, InTwo, TicksAdd, ZerosWithin, SetsTO, TicksSetTO, first, Periodic, ReachesEveryPeriod, Once, OneShot, Snap, ElapsedIsTicks}
+use Rattle.timer.specs.Theorems.{hits, TicksAdd, ZerosWithin, TicksSetTO, first, Periodic, ReachesEveryPeriod, Once, OneShot, Snap, ElapsedIsTicks}
 use Rattle.timer.proofs.Along.{Stands, stands-is, down, bottom, within, round, turns, above, ran-down, ran-on, ran-once}
 use Rattle.timer.proofs.InRegisters.{between-full, write-snapl, write-snaph}
 

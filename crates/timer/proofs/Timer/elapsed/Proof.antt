@@ -1,7 +1,6 @@
 use Rattle.timer.proofs.InRegisters.{was-elapsed, between-other, between-full, wraps}
-use Rattle.timer.specs.Registers.{elapsedOf}
 use Rattle.timer.specs.declared.Between.the-variants.{Ticks}
-use mathlib.Core.Path.{_≡_, sym, ap, _∙_}
+use mathlib.Core.Path.{sym, ap, _∙_}
 use borrow.Author.Needs.{needs}
 use Rattle.timer.proofs.Timer.elapsed.Statement.{statement}
 use Rattle.timer.proofs.Timer.elapsed.Tie as tie

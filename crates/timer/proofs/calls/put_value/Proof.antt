@@ -1,4 +1,4 @@
-use mathlib.Core.Path.{refl, sym, _∙_}
+use mathlib.Core.Path.{sym, _∙_}
 use Rattle.words.proofs.Slices.{put-all}
 use borrow.Author.Needs.{needs}
 use Rattle.timer.proofs.calls.put_value.Statement.{statement}
