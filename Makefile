@@ -35,8 +35,8 @@ target/staticlib/libsgdma.a: $(wildcard crates/*/src/*.rt)
 # The C programs.
 LENT = $(INCLUDE)/sgdma.h $(LIBRARY)
 
-$(BUILD)/bench: bench/bench.c bench/shared.c bench/show.c bench/firmware.c bench/core.c
-$(BUILD)/tests: $(filter-out tests/header.c,$(wildcard tests/*.c)) bench/core.c
+$(BUILD)/bench: $(wildcard bench/*.c)
+$(BUILD)/tests: $(filter-out tests/header.c,$(wildcard tests/*.c)) bench/core.c bench/timer.c
 $(BUILD)/example: $(BUILD)/example.c
 $(BUILD)/bridge: harness/bridge/bridge.c
 

@@ -5,6 +5,7 @@
  */
 #include "shared.h"
 #include "show.h"
+#include "stall.h"
 
 #include <inttypes.h>
 #include <stdio.h>
@@ -118,7 +119,8 @@ static const struct scene SCENES[] = {
     },
 };
 
-enum { SCENE_COUNT = sizeof SCENES / sizeof *SCENES };
+/* Two more are played by themselves. */
+enum { SCENE_COUNT = sizeof SCENES / sizeof *SCENES, ALL_SCENES = SCENE_COUNT + 2 };
 
 /* What came of a scene. */
 struct outcome {
@@ -360,9 +362,7 @@ static bool play(size_t number, const struct scene *scene)
     as = as_it_must_be(scene, &outcome);
     if (scene->saved_after || scene->spoiled_after)
         as = same_end(scene, end) && as;
-    if (!as)
-        printf("    NOT AS IT MUST BE\n");
-    return as;
+    return show_verdict(as);
 }
 
 int main(void)
@@ -372,7 +372,8 @@ int main(void)
     show_legend();
     for (size_t i = 0; i < SCENE_COUNT; i++)
         good += play(i + 1, &SCENES[i]);
-    good += play_shared(SCENE_COUNT + 1, ENABLES);
-    printf("\n%zu of %d scenes are as they must be\n", good, SCENE_COUNT + 1);
-    return good == SCENE_COUNT + 1 ? 0 : 1;
+    good += play_stall(SCENE_COUNT + 1, ENABLES);
+    good += play_shared(SCENE_COUNT + 2, ENABLES);
+    printf("\n%zu of %d scenes are as they must be\n", good, ALL_SCENES);
+    return good == ALL_SCENES ? 0 : 1;
 }

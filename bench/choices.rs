@@ -1,7 +1,7 @@
 //! Choosing a port of an interrupt controller: the library against the model.
 
 use super::{agreed, least_of_both, missed, CALLS_AT_ONCE};
-use harness::call::{Call, Lent, Party};
+use harness::call::{Call, Lent, Party, VicCall};
 use harness::model::{Config, Controller, CHOICE_SIZE};
 
 /// "at least as fast"
@@ -22,10 +22,11 @@ fn choose(ports: u8, enabled: bool, level: fn(u16) -> u16) -> Call {
         }
         .bits();
     }
-    Call::VicChoose {
+    VicCall::Choose {
         vic: Lent::from(controller.pack().as_slice()),
         answer: Lent::zeros(CHOICE_SIZE),
     }
+    .into()
 }
 
 /// Levels in no order, of which the largest stands in the middle.

@@ -4,7 +4,7 @@
 #include <stdio.h>
 #include <stdlib.h>
 
-static void must_be_done(const char *call, uint32_t number)
+void must_be_done(const char *call, uint32_t number)
 {
     if (number != SGDMA_DONE) {
         fprintf(stderr, "%s was refused: %" PRIu32 ", field %" PRIu32 "\n", call,

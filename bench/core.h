@@ -68,6 +68,9 @@ struct fault {
     uint32_t address;
 };
 
+/* Ends the program, and tells the call, where the number is a refusal. */
+void must_be_done(const char *call, uint32_t number);
+
 /* A number of `size` bytes, the most significant first. */
 uint32_t number_at(const uint8_t *bytes, size_t size);
 

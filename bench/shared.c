@@ -4,23 +4,30 @@
 #include <stdio.h>
 
 #include "show.h"
+#include "timer.h"
 
-/* The cores are A and B, on the ports 0 and 1. */
-enum { CORES = 2, VECTOR_BYTES = 16, HANDLERS = 0x8000, SILENT_AFTER = 40, MOST_SERVED = 16 };
+/* The cores are A and B, on the ports 0 and 1; the timer is on the port behind them. */
+enum { CORES = 2, TIMER = CORES, PORTS, VECTOR_BYTES = 16, HANDLERS = 0x8000 };
+enum { SILENT_AFTER = 40, MOST_SERVED = 16 };
 
-static const uint32_t LEVELS[CORES] = {3, 7};
+static const char *const NAMES[PORTS] = {"core A", "core B", "timer"};
+static const uint32_t LEVELS[PORTS] = {3, 7, 5};
 
-/* Which are served: both in two slices, then A alone, since B has no more samples. */
-static const uint32_t MUST[] = {1, 0, 1, 0, 0, 0};
+/* The timer reaches zero every 30 ticks, at 29, 59 and so on; a slice has 20. */
+enum { PERIOD = 29 };
+
+/* Which are served: the cores, both in two slices, then A alone, since B has no more
+   samples; and the timer in the second slice and the third. */
+static const uint32_t MUST[] = {1, 0, 1, TIMER, 0, TIMER, 0, 0};
 
 enum { MUST_COUNT = sizeof MUST / sizeof *MUST };
 
 struct bench {
     uint8_t vic[SGDMA_VIC_SIZE];
     struct firmware cores[CORES];
+    struct timer timer;
     uint32_t served[MOST_SERVED];
     size_t count;
-    bool refused; /* by the controller */
 };
 
 /* What the controller tells. */
@@ -31,44 +38,47 @@ struct told {
     uint32_t handler;
 };
 
-static void must_be_done(struct bench *bench, uint32_t number)
-{
-    bench->refused |= number != SGDMA_DONE;
-}
-
 static void begin(struct bench *bench, uint32_t enables)
 {
     bench->count = 0;
-    bench->refused = false;
-    must_be_done(bench, sgdma_vic_create(bench->vic, sizeof bench->vic, CORES,
-                                         VECTOR_BYTES, HANDLERS));
-    for (uint32_t port = 0; port < CORES; port++) {
-        firmware_begin(&bench->cores[port], enables);
-        must_be_done(bench, sgdma_vic_configure(bench->vic, sizeof bench->vic, port,
-                                                LEVELS[port], port, 0));
-        must_be_done(bench, sgdma_vic_enable(bench->vic, sizeof bench->vic, port, 1));
+    must_be_done("sgdma_vic_create", sgdma_vic_create(bench->vic, sizeof bench->vic, PORTS,
+                                                      VECTOR_BYTES, HANDLERS));
+    for (uint32_t port = 0; port < PORTS; port++) {
+        must_be_done("sgdma_vic_configure",
+                     sgdma_vic_configure(bench->vic, sizeof bench->vic, port,
+                                         LEVELS[port], port, 0));
+        must_be_done("sgdma_vic_enable",
+                     sgdma_vic_enable(bench->vic, sizeof bench->vic, port, 1));
     }
+    for (size_t i = 0; i < CORES; i++)
+        firmware_begin(&bench->cores[i], enables);
     bench->cores[1].in.beats = SILENT_AFTER;
     for (size_t i = 0; i < CORES; i++)
         firmware_start(&bench->cores[i]);
+    timer_make(&bench->timer, PERIOD);
+    timer_write(&bench->timer, SGDMA_TIMER_REGISTER_CONTROL,
+                SGDMA_TIMER_CONTROL_ITO | SGDMA_TIMER_CONTROL_CONT |
+                    SGDMA_TIMER_CONTROL_START);
 }
 
-/* Brings the line of a core to its port. */
+/* Brings the line of a core or of the timer to its port. */
 static bool bring_line(struct bench *bench, uint32_t port)
 {
-    bool up = core_line(&bench->cores[port].core);
+    bool up = port == TIMER ? timer_line(&bench->timer)
+                            : core_line(&bench->cores[port].core);
 
-    must_be_done(bench, sgdma_vic_line(bench->vic, sizeof bench->vic, port, up));
+    must_be_done("sgdma_vic_line",
+                 sgdma_vic_line(bench->vic, sizeof bench->vic, port, up));
     return up;
 }
 
-static struct told ask(struct bench *bench)
+static struct told ask(const struct bench *bench)
 {
     uint8_t answer[SGDMA_VIC_ANSWER_SIZE];
     struct told told;
 
-    must_be_done(bench, sgdma_vic_choose(bench->vic, sizeof bench->vic, answer,
-                                         sizeof answer));
+    must_be_done("sgdma_vic_choose", sgdma_vic_choose(bench->vic, sizeof bench->vic,
+                                                      answer, sizeof answer));
     told.chosen = number_at(answer + SGDMA_VIC_ANSWER_CHOSEN_AT, 2) == 1;
     told.port = number_at(answer + SGDMA_VIC_ANSWER_PORT_AT, 2);
     told.level = number_at(answer + SGDMA_VIC_ANSWER_LEVEL_AT, 1);
@@ -76,44 +86,59 @@ static struct told ask(struct bench *bench)
     return told;
 }
 
-/* Serves the core that is told, and the next, until none is. */
+/* Reads the status of the timer, and clears what was read. */
+static uint32_t acknowledge_timer(struct timer *timer)
+{
+    uint32_t status = timer_read(timer, SGDMA_TIMER_REGISTER_STATUS);
+
+    timer_write(timer, SGDMA_TIMER_REGISTER_STATUS, 0);
+    return status;
+}
+
+/* Serves what is on this port: takes its line down, and shows the status read. */
+static void serve_port(struct bench *bench, uint32_t port)
+{
+    if (port == TIMER)
+        show_timer_status(acknowledge_timer(&bench->timer));
+    else
+        show_status(firmware_acknowledge(&bench->cores[port]));
+    bring_line(bench, port);
+}
+
+/* Serves the port that is told, and the next, until none is. */
 static void serve(struct bench *bench)
 {
     struct told told = ask(bench);
 
-    while (!bench->refused && told.chosen && bench->count < MOST_SERVED) {
-        uint32_t status = firmware_acknowledge(&bench->cores[told.port]);
-
-        printf("                           core %c  %5" PRIu32 "  0x%04" PRIX32,
-               told.port == 0 ? 'A' : 'B', told.level, told.handler);
-        show_status(status);
+    while (told.chosen && bench->count < MOST_SERVED) {
+        printf("                              %-6s  %5" PRIu32 "  0x%04" PRIX32,
+               NAMES[told.port], told.level, told.handler);
+        serve_port(bench, told.port);
         printf("\n");
         bench->served[bench->count++] = told.port;
-        bring_line(bench, told.port);
         told = ask(bench);
     }
 }
 
-/* One slice of each core; whether either goes on. */
+/* One slice of each core, and so many ticks; whether either core goes on. */
 static bool slice(struct bench *bench, size_t number)
 {
     bool goes_on = false;
-    bool up[CORES];
 
-    for (uint32_t port = 0; port < CORES; port++) {
-        struct ran ran = firmware_run(&bench->cores[port]);
-
-        goes_on |= ran.reason == SGDMA_REASON_BUDGET;
-        up[port] = bring_line(bench, port);
-    }
-    printf("    %5zu  %-6s  %s\n", number, up[0] ? "up" : "down", up[1] ? "up" : "down");
+    for (size_t i = 0; i < CORES; i++)
+        goes_on |= firmware_run(&bench->cores[i]).reason == SGDMA_REASON_BUDGET;
+    timer_run(&bench->timer, SLICE);
+    printf("    %5zu", number);
+    for (uint32_t port = 0; port < PORTS; port++)
+        printf(port == TIMER ? "  %s\n" : "  %-4s",
+               bring_line(bench, port) ? "up" : "down");
     serve(bench);
     return goes_on;
 }
 
 static bool served_as(const struct bench *bench)
 {
-    bool as = bench->count == MUST_COUNT && !bench->refused;
+    bool as = bench->count == MUST_COUNT;
 
     for (size_t i = 0; as && i < MUST_COUNT; i++)
         as = bench->served[i] == MUST[i];
@@ -125,19 +150,15 @@ bool play_shared(size_t number, uint32_t enables)
 {
     static struct bench bench;
     size_t slices = 0;
-    bool as;
 
-    printf("\n%zu.  Two cores on one interrupt controller\n"
-           "    B has the larger level: where both are up, it is told first.\n\n"
-           "    slice  line A  line B  served  level  handler  status read and cleared\n",
+    printf("\n%zu.  Two cores and the timer on one interrupt controller\n"
+           "    Of those whose lines are up the one with the largest level is told first.\n\n"
+           "    slice  A     B     timer  served  level  handler  status read and cleared\n",
            number);
     begin(&bench, enables);
     while (slice(&bench, ++slices))
         ;
     printf("\n    done: %zu descriptors of A, %zu of B, whose stream stopped short\n",
            firmware_done(&bench.cores[0]), firmware_done(&bench.cores[1]));
-    as = served_as(&bench);
-    if (!as)
-        printf("    NOT AS IT MUST BE\n");
-    return as;
+    return show_verdict(served_as(&bench));
 }

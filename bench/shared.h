@@ -1,5 +1,5 @@
 /*
- * The scene of two cores that share one interrupt controller.
+ * The scene of two cores and a timer that share one interrupt controller.
  */
 #ifndef SHARED_H
 #define SHARED_H

@@ -19,15 +19,22 @@ static const char *const REASONS[] = {
     [SGDMA_REASON_LEDGER_FULL] = "LedgerFull",
 };
 
-static const struct {
+struct bit {
     uint32_t bit;
     const char *name;
-} STATUS_BITS[] = {
+};
+
+static const struct bit STATUS_BITS[] = {
     {SGDMA_STATUS_ERROR, "ERROR"},
     {SGDMA_STATUS_EOP_ENCOUNTERED, "EOP"},
     {SGDMA_STATUS_DESCRIPTOR_COMPLETED, "DESCRIPTOR"},
     {SGDMA_STATUS_CHAIN_COMPLETED, "CHAIN"},
     {SGDMA_STATUS_BUSY, "BUSY"},
+};
+
+static const struct bit TIMER_STATUS_BITS[] = {
+    {SGDMA_TIMER_STATUS_TO, "TO"},
+    {SGDMA_TIMER_STATUS_RUN, "RUN"},
 };
 
 #define IN_HAND "be 0 but in Move and WriteBack"
@@ -119,12 +126,23 @@ void show_slice_heading(void)
            "status read and cleared\n");
 }
 
-void show_status(uint32_t status)
+static void show_bits(uint32_t status, const struct bit *bits, size_t count)
 {
     printf("  0x%02" PRIX32, status);
-    for (size_t i = 0; i < sizeof STATUS_BITS / sizeof *STATUS_BITS; i++)
-        if (status & STATUS_BITS[i].bit)
-            printf(" %s", STATUS_BITS[i].name);
+    for (size_t i = 0; i < count; i++)
+        if (status & bits[i].bit)
+            printf(" %s", bits[i].name);
+}
+
+void show_status(uint32_t status)
+{
+    show_bits(status, STATUS_BITS, sizeof STATUS_BITS / sizeof *STATUS_BITS);
+}
+
+void show_timer_status(uint32_t status)
+{
+    show_bits(status, TIMER_STATUS_BITS,
+              sizeof TIMER_STATUS_BITS / sizeof *TIMER_STATUS_BITS);
 }
 
 void show_slice(size_t number, const struct slice *slice)
@@ -191,4 +209,11 @@ void show_ledger(struct ledger ledger, uint32_t taken)
     }
     printf("       sum                   %5" PRIu32 "  of %" PRIu32 " beats taken\n",
            bytes, taken);
+}
+
+bool show_verdict(bool as)
+{
+    if (!as)
+        printf("    NOT AS IT MUST BE\n");
+    return as;
 }

@@ -27,14 +27,18 @@ void show_legend(void);
 void show_slice_heading(void);
 void show_slice(size_t number, const struct slice *slice);
 
-/* A status as it was read, in number and names. */
+/* A status as it was read, in number and names: of a core, and of a timer. */
 void show_status(uint32_t status);
+void show_timer_status(uint32_t status);
 
 void show_found_heading(void);
 void show_found(const struct found *found);
 
 /* A refusal; where it is that of an image, with the field in words. */
 void show_refused(uint32_t number);
+
+/* Whether a scene is as it must be, which is told where it is not. */
+bool show_verdict(bool as);
 
 /* The records used, and the sum of their bytes beside the beats taken. */
 void show_ledger(struct ledger ledger, uint32_t taken);

@@ -10,6 +10,7 @@
 //! missed; nothing fails by it.
 
 mod choices;
+mod timers;
 
 use harness::bulk::Bulk;
 use harness::call::{libraries, Call, Lent, Party, Told};
@@ -482,6 +483,7 @@ fn main() -> ExitCode {
     compare_runs(library.as_ref());
     compare_calls(library.as_ref());
     choices::compare_choices(library.as_ref());
+    timers::compare_timers(library.as_ref());
     show_growth(library.as_ref());
     ExitCode::SUCCESS
 }

@@ -23,10 +23,20 @@
  *   sgdma_vic_trigger         an interrupt by software
  *   sgdma_vic_choose          which port is to be served, and by which handler
  *
+ * Beside them stands an interval timer (chapter 26, Interval Timer Core, in its
+ * 32-bit form), with which firmware times what the cores do:
+ *
+ *   sgdma_timer_create        a timer, stopped, with its period
+ *   sgdma_timer_write         its registers: start and stop, period, snapshot
+ *   sgdma_timer_run           so many ticks
+ *   sgdma_timer_line          whether its interrupt line is up
+ *   sgdma_timer_read          what its registers hold
+ *   sgdma_timer_elapsed       the ticks between two snapshots
+ *
  * The library keeps nothing between calls. All there is of a core is its image,
  * 44 bytes that belong to the caller. A copy of the image, with a copy of the
  * window, is the saved core; lent to the next call, it goes on from there. A
- * controller is 88 bytes in the same way.
+ * controller is 88 bytes in the same way, and a timer is 14.
  *
  * For every call
  *
@@ -52,8 +62,8 @@
  *
  *   Numbers in lent bytes have the most significant byte first, in the image,
  *   the report, the value, the descriptor answer, the beats, the records of the
- *   ledger, the controller and its answer. Descriptors in the window are
- *   little-endian, as the core has them.
+ *   ledger, the controller and its answer, and the timer. Descriptors in the
+ *   window are little-endian, as the core has them.
  */
 #ifndef SGDMA_H
 #define SGDMA_H
@@ -75,6 +85,7 @@ extern "C" {
 #define SGDMA_DESCRIPTOR_ANSWER_SIZE  18
 #define SGDMA_VIC_SIZE                88
 #define SGDMA_VIC_ANSWER_SIZE         12
+#define SGDMA_TIMER_SIZE              14
 
 /*
  * The window
@@ -442,6 +453,90 @@ extern "C" {
 #define SGDMA_VIC_FIELD_FIRST_CONFIG  UINT32_C(8) /* the 16 bits of port p: 8 + p, to 39 */
 
 /*
+ * The interval timer
+ *
+ * A counter of 32 bits that is taken down, one a tick, while the timer runs. In
+ * the tick in which its new value is 0 it has reached zero, and TO is set. It
+ * stands at 0 for one tick: the next one loads it with the period and, where CONT
+ * is 0 then, stops the timer. So one that runs on with CONT 1 and is not written
+ * to reaches zero every period + 1 ticks, and TO is set each time; with period 0
+ * that is in every tick. A timer that is stopped stays as it is, however many
+ * ticks pass. Its line is up exactly while TO and ITO are both 1.
+ *
+ * It has all its registers and both commands. The pulse, the watchdog and the
+ * options that leave registers out are not modelled.
+ *
+ * Firmware times a stall of the stream with two snapshots. It makes the timer with
+ * SGDMA_TIMER_FULL_PERIOD and starts it with START and CONT. Where the stall begins
+ * and where it ends it takes a snapshot: it writes to snapl, and then reads snapl
+ * and snaph. sgdma_timer_elapsed gives the ticks between the two, also where the
+ * counter has passed zero since, as long as they are fewer than 2^32.
+ */
+#define SGDMA_TIMER_FULL_PERIOD  UINT32_C(0xFFFFFFFF)
+
+/*
+ * The timer's registers, 16 bits each: the offsets, which count registers and not
+ * bytes (table 26-3).
+ */
+#define SGDMA_TIMER_REGISTER_STATUS   UINT32_C(0)
+#define SGDMA_TIMER_REGISTER_CONTROL  UINT32_C(1)
+#define SGDMA_TIMER_REGISTER_PERIODL  UINT32_C(2) /* the period, bits 0 to 15 */
+#define SGDMA_TIMER_REGISTER_PERIODH  UINT32_C(3) /* .. and 16 to 31 */
+#define SGDMA_TIMER_REGISTER_SNAPL    UINT32_C(4) /* the snapshot, bits 0 to 15 */
+#define SGDMA_TIMER_REGISTER_SNAPH    UINT32_C(5) /* .. and 16 to 31 */
+
+/*
+ * status (table 26-5). Reading changes nothing. Every write, whatever its value,
+ * clears TO and leaves RUN. Bits 2 to 15 read 0.
+ */
+#define SGDMA_TIMER_STATUS_TO   SGDMA_BIT(0) /* the counter has reached zero */
+#define SGDMA_TIMER_STATUS_RUN  SGDMA_BIT(1) /* the counter is running; read only */
+
+/*
+ * control (table 26-6). A write stores ITO and CONT as they are given, also one
+ * that starts or stops. START starts the counter from where it is, and STOP stops
+ * it; both together mean STOP, and with neither it runs on or stays stopped. START
+ * and STOP read 0, and so do bits 4 to 15, which are ignored.
+ */
+#define SGDMA_TIMER_CONTROL_ITO    SGDMA_BIT(0) /* TO raises the line */
+#define SGDMA_TIMER_CONTROL_CONT   SGDMA_BIT(1) /* go on when the counter has reached zero */
+#define SGDMA_TIMER_CONTROL_START  SGDMA_BIT(2)
+#define SGDMA_TIMER_CONTROL_STOP   SGDMA_BIT(3)
+
+/*
+ * periodl and periodh. A write replaces its half of the period, loads the counter
+ * with the whole of the new period, and stops the timer; TO stays. So a period is
+ * written first, in either order, and the timer started then.
+ *
+ * snapl and snaph. A write to either copies the counter to the snapshot, all 32
+ * bits, whether the timer runs or not; its value is ignored. Reading gives a half
+ * of the snapshot, which stays until the next.
+ *
+ * A timer, 14 bytes. For the reader of a dump, its 8 fields in order: the byte in
+ * which each begins, its width in bits, and the rule by which a call knows that it
+ * is wrong.
+ *
+ *       field     byte  bits  rule
+ *    1  counter      0    32  none of its own: see 2
+ *    2  period       4    32  no less than the counter
+ *    3  snapshot     8    32  none
+ *    4  zero        12    12  0
+ *    5  CONT        13     1  none
+ *    6  ITO         13     1  none
+ *    7  RUN         13     1  none
+ *    8  TO          13     1  none
+ *
+ * A timer that sgdma_timer_create made keeps these rules, and so does what every
+ * call leaves of one that keeps them. One that breaks a rule is refused with
+ *
+ *   SGDMA_BAD_IMAGE + 256 x field
+ *
+ * where field is the lowest that does.
+ */
+#define SGDMA_TIMER_FIELD_PERIOD  UINT32_C(2)
+#define SGDMA_TIMER_FIELD_ZERO    UINT32_C(4)
+
+/*
  * What a call returns
  *
  * SGDMA_DONE, or the number of a refusal. SGDMA_BAD_IMAGE comes back as 8 + 256 x
@@ -450,8 +545,8 @@ extern "C" {
  *
  *   SGDMA_REFUSAL(r)  which refusal it is
  *   SGDMA_FIELD(r)    with SGDMA_BAD_IMAGE the field that is wrong, by the table
- *                     of the image or of the controller; with every other
- *                     refusal 0
+ *                     of the image, the controller or the timer; with every
+ *                     other refusal 0
  */
 #define SGDMA_REFUSAL(r)    ((r) & 255)
 #define SGDMA_FIELD(r)      ((r) >> 8)
@@ -463,8 +558,10 @@ extern "C" {
 #define SGDMA_MISALIGNED    UINT32_C(5)  /* the descriptor's address is not a multiple of 4 */
 #define SGDMA_OUTSIDE       UINT32_C(6)  /* its 32 bytes are not in the window */
 #define SGDMA_BAD_SIZE      UINT32_C(7)  /* an image, value, report or answer of wrong size */
-#define SGDMA_BAD_IMAGE     UINT32_C(8)  /* a field of image or controller is wrong: + 256 x field */
+#define SGDMA_BAD_IMAGE     UINT32_C(8)  /* a field of what is lent is wrong: + 256 x field */
 #define SGDMA_ODD_STREAM    UINT32_C(9)  /* an odd number of beat bytes, in or out */
+#define SGDMA_NO_TIMER_REGISTER  UINT32_C(16) /* offset is above 5 */
+#define SGDMA_NOT_FULL_PERIOD    UINT32_C(17) /* the timer's period is not 4,294,967,295 */
 #define SGDMA_BAD_LEDGER    UINT32_C(19) /* part of a record, or fewer records than are used */
 #define SGDMA_NO_PORT       UINT32_C(21) /* the controller lacks the port; or a count not 1 to 32 */
 #define SGDMA_ADDRESS_TOO_LARGE  UINT32_C(22) /* the chosen port's handler is past 32 bits */
@@ -653,6 +750,86 @@ uint32_t sgdma_vic_line(uint8_t *vic, size_t vic_len,
  */
 uint32_t sgdma_vic_choose(const uint8_t *vic, size_t vic_len,
                           uint8_t *answer, size_t answer_len);
+
+/*
+ * Makes a timer with this period, the value that the period registers hold: it
+ * is stopped, the counter is the period, and all else 0.
+ *
+ * Reads    nothing: what the 14 bytes held before does not matter
+ * Writes   timer
+ * Returns  SGDMA_BAD_SIZE  timer_len is not 14
+ *          SGDMA_DONE
+ */
+uint32_t sgdma_timer_create(uint8_t *timer, size_t timer_len, uint32_t period);
+
+/*
+ * Reads a register of the timer.
+ *
+ * Reads    timer
+ * Writes   value: the register, 4 bytes, of which the first two are 0
+ * Returns  SGDMA_BAD_SIZE           timer_len is not 14 or value_len not 4
+ *          SGDMA_BAD_IMAGE          + 256 x field: the 14 bytes break a rule
+ *          SGDMA_NO_TIMER_REGISTER  offset is above 5
+ *          SGDMA_DONE
+ */
+uint32_t sgdma_timer_read(const uint8_t *timer, size_t timer_len,
+                          uint32_t offset,
+                          uint8_t *value, size_t value_len);
+
+/*
+ * Writes a register of the timer, as is said of each register above. No tick
+ * passes by it.
+ *
+ * Reads    timer
+ * Writes   timer
+ * Returns  SGDMA_BAD_SIZE           timer_len is not 14
+ *          SGDMA_BAD_IMAGE          + 256 x field: the 14 bytes break a rule
+ *          SGDMA_NO_TIMER_REGISTER  offset is above 5
+ *          SGDMA_DONE
+ */
+uint32_t sgdma_timer_write(uint8_t *timer, size_t timer_len,
+                           uint32_t offset, uint16_t value);
+
+/*
+ * Reads the timer's interrupt line, which sgdma_vic_line can bring to a port.
+ *
+ * Reads    timer
+ * Writes   value: 1 where the line is up, else 0, 4 bytes
+ * Returns  SGDMA_BAD_SIZE   timer_len is not 14 or value_len not 4
+ *          SGDMA_BAD_IMAGE  + 256 x field: the 14 bytes break a rule
+ *          SGDMA_DONE
+ */
+uint32_t sgdma_timer_line(const uint8_t *timer, size_t timer_len,
+                          uint8_t *value, size_t value_len);
+
+/*
+ * Lets so many ticks pass. What that costs does not grow with their number.
+ *
+ * Reads    timer
+ * Writes   timer: as it is after the last of them
+ *          value: how many times the counter reached zero in them, 4 bytes
+ * Returns  SGDMA_BAD_SIZE   timer_len is not 14 or value_len not 4
+ *          SGDMA_BAD_IMAGE  + 256 x field: the 14 bytes break a rule
+ *          SGDMA_DONE
+ */
+uint32_t sgdma_timer_run(uint8_t *timer, size_t timer_len, uint32_t ticks,
+                         uint8_t *value, size_t value_len);
+
+/*
+ * Tells the ticks from one snapshot of this timer to a later one: the earlier
+ * minus the later, since the counter counts down, modulo 2^32. Of the timer only
+ * the period is looked at.
+ *
+ * Reads    timer
+ * Writes   value: the ticks, 4 bytes
+ * Returns  SGDMA_BAD_SIZE         timer_len is not 14 or value_len not 4
+ *          SGDMA_BAD_IMAGE        + 256 x field: the 14 bytes break a rule
+ *          SGDMA_NOT_FULL_PERIOD  the timer's period is not 4,294,967,295
+ *          SGDMA_DONE
+ */
+uint32_t sgdma_timer_elapsed(const uint8_t *timer, size_t timer_len,
+                             uint32_t earlier, uint32_t later,
+                             uint8_t *value, size_t value_len);
 
 #ifdef __cplusplus
 }

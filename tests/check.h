@@ -31,5 +31,6 @@ void test_largest_ledger(void);
 void test_refusals(void);
 void test_fields(void);
 void test_controller(void);
+void test_timer(void);
 
 #endif

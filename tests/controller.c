@@ -48,13 +48,13 @@ static uint32_t choose(struct lent *l)
 }
 
 /* Four ports of the levels 5, 9, 9 and the largest, enabled; all are up but the last. */
-static void make(struct lent *l)
+static void lent_prepare(struct lent *l, size_t answer_len)
 {
     static const uint32_t LEVELS[PORTS] = {5, 9, 9, SGDMA_VIC_LEVEL_MAX};
 
     memset(l, 0xEE, sizeof *l);
     l->vic_len = SGDMA_VIC_SIZE;
-    l->answer_len = SGDMA_VIC_ANSWER_SIZE;
+    l->answer_len = answer_len;
     l->ports = PORTS;
     check("create", create(l), SGDMA_DONE);
     for (l->port = 0; l->port < PORTS; l->port++) {
@@ -78,7 +78,7 @@ static void check_layout(void)
     struct lent l;
 
     check_case("bytes of a controller");
-    make(&l);
+    lent_prepare(&l, SGDMA_VIC_ANSWER_SIZE);
     check_bytes("vic", l.vic, WANTED, sizeof WANTED);
 }
 
@@ -106,7 +106,7 @@ static void check_order(void)
     struct lent l;
 
     check_case("ports in order of level");
-    make(&l);
+    lent_prepare(&l, SGDMA_VIC_ANSWER_SIZE);
     check_told(&l, 1, 9);
     sgdma_vic_trigger(l.vic, l.vic_len, 3, 8);
     check_told(&l, 3, 63);
@@ -125,7 +125,7 @@ static void check_ports(void)
     struct lent l;
 
     check_case("the largest controller");
-    make(&l);
+    lent_prepare(&l, SGDMA_VIC_ANSWER_SIZE);
     l.ports = SGDMA_VIC_PORTS_MAX + 1;
     check("one more", create(&l), SGDMA_NO_PORT);
     l.ports = SGDMA_VIC_PORTS_MAX;
@@ -142,7 +142,7 @@ static void check_addresses(void)
     struct lent l;
 
     check_case("the last address");
-    make(&l);
+    lent_prepare(&l, SGDMA_VIC_ANSWER_SIZE);
     memset(l.vic + 4, 0xFF, 8); /* bytes per vector and base: only port 0 has a handler */
     check("port 1", choose(&l), SGDMA_ADDRESS_TOO_LARGE);
     sgdma_vic_enable(l.vic, l.vic_len, 1, 0);
@@ -175,12 +175,14 @@ static void check_fields(void)
         struct lent l;
         uint32_t number = SGDMA_BAD_IMAGE + 256 * BROKEN[i].field;
 
-        make(&l);
+        lent_prepare(&l, SGDMA_VIC_ANSWER_SIZE);
         l.vic[BROKEN[i].at] = BROKEN[i].byte;
         check("choose", choose(&l), number);
         check("configure", configure(&l), number);
     }
 }
+
+#include "sets.h"
 
 /* The errors. They are made so that any of them can be made together. */
 static void short_vic(struct lent *l) { l->vic_len -= 1; }
@@ -193,57 +195,25 @@ static void too_large(struct lent *l) { memset(l->vic + 4, 0xFF, 8); }
 
 #define BROKEN_LAST (SGDMA_BAD_IMAGE + 256 * (SGDMA_VIC_FIELD_FIRST_CONFIG + 31))
 
-struct error {
-    void (*make)(struct lent *);
-    uint32_t refusal;
-};
-
 #define PORT_ERRORS                                                            \
     {{short_vic, SGDMA_BAD_SIZE},                                              \
      {long_vic, SGDMA_BAD_SIZE},                                               \
      {broken, BROKEN_LAST},                                                    \
      {no_port, SGDMA_NO_PORT}}
 
-/* The calls, each with its errors in the order in which they are refused. */
-static const struct call {
-    const char *name;
-    uint32_t (*make)(struct lent *);
-    struct error errors[5];
-} CALLS[] = {
-    {"sgdma_vic_create",
-     create,
-     {{short_vic, SGDMA_BAD_SIZE}, {long_vic, SGDMA_BAD_SIZE}, {no_ports, SGDMA_NO_PORT}}},
-    {"sgdma_vic_configure", configure, PORT_ERRORS},
-    {"sgdma_vic_enable", enable, PORT_ERRORS},
-    {"sgdma_vic_trigger", trigger, PORT_ERRORS},
-    {"sgdma_vic_line", line, PORT_ERRORS},
-    {"sgdma_vic_choose",
-     choose,
-     {{short_vic, SGDMA_BAD_SIZE},
-      {long_vic, SGDMA_BAD_SIZE},
-      {short_answer, SGDMA_BAD_SIZE},
-      {broken, BROKEN_LAST},
+static const struct call CALLS[] = {
+    {"sgdma_vic_create", create, 0,
+     {{short_vic, SGDMA_BAD_SIZE}, {long_vic, SGDMA_BAD_SIZE},
+      {no_ports, SGDMA_NO_PORT}}},
+    {"sgdma_vic_configure", configure, 0, PORT_ERRORS},
+    {"sgdma_vic_enable", enable, 0, PORT_ERRORS},
+    {"sgdma_vic_trigger", trigger, 0, PORT_ERRORS},
+    {"sgdma_vic_line", line, 0, PORT_ERRORS},
+    {"sgdma_vic_choose", choose, SGDMA_VIC_ANSWER_SIZE,
+     {{short_vic, SGDMA_BAD_SIZE}, {long_vic, SGDMA_BAD_SIZE},
+      {short_answer, SGDMA_BAD_SIZE}, {broken, BROKEN_LAST},
       {too_large, SGDMA_ADDRESS_TOO_LARGE}}},
 };
-
-/* The call with this set of errors: the first is told, and nothing has changed. */
-static void check_set(const struct call *call, unsigned set)
-{
-    struct lent l, before;
-    uint32_t first = SGDMA_DONE;
-
-    make(&l);
-    for (size_t i = 0; i < COUNT(call->errors) && call->errors[i].make; i++)
-        if (set >> i & 1) {
-            call->errors[i].make(&l);
-            if (first == SGDMA_DONE)
-                first = call->errors[i].refusal;
-        }
-    before = l;
-    check("number", call->make(&l), first);
-    if (first != SGDMA_DONE)
-        check_bytes("lent", (const uint8_t *)&l, (const uint8_t *)&before, sizeof l);
-}
 
 void test_controller(void)
 {
@@ -252,13 +222,5 @@ void test_controller(void)
     check_ports();
     check_addresses();
     check_fields();
-    for (size_t c = 0; c < COUNT(CALLS); c++) {
-        unsigned errors = 0;
-
-        while (errors < COUNT(CALLS[c].errors) && CALLS[c].errors[errors].make)
-            errors++;
-        check_case(CALLS[c].name);
-        for (unsigned set = 0; set < 1u << errors; set++)
-            check_set(&CALLS[c], set);
-    }
+    check_sets(CALLS, COUNT(CALLS));
 }

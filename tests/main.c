@@ -15,5 +15,6 @@ int main(void)
     test_refusals();
     test_fields();
     test_controller();
+    test_timer();
     return check_figures();
 }

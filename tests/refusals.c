@@ -2,8 +2,10 @@
  * Refusals: each call is made with every set of its errors at once. The first of
  * them in the paper's order is returned, and no lent byte has changed.
  */
-#include "check.h"
 #include "lent.h"
+#include "sets.h"
+
+#define BAD_EDITION (SGDMA_BAD_IMAGE + 256 * SGDMA_FIELD_EDITION)
 
 /* The errors. They are made so that any of them can be made together. */
 static void short_image(struct lent *l) { l->image_len -= 1; }
@@ -23,36 +25,25 @@ static void no_register(struct lent *l) { l->offset += 1; }
 static void misaligned(struct lent *l) { l->address += 2; }
 static void outside(struct lent *l) { l->address += LENT_LENGTH; }
 
-struct error {
-    void (*make)(struct lent *);
-    uint32_t refusal;
-};
-
-/* The calls, each with its errors in the order in which they are refused. */
-static const struct call {
-    const char *name;
-    lent_call *make;
-    size_t answer_len;
-    struct error errors[12]; /* the last is none */
-} CALLS[] = {
+static const struct call CALLS[] = {
     {"sgdma_create", lent_create, 0,
      {{short_image, SGDMA_BAD_SIZE}, {long_image, SGDMA_BAD_SIZE},
       {bad_mode, SGDMA_BAD_MODE}, {bad_base, SGDMA_BAD_WINDOW}}},
     {"sgdma_read_register", lent_read_register, SGDMA_VALUE_SIZE,
      {{short_image, SGDMA_BAD_SIZE}, {long_image, SGDMA_BAD_SIZE},
       {short_answer, SGDMA_BAD_SIZE}, {long_answer, SGDMA_BAD_SIZE},
-      {bad_edition, SGDMA_BAD_IMAGE}, {no_register, SGDMA_NO_REGISTER}}},
+      {bad_edition, BAD_EDITION}, {no_register, SGDMA_NO_REGISTER}}},
     {"sgdma_write_register", lent_write_register, 0,
      {{short_image, SGDMA_BAD_SIZE}, {long_image, SGDMA_BAD_SIZE},
-      {bad_edition, SGDMA_BAD_IMAGE}, {no_register, SGDMA_NO_REGISTER}}},
+      {bad_edition, BAD_EDITION}, {no_register, SGDMA_NO_REGISTER}}},
     {"sgdma_line", lent_line, SGDMA_VALUE_SIZE,
      {{short_image, SGDMA_BAD_SIZE}, {long_image, SGDMA_BAD_SIZE},
       {short_answer, SGDMA_BAD_SIZE}, {long_answer, SGDMA_BAD_SIZE},
-      {bad_edition, SGDMA_BAD_IMAGE}}},
+      {bad_edition, BAD_EDITION}}},
     {"sgdma_run", lent_run, SGDMA_REPORT_SIZE,
      {{short_image, SGDMA_BAD_SIZE}, {long_image, SGDMA_BAD_SIZE},
       {short_answer, SGDMA_BAD_SIZE}, {long_answer, SGDMA_BAD_SIZE},
-      {bad_edition, SGDMA_BAD_IMAGE}, {odd_beats, SGDMA_ODD_STREAM},
+      {bad_edition, BAD_EDITION}, {odd_beats, SGDMA_ODD_STREAM},
       {odd_out, SGDMA_ODD_STREAM}, {part_of_a_record, SGDMA_BAD_LEDGER},
       {one_record_short, SGDMA_BAD_LEDGER}, {most_used, SGDMA_BAD_LEDGER},
       {other_window, SGDMA_OTHER_WINDOW}}},
@@ -64,32 +55,6 @@ static const struct call {
       {bad_base, SGDMA_BAD_WINDOW}, {misaligned, SGDMA_MISALIGNED},
       {outside, SGDMA_OUTSIDE}}},
 };
-
-/* Makes those errors whose bits are set; the refusal that must be returned. */
-static uint32_t make_errors(struct lent *l, const struct error *errors, unsigned set)
-{
-    uint32_t refusal = SGDMA_DONE;
-
-    for (size_t i = 0; errors[i].make; i++) {
-        if (!(set >> i & 1))
-            continue;
-        errors[i].make(l);
-        if (refusal == SGDMA_DONE)
-            refusal = errors[i].refusal;
-    }
-    return refusal;
-}
-
-static void check_errors(const struct call *call, unsigned set)
-{
-    struct lent lent;
-    uint32_t refusal;
-
-    lent_prepare(&lent, call->answer_len);
-    refusal = make_errors(&lent, call->errors, set);
-    check_lent(call->make, &lent, refusal,
-               refusal == SGDMA_BAD_IMAGE ? SGDMA_FIELD_EDITION : 0);
-}
 
 /* A slice of length 0 may be NULL: where a size is asked for, that is wrong. */
 static void check_null(void)
@@ -113,14 +78,6 @@ static void check_null(void)
 
 void test_refusals(void)
 {
-    for (size_t c = 0; c < COUNT(CALLS); c++) {
-        size_t errors = 0;
-
-        while (CALLS[c].errors[errors].make)
-            errors++;
-        check_case(CALLS[c].name);
-        for (unsigned set = 0; set < 1u << errors; set++)
-            check_errors(&CALLS[c], set);
-    }
+    check_sets(CALLS, COUNT(CALLS));
     check_null();
 }

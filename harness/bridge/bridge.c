@@ -31,6 +31,12 @@ enum function {
     VIC_TRIGGER,
     VIC_LINE,
     VIC_CHOOSE,
+    TIMER_CREATE,
+    TIMER_READ,
+    TIMER_WRITE,
+    TIMER_LINE,
+    TIMER_RUN,
+    TIMER_ELAPSED,
 };
 
 /* The numbers and the slices each stand in the order of the prototype. */
@@ -83,9 +89,10 @@ static struct lent take_slice(size_t length, size_t canary, int null)
     return lent;
 }
 
-static uint32_t make_call(uint64_t function, const uint64_t *number, const struct lent *lent)
-{
 #define SLICE(place) lent[place].bytes, lent[place].length
+
+static uint32_t call_core(uint64_t function, const uint64_t *number, const struct lent *lent)
+{
     switch (function) {
     case CREATE:
         return sgdma_create(SLICE(0), number[0], number[1], number[2]);
@@ -103,6 +110,15 @@ static uint32_t make_call(uint64_t function, const uint64_t *number, const struc
                                       number[4], number[5], number[6]);
     case READ_DESCRIPTOR:
         return sgdma_read_descriptor(SLICE(0), number[0], number[1], SLICE(1));
+    }
+    fail("no such function");
+    return 0;
+}
+
+static uint32_t call_controller(uint64_t function, const uint64_t *number,
+                                const struct lent *lent)
+{
+    switch (function) {
     case VIC_CREATE:
         return sgdma_vic_create(SLICE(0), number[0], number[1], number[2]);
     case VIC_CONFIGURE:
@@ -116,9 +132,39 @@ static uint32_t make_call(uint64_t function, const uint64_t *number, const struc
     case VIC_CHOOSE:
         return sgdma_vic_choose(SLICE(0), SLICE(1));
     }
-#undef SLICE
     fail("no such function");
     return 0;
+}
+
+static uint32_t call_timer(uint64_t function, const uint64_t *number, const struct lent *lent)
+{
+    switch (function) {
+    case TIMER_CREATE:
+        return sgdma_timer_create(SLICE(0), number[0]);
+    case TIMER_READ:
+        return sgdma_timer_read(SLICE(0), number[0], SLICE(1));
+    case TIMER_WRITE:
+        return sgdma_timer_write(SLICE(0), number[0], number[1]);
+    case TIMER_LINE:
+        return sgdma_timer_line(SLICE(0), SLICE(1));
+    case TIMER_RUN:
+        return sgdma_timer_run(SLICE(0), number[0], SLICE(1));
+    case TIMER_ELAPSED:
+        return sgdma_timer_elapsed(SLICE(0), number[0], number[1], SLICE(1));
+    }
+    fail("no such function");
+    return 0;
+}
+
+#undef SLICE
+
+static uint32_t make_call(uint64_t function, const uint64_t *number, const struct lent *lent)
+{
+    if (function < VIC_CREATE)
+        return call_core(function, number, lent);
+    if (function < TIMER_CREATE)
+        return call_controller(function, number, lent);
+    return call_timer(function, number, lent);
 }
 
 static void answer(const struct frame *frame)

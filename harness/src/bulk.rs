@@ -9,7 +9,7 @@ pub mod rows;
 
 use crate::model::{
     descriptor_control, Calls, Controllers, Descriptors, Fault, Images, Ledgers, Machine, Mode,
-    Phase, Ports, Reason, Registers, Report, Steps, Windows, OUTPUT_EOP, OUTPUT_SOP,
+    Phase, Ports, Reason, Registers, Report, Steps, Timers, Windows, OUTPUT_EOP, OUTPUT_SOP,
 };
 use rows::Row;
 
@@ -22,6 +22,7 @@ impl Descriptors for Bulk {}
 impl Ledgers for Bulk {}
 impl Images for Bulk {}
 impl Controllers for Bulk {}
+impl Timers for Bulk {}
 
 impl Calls for Bulk {
     const NAME: &'static str = "bulk model";

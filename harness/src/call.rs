@@ -4,6 +4,12 @@
 //! holds every byte and number that goes in, and afterwards every byte that came
 //! back.
 
+mod controllers;
+mod timers;
+
+pub use controllers::VicCall;
+pub use timers::TimerCall;
+
 use crate::bulk::Bulk;
 use crate::model::{Calls, Paper};
 use std::fmt::{self, Display, Formatter};
@@ -88,6 +94,20 @@ pub enum Function {
     VicTrigger,
     VicLine,
     VicChoose,
+    TimerCreate,
+    TimerRead,
+    TimerWrite,
+    TimerLine,
+    TimerRun,
+    TimerElapsed,
+}
+
+impl Function {
+    /// Whether what the call leaves does not depend on what was there.
+    pub fn creates(self) -> bool {
+        use Function::{Create, TimerCreate, VicCreate};
+        matches!(self, Create | VicCreate | TimerCreate)
+    }
 }
 
 /// One call with all its arguments, in the order of the C prototypes.
@@ -139,38 +159,8 @@ pub enum Call {
         address: u32,
         answer: Lent,
     },
-    VicCreate {
-        vic: Lent,
-        ports: u32,
-        vector_bytes: u32,
-        base: u32,
-    },
-    VicConfigure {
-        vic: Lent,
-        port: u32,
-        level: u32,
-        set: u32,
-        nmi: u32,
-    },
-    VicEnable {
-        vic: Lent,
-        port: u32,
-        on: u32,
-    },
-    VicTrigger {
-        vic: Lent,
-        port: u32,
-        on: u32,
-    },
-    VicLine {
-        vic: Lent,
-        port: u32,
-        up: u32,
-    },
-    VicChoose {
-        vic: Lent,
-        answer: Lent,
-    },
+    Vic(VicCall),
+    Timer(TimerCall),
 }
 
 /// The numbers of a run's report.
@@ -241,12 +231,8 @@ impl Call {
             Call::Run { .. } => Function::Run,
             Call::BuildDescriptor { .. } => Function::BuildDescriptor,
             Call::ReadDescriptor { .. } => Function::ReadDescriptor,
-            Call::VicCreate { .. } => Function::VicCreate,
-            Call::VicConfigure { .. } => Function::VicConfigure,
-            Call::VicEnable { .. } => Function::VicEnable,
-            Call::VicTrigger { .. } => Function::VicTrigger,
-            Call::VicLine { .. } => Function::VicLine,
-            Call::VicChoose { .. } => Function::VicChoose,
+            Call::Vic(call) => call.function(),
+            Call::Timer(call) => call.function(),
         }
     }
 
@@ -258,19 +244,6 @@ impl Call {
             | Call::WriteRegister { image, .. }
             | Call::Line { image, .. }
             | Call::Run { image, .. } => Some(image),
-            _ => None,
-        }
-    }
-
-    /// The controller that the call is given, where it is given one.
-    pub fn controller(&self) -> Option<&Lent> {
-        match self {
-            Call::VicCreate { vic, .. }
-            | Call::VicConfigure { vic, .. }
-            | Call::VicEnable { vic, .. }
-            | Call::VicTrigger { vic, .. }
-            | Call::VicLine { vic, .. }
-            | Call::VicChoose { vic, .. } => Some(vic),
             _ => None,
         }
     }
@@ -309,16 +282,8 @@ impl Call {
                      Long(destination), Long(next), Short(length), Byte(control)],
             Call::ReadDescriptor { window, base, address, answer } =>
                 vec![Lent("window", window), Wide(base), Long(address), Lent("answer", answer)],
-            Call::VicCreate { vic, ports, vector_bytes, base } =>
-                vec![Lent("vic", vic), Long(ports), Long(vector_bytes), Long(base)],
-            Call::VicConfigure { vic, port, level, set, nmi } =>
-                vec![Lent("vic", vic), Long(port), Long(level), Long(set), Long(nmi)],
-            Call::VicEnable { vic, port, on } | Call::VicTrigger { vic, port, on } =>
-                vec![Lent("vic", vic), Long(port), Long(on)],
-            Call::VicLine { vic, port, up } =>
-                vec![Lent("vic", vic), Long(port), Long(up)],
-            Call::VicChoose { vic, answer } =>
-                vec![Lent("vic", vic), Lent("answer", answer)],
+            Call::Vic(call) => call.arguments(),
+            Call::Timer(call) => call.arguments(),
         }
     }
 }
@@ -340,6 +305,12 @@ impl Display for Call {
             Function::VicTrigger => "vic_trigger",
             Function::VicLine => "vic_line",
             Function::VicChoose => "vic_choose",
+            Function::TimerCreate => "timer_create",
+            Function::TimerRead => "timer_read",
+            Function::TimerWrite => "timer_write",
+            Function::TimerLine => "timer_line",
+            Function::TimerRun => "timer_run",
+            Function::TimerElapsed => "timer_elapsed",
         };
         let mut passed = Vec::new();
         for argument in self.clone().arguments() {
@@ -410,14 +381,8 @@ impl<Model: Calls> Party for Model {
                                             *length, *control),
             Call::ReadDescriptor { window, base, address, answer } =>
                 self.sgdma_read_descriptor(window, *base, *address, answer),
-            Call::VicCreate { vic, ports, vector_bytes, base } =>
-                self.sgdma_vic_create(vic, *ports, *vector_bytes, *base),
-            Call::VicConfigure { vic, port, level, set, nmi } =>
-                self.sgdma_vic_configure(vic, *port, *level, *set, *nmi),
-            Call::VicEnable { vic, port, on } => self.sgdma_vic_enable(vic, *port, *on),
-            Call::VicTrigger { vic, port, on } => self.sgdma_vic_trigger(vic, *port, *on),
-            Call::VicLine { vic, port, up } => self.sgdma_vic_line(vic, *port, *up),
-            Call::VicChoose { vic, answer } => self.sgdma_vic_choose(vic, answer),
+            Call::Vic(call) => call.answer(*self),
+            Call::Timer(call) => call.answer(*self),
         }
     }
 }
@@ -432,6 +397,16 @@ pub fn libraries() -> Vec<Box<dyn Party>> {
         .into();
     #[cfg(not(have_library))]
     Vec::new()
+}
+
+/// The library; where there is none the model itself, of which random calls then
+/// still show that they reach every case and are refused as they must be.
+pub fn libraries_or_model() -> Vec<Box<dyn Party>> {
+    let mut found = libraries();
+    if found.is_empty() {
+        found.push(Box::new(Paper));
+    }
+    found
 }
 
 /// Both models, and the library where there is one: all must give the same

@@ -1,6 +1,6 @@
 //! The same calls put to two parties.
 
-use crate::call::{Argument, Call, Function, Party};
+use crate::call::{Argument, Call, Party};
 use crate::gen::{Host, Hosts};
 use crate::shrink::shrink;
 use std::fmt::{self, Display, Formatter};
@@ -25,6 +25,24 @@ pub fn ask(party: &dyn Party, call: &Call) -> Answer {
         after,
         canaries_live,
     }
+}
+
+/// The call must be done. Gives it with its lent bytes after it.
+pub fn check_done(party: &dyn Party, call: &Call) -> Call {
+    let answer = ask(party, call);
+    let name = party.name();
+    assert_eq!(answer.returned, 0, "{name} on\n{call}");
+    assert!(answer.canaries_live, "{name} wrote beside\n{call}");
+    answer.after
+}
+
+/// The call must be refused with this number, and every byte keeps its value.
+pub fn check_refused(party: &dyn Party, call: &Call, number: u32) {
+    let answer = ask(party, call);
+    let name = party.name();
+    assert_eq!(answer.returned, number, "{name} on\n{call}");
+    assert!(answer.after == *call, "{name} changed bytes of\n{call}");
+    assert!(answer.canaries_live, "{name} wrote beside\n{call}");
 }
 
 /// A case on which two parties differ: the last call is the one that shows it.
@@ -76,19 +94,8 @@ fn drive_host<Stop>(
     Ok(())
 }
 
-/// Puts `count` calls, which follow from `seed`, to both parties. Each call that
-/// both answered alike is shown to `observe`.
-pub fn compare(
-    left: &dyn Party,
-    right: &dyn Party,
-    seed: u64,
-    count: u64,
-    observe: &mut dyn FnMut(&Call, &Answer),
-) -> Result<(), Mismatch> {
-    compare_host(&mut Host::new(seed), left, right, count, observe)
-}
-
-/// The same with the calls of any host.
+/// Puts `count` calls of a host to both parties. Each call that both answered alike
+/// is shown to `observe`.
 pub fn compare_host(
     host: &mut dyn Hosts,
     left: &dyn Party,
@@ -98,7 +105,7 @@ pub fn compare_host(
 ) -> Result<(), Mismatch> {
     let mut since_create = Vec::new();
     drive_host(host, left, count, &mut |call, answer| {
-        if matches!(call.function(), Function::Create | Function::VicCreate) {
+        if call.function().creates() {
             since_create.clear();
         }
         since_create.push(call.clone());

@@ -1,20 +1,23 @@
 //! What the calls have reached, and what they must reach.
 //!
-//! A [`Point`] is one thing that a run of random calls must have done at least
-//! once. [`required`] lists all of them; [`Coverage`] counts them.
+//! A [`Point`] is one thing that a run of random calls on a core must have done at
+//! least once. [`Coverage`] counts these, and what there is beside a core has
+//! points of its own.
 
 pub mod controllers;
+mod counts;
 mod ledgers;
 mod observe;
 mod refusals;
+pub mod timers;
 
+pub use counts::{compare_and_cover, Coverage, Numbered, Reachable};
 pub use ledgers::{LedgerFlaw, LedgerUse};
 pub use refusals::{applying, first_applying};
 
 use crate::call::{Call, Function};
 use crate::compare::Answer;
 use crate::model::{control, offset, status, ImageRule, Mode, Phase, Reason, Refusal};
-use std::collections::BTreeMap;
 
 /// What may pend.
 #[derive(Clone, Copy, Debug, PartialEq, Eq, PartialOrd, Ord)]
@@ -168,41 +171,28 @@ pub enum Point {
     RunFell(Phase),
 }
 
-/// How often each point was reached.
-#[derive(Default)]
-pub struct Coverage {
-    counts: BTreeMap<Point, u64>,
-}
-
-impl Coverage {
-    /// Counts what a call and its answer show.
-    pub fn observe(&mut self, call: &Call, answer: &Answer) {
-        observe::points(call, answer, &mut |point| {
-            *self.counts.entry(point).or_default() += 1;
-        });
+impl Reachable for Point {
+    fn required() -> Vec<Point> {
+        let lists = [
+            refusals::required(),
+            ledgers::required(),
+            image_points(),
+            run_points(),
+            step_points(),
+            move_points(),
+            write_back_points(),
+            interrupt_points(),
+            register_points(),
+        ];
+        lists.concat()
     }
 
-    /// The required point that was reached least often.
-    pub fn rarest(&self) -> Option<(Point, u64)> {
-        let count = |point: &Point| self.counts.get(point).copied().unwrap_or(0);
-        let counted = required().into_iter().map(|point| (point, count(&point)));
-        counted.min_by_key(|&(_, count)| count)
+    fn number_due(call: &Call) -> u32 {
+        first_applying(call)
     }
 
-    /// The required points that were not reached.
-    pub fn missing(&self) -> Vec<Point> {
-        let mut missing = required();
-        missing.retain(|point| !self.counts.contains_key(point));
-        missing
-    }
-
-    /// The points that were reached though nobody requires them: the list is
-    /// whole where there are none.
-    pub fn unlisted(&self) -> Vec<Point> {
-        let required = required();
-        let mut unlisted: Vec<Point> = self.counts.keys().copied().collect();
-        unlisted.retain(|point| !required.contains(point));
-        unlisted
+    fn shown(call: &Call, answer: &Answer, reach: &mut dyn FnMut(Point)) {
+        observe::points(call, answer, reach);
     }
 }
 
@@ -212,22 +202,6 @@ const OFFSETS: [u32; 3] = [
     offset::CONTROL,
     offset::NEXT_DESCRIPTOR_POINTER,
 ];
-
-/// Every point that random calls must reach.
-pub fn required() -> Vec<Point> {
-    let lists = [
-        refusals::required(),
-        ledgers::required(),
-        image_points(),
-        run_points(),
-        step_points(),
-        move_points(),
-        write_back_points(),
-        interrupt_points(),
-        register_points(),
-    ];
-    lists.concat()
-}
 
 fn image_points() -> Vec<Point> {
     let mut rules = ImageRule::ALL.to_vec();

@@ -1,6 +1,6 @@
 //! The calls of the library, linked, as its header declares them.
 
-use crate::call::Call;
+use crate::call::{Call, TimerCall, VicCall};
 use crate::library::Library;
 
 /// The prototypes: a slice is a pointer and a length.
@@ -91,6 +91,36 @@ pub mod c {
             answer: *mut u8,
             answer_len: usize,
         ) -> u32;
+        pub fn sgdma_timer_create(timer: *mut u8, timer_len: usize, period: u32) -> u32;
+        pub fn sgdma_timer_read(
+            timer: *const u8,
+            timer_len: usize,
+            offset: u32,
+            value: *mut u8,
+            value_len: usize,
+        ) -> u32;
+        pub fn sgdma_timer_write(timer: *mut u8, timer_len: usize, offset: u32, value: u16) -> u32;
+        pub fn sgdma_timer_line(
+            timer: *const u8,
+            timer_len: usize,
+            value: *mut u8,
+            value_len: usize,
+        ) -> u32;
+        pub fn sgdma_timer_run(
+            timer: *mut u8,
+            timer_len: usize,
+            ticks: u32,
+            value: *mut u8,
+            value_len: usize,
+        ) -> u32;
+        pub fn sgdma_timer_elapsed(
+            timer: *const u8,
+            timer_len: usize,
+            earlier: u32,
+            later: u32,
+            value: *mut u8,
+            value_len: usize,
+        ) -> u32;
     }
 }
 
@@ -141,19 +171,55 @@ pub(crate) fn answer(library: Library, call: &mut Call) -> u32 {
             Call::ReadDescriptor { window, base, address, answer } =>
                 c::sgdma_read_descriptor(library.lend(window), window.len(), *base, *address,
                                          library.lend_mut(answer), answer.len()),
-            Call::VicCreate { vic, ports, vector_bytes, base } =>
+            Call::Vic(call) => answer_controller(library, call),
+            Call::Timer(call) => answer_timer(library, call),
+        }
+    }
+}
+
+#[rustfmt::skip]
+fn answer_controller(library: Library, call: &mut VicCall) -> u32 {
+    // SAFETY: as above.
+    unsafe {
+        match call {
+            VicCall::Create { vic, ports, vector_bytes, base } =>
                 c::sgdma_vic_create(library.lend_mut(vic), vic.len(), *ports, *vector_bytes, *base),
-            Call::VicConfigure { vic, port, level, set, nmi } =>
+            VicCall::Configure { vic, port, level, set, nmi } =>
                 c::sgdma_vic_configure(library.lend_mut(vic), vic.len(), *port, *level, *set, *nmi),
-            Call::VicEnable { vic, port, on } =>
+            VicCall::Enable { vic, port, on } =>
                 c::sgdma_vic_enable(library.lend_mut(vic), vic.len(), *port, *on),
-            Call::VicTrigger { vic, port, on } =>
+            VicCall::Trigger { vic, port, on } =>
                 c::sgdma_vic_trigger(library.lend_mut(vic), vic.len(), *port, *on),
-            Call::VicLine { vic, port, up } =>
+            VicCall::Line { vic, port, up } =>
                 c::sgdma_vic_line(library.lend_mut(vic), vic.len(), *port, *up),
-            Call::VicChoose { vic, answer } =>
+            VicCall::Choose { vic, answer } =>
                 c::sgdma_vic_choose(library.lend(vic), vic.len(),
                                     library.lend_mut(answer), answer.len()),
+        }
+    }
+}
+
+#[rustfmt::skip]
+fn answer_timer(library: Library, call: &mut TimerCall) -> u32 {
+    // SAFETY: as above.
+    unsafe {
+        match call {
+            TimerCall::Create { timer, period } =>
+                c::sgdma_timer_create(library.lend_mut(timer), timer.len(), *period),
+            TimerCall::Read { timer, offset, value } =>
+                c::sgdma_timer_read(library.lend(timer), timer.len(), *offset,
+                                    library.lend_mut(value), value.len()),
+            TimerCall::Write { timer, offset, value } =>
+                c::sgdma_timer_write(library.lend_mut(timer), timer.len(), *offset, *value),
+            TimerCall::Line { timer, value } =>
+                c::sgdma_timer_line(library.lend(timer), timer.len(),
+                                    library.lend_mut(value), value.len()),
+            TimerCall::Run { timer, ticks, value } =>
+                c::sgdma_timer_run(library.lend_mut(timer), timer.len(), *ticks,
+                                   library.lend_mut(value), value.len()),
+            TimerCall::Elapsed { timer, earlier, later, value } =>
+                c::sgdma_timer_elapsed(library.lend(timer), timer.len(), *earlier, *later,
+                                       library.lend_mut(value), value.len()),
         }
     }
 }

@@ -11,9 +11,11 @@ mod images;
 mod layout;
 mod ledgers;
 mod rng;
+mod timers;
 
 pub use controllers::ControllerHost;
 pub use rng::Rng;
+pub use timers::TimerHost;
 
 use crate::call::{Call, Lent};
 use crate::model::{
@@ -141,14 +143,6 @@ impl Host {
         self.carry_ledger(after);
     }
 
-    /// The size that is due, or now and then another.
-    fn size(&mut self, due: usize) -> usize {
-        if self.rng.chance(96) {
-            return due;
-        }
-        self.rng.pick(&[0, 1, due - 1, due + 1, 2 * due])
-    }
-
     /// The carried image, or now and then a broken one or one of another size.
     fn lent_image(&mut self) -> Lent {
         let mut bytes = if self.rng.chance(14) {
@@ -156,7 +150,7 @@ impl Host {
         } else {
             self.image.to_vec()
         };
-        bytes.resize(self.size(IMAGE_SIZE), 0);
+        bytes.resize(self.rng.size(IMAGE_SIZE), 0);
         Lent::from(bytes)
     }
 
@@ -168,12 +162,6 @@ impl Host {
             bytes.resize(other, 0);
         }
         Lent::from(bytes)
-    }
-
-    /// Bytes to be written over, so that what is not written can be seen.
-    fn lent_answer(&mut self, due: usize) -> Lent {
-        let size = self.size(due);
-        Lent::from(self.rng.bytes(size))
     }
 
     /// A stream of some beats; now and then with half a beat more.
@@ -208,7 +196,7 @@ impl Host {
             out: self.lent_output(),
             ledger,
             used,
-            report: self.lent_answer(REPORT_SIZE),
+            report: Lent::from(self.rng.to_write_over(REPORT_SIZE)),
         }
     }
 
@@ -310,14 +298,14 @@ impl Host {
                 offset::NEXT_DESCRIPTOR_POINTER,
                 none,
             ]),
-            value: self.lent_answer(VALUE_SIZE),
+            value: Lent::from(self.rng.to_write_over(VALUE_SIZE)),
         }
     }
 
     fn line(&mut self) -> Call {
         Call::Line {
             image: self.lent_image(),
-            value: self.lent_answer(VALUE_SIZE),
+            value: Lent::from(self.rng.to_write_over(VALUE_SIZE)),
         }
     }
 
@@ -335,9 +323,8 @@ impl Host {
     fn create(&mut self) -> Call {
         let Window { base, length } = self.window();
         let any = self.rng.number();
-        let size = self.size(IMAGE_SIZE);
         Call::Create {
-            image: Lent::from(self.rng.bytes(size)),
+            image: Lent::from(self.rng.to_write_over(IMAGE_SIZE)),
             mode: self.rng.pick(&[0, 1, 2, 3, 4, 258, u32::MAX]),
             base: self.rng.pick(&[
                 base,
@@ -393,7 +380,7 @@ impl Host {
             window,
             base,
             address: self.descriptor_address(),
-            answer: self.lent_answer(DESCRIPTOR_ANSWER_SIZE),
+            answer: Lent::from(self.rng.to_write_over(DESCRIPTOR_ANSWER_SIZE)),
         }
     }
 

@@ -1,6 +1,6 @@
 //! The core as the scope paper describes it, written from the paper alone, and
-//! the field of a refused image, the ledger and the interrupt controller as their
-//! requests do.
+//! the field of a refused image, the ledger, the interrupt controller and the
+//! interval timer as their requests do.
 //!
 //! One step moves one byte and steps are taken one by one. Each sentence of the
 //! paper is one small rule, and the rules are provided methods of a few traits,
@@ -17,6 +17,7 @@ mod ledgers;
 mod machine;
 mod registers;
 mod steps;
+mod timers;
 mod windows;
 
 pub use calls::{Calls, Refusal, Refused, DESCRIPTOR_ANSWER_SIZE, REPORT_SIZE, VALUE_SIZE};
@@ -29,6 +30,9 @@ pub use ledgers::{Ledger, Ledgers, Record, RECORD_SIZE};
 pub use machine::{Fault, Kept, Machine, Mode, Phase};
 pub use registers::{control, offset, status, Registers};
 pub use steps::{InputBeat, Ports, Reason, Report, Steps, OUTPUT_EOP, OUTPUT_SOP};
+pub use timers::{
+    timer_control, timer_offset, Timer, Timers, FULL_PERIOD, MOST_SINGLE_TICKS, TIMER_SIZE,
+};
 pub use windows::{Window, Windows};
 
 /// The model that keeps every rule of the paper.
@@ -42,4 +46,5 @@ impl Ledgers for Paper {}
 impl Steps for Paper {}
 impl Images for Paper {}
 impl Controllers for Paper {}
+impl Timers for Paper {}
 impl Calls for Paper {}

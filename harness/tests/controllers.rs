@@ -1,63 +1,40 @@
 //! The interrupt controller: random calls put to the model and to the library, and
 //! cases worked out by hand from its request.
 
-use harness::call::{libraries, parties, Call, Lent, Party};
-use harness::compare::{ask, compare_host};
-use harness::coverage::controllers::{numbers_applying, ControllerCoverage};
+use harness::call::{libraries_or_model, parties, Call, Lent, Party, VicCall};
+use harness::compare::{ask, check_done, check_refused};
+use harness::coverage::compare_and_cover;
+use harness::coverage::controllers::Reached;
 use harness::gen::ControllerHost;
-use harness::model::{Controller, Paper, CHOICE_SIZE, CONTROLLER_SIZE};
+use harness::model::{Controller, CHOICE_SIZE, CONTROLLER_SIZE};
 
 const CALLS: u64 = 400_000;
 const SEED: u64 = 12;
 
-fn compare_and_cover(party: &dyn Party, seed: u64) {
-    let mut coverage = ControllerCoverage::default();
-    let mut host = ControllerHost::new(seed);
-    let outcome = compare_host(&mut host, &Paper, party, CALLS, &mut |call, answer| {
-        let first = numbers_applying(call).first().copied().unwrap_or(0);
-        assert_eq!(answer.returned, first, "refusal of\n{call}");
-        coverage.observe(call, answer);
-    });
-    if let Err(mismatch) = outcome {
-        panic!("seed {seed}: {mismatch}");
-    }
-    println!("seed {seed}: rarest {:?}", coverage.rarest());
-    assert_eq!(coverage.missing(), [], "seed {seed}: not reached");
-    assert_eq!(coverage.unlisted(), [], "seed {seed}: not in the list");
-}
-
-/// Without the library this still sees that the calls reach every point, and
-/// that the model refuses as the words of the request say.
 #[test]
 fn random_calls_agree_and_reach_everything() {
-    for (party, seed) in libraries().iter().zip(SEED..) {
-        compare_and_cover(party.as_ref(), seed);
-    }
-    if libraries().is_empty() {
-        compare_and_cover(&Paper, SEED);
+    for (party, seed) in libraries_or_model().iter().zip(SEED..) {
+        let mut host = ControllerHost::new(seed);
+        compare_and_cover::<Reached>(&mut host, party.as_ref(), seed, CALLS);
     }
 }
 
 /// A call that must be done, and the controller after it.
-fn controller_after(party: &dyn Party, call: Call) -> Lent {
-    let answer = ask(party, &call);
-    assert_eq!(answer.returned, 0, "{} on\n{call}", party.name());
-    assert!(
-        answer.canaries_live,
-        "{} wrote beside\n{call}",
-        party.name()
-    );
-    answer.after.controller().expect("a controller").clone()
+fn controller_after(party: &dyn Party, call: VicCall) -> Lent {
+    let Call::Vic(after) = check_done(party, &call.into()) else {
+        unreachable!("a call stays what it is");
+    };
+    after.vic().clone()
 }
 
 /// What is told of a controller, or the number of the refusal.
 fn told(party: &dyn Party, vic: &[u8]) -> Result<[u8; CHOICE_SIZE], u32> {
-    let call = Call::VicChoose {
+    let call = Call::from(VicCall::Choose {
         vic: Lent::from(vic),
         answer: Lent::from(vec![0xEE; CHOICE_SIZE]),
-    };
+    });
     let answer = ask(party, &call);
-    let Call::VicChoose { answer: left, .. } = &answer.after else {
+    let Call::Vic(VicCall::Choose { answer: left, .. }) = &answer.after else {
         unreachable!("a call stays what it is");
     };
     if answer.returned != 0 {
@@ -71,7 +48,7 @@ fn told(party: &dyn Party, vic: &[u8]) -> Result<[u8; CHOICE_SIZE], u32> {
 fn four_ports(party: &dyn Party) -> Lent {
     let mut vic = controller_after(
         party,
-        Call::VicCreate {
+        VicCall::Create {
             vic: Lent::from(vec![0xEE; CONTROLLER_SIZE]),
             ports: 4,
             vector_bytes: 16,
@@ -81,7 +58,7 @@ fn four_ports(party: &dyn Party) -> Lent {
     for (port, level, set, nmi) in [(0, 5, 1, 0), (1, 9, 2, 7), (2, 9, 3, 0), (3, 63, 4, 1)] {
         vic = controller_after(
             party,
-            Call::VicConfigure {
+            VicCall::Configure {
                 vic,
                 port,
                 level,
@@ -89,13 +66,13 @@ fn four_ports(party: &dyn Party) -> Lent {
                 nmi,
             },
         );
-        vic = controller_after(party, Call::VicEnable { vic, port, on: 1 });
+        vic = controller_after(party, VicCall::Enable { vic, port, on: 1 });
     }
     vic
 }
 
 fn drive(party: &dyn Party, vic: Lent, port: u32, up: u32) -> Lent {
-    controller_after(party, Call::VicLine { vic, port, up })
+    controller_after(party, VicCall::Line { vic, port, up })
 }
 
 /// The 88 bytes, one by one: nothing is left of what stood there.
@@ -114,11 +91,11 @@ fn the_bytes_of_a_controller() {
 }
 
 fn trigger(party: &dyn Party, vic: Lent, port: u32, on: u32) -> Lent {
-    controller_after(party, Call::VicTrigger { vic, port, on })
+    controller_after(party, VicCall::Trigger { vic, port, on })
 }
 
 fn enable(party: &dyn Party, vic: Lent, port: u32, on: u32) -> Lent {
-    controller_after(party, Call::VicEnable { vic, port, on })
+    controller_after(party, VicCall::Enable { vic, port, on })
 }
 
 /// Largest level first, then the lowest index; what is served goes down again.
@@ -218,14 +195,12 @@ fn the_field_that_spoiled_a_controller() {
             vic[place] = byte;
             let number = 8 + 256 * field;
             assert_eq!(told(party.as_ref(), &vic), Err(number), "byte {place}");
-            let call = Call::VicLine {
+            let call = VicCall::Line {
                 vic,
                 port: 4,
                 up: 1,
             };
-            let answer = ask(party.as_ref(), &call);
-            assert_eq!(answer.returned, number, "{} on\n{call}", party.name());
-            assert!(answer.after == call);
+            check_refused(party.as_ref(), &call.into(), number);
         }
     }
 }
@@ -235,27 +210,22 @@ fn the_field_that_spoiled_a_controller() {
 fn port_calls(vic: &Lent, port: u32) -> [Call; 4] {
     let vic = || vic.clone();
     [
-        Call::VicConfigure { vic: vic(), port, level: 1, set: 1, nmi: 1 },
-        Call::VicEnable { vic: vic(), port, on: 1 },
-        Call::VicTrigger { vic: vic(), port, on: 1 },
-        Call::VicLine { vic: vic(), port, up: 1 },
-    ]
+        VicCall::Configure { vic: vic(), port, level: 1, set: 1, nmi: 1 },
+        VicCall::Enable { vic: vic(), port, on: 1 },
+        VicCall::Trigger { vic: vic(), port, on: 1 },
+        VicCall::Line { vic: vic(), port, up: 1 },
+    ].map(Call::from)
 }
 
 fn create(vic: Lent, ports: u32) -> Call {
-    Call::VicCreate {
+    let (vector_bytes, base) = (4, 0);
+    VicCall::Create {
         vic,
         ports,
-        vector_bytes: 4,
-        base: 0,
+        vector_bytes,
+        base,
     }
-}
-
-/// The call must be refused with this number, and every byte keeps its value.
-fn check_refused(party: &dyn Party, call: &Call, number: u32) {
-    let answer = ask(party, call);
-    assert_eq!(answer.returned, number, "{} on\n{call}", party.name());
-    assert!(answer.after == *call && answer.canaries_live);
+    .into()
 }
 
 /// Counts that are not 1 to 32, and ports that a controller of four lacks.
@@ -279,9 +249,11 @@ fn ports_that_there_are_not() {
 #[test]
 fn wrong_sizes_are_refused() {
     let lent = |size| Lent::from(vec![0xFF; size]);
-    let choose = |size, answer| Call::VicChoose {
-        vic: lent(size),
-        answer: lent(answer),
+    let choose = |size, answer| {
+        Call::from(VicCall::Choose {
+            vic: lent(size),
+            answer: lent(answer),
+        })
     };
     let mut calls = Vec::new();
     for size in [0, 1, 87, 89, 176] {

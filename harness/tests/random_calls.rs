@@ -4,10 +4,9 @@
 //! `SGDMA_CALLS` gives another number of calls, and `SGDMA_SEED` another seed.
 
 use harness::bulk::Bulk;
-use harness::call::{libraries, Party};
-use harness::compare::compare;
-use harness::coverage::{first_applying, Coverage};
-use harness::model::Paper;
+use harness::call::{libraries_or_model, Party};
+use harness::coverage::{compare_and_cover, Point};
+use harness::gen::Host;
 use std::env;
 
 const CALLS: u64 = 1_000_000;
@@ -22,38 +21,21 @@ fn from_environment(name: &str, otherwise: u64) -> u64 {
     })
 }
 
-/// Compares the model with the party and sees that everything was reached. Each
-/// answer must also be the refusal that the paper's table and order give.
-fn compare_and_cover(party: &dyn Party, seed: u64) {
+fn agree_and_reach_everything(party: &dyn Party, seed: u64) {
     let calls = from_environment("SGDMA_CALLS", CALLS).max(FEWEST_CALLS);
-    let mut coverage = Coverage::default();
-    let outcome = compare(&Paper, party, seed, calls, &mut |call, answer| {
-        assert_eq!(answer.returned, first_applying(call), "refusal of\n{call}");
-        coverage.observe(call, answer);
-    });
-    if let Err(mismatch) = outcome {
-        panic!("seed {seed}: {mismatch}");
-    }
-    println!("seed {seed}: rarest {:?}", coverage.rarest());
-    assert_eq!(coverage.missing(), [], "seed {seed}: not reached");
-    assert_eq!(coverage.unlisted(), [], "seed {seed}: not in the list");
+    compare_and_cover::<Point>(&mut Host::new(seed), party, seed, calls);
 }
 
-/// Without the library this still sees that the calls reach every point, and
-/// that the model refuses as the table says.
 #[test]
 fn random_calls_agree_and_reach_everything() {
     let seed = from_environment("SGDMA_SEED", SEED);
-    for (party, place) in libraries().iter().zip(0..) {
-        compare_and_cover(party.as_ref(), seed + place);
-    }
-    if libraries().is_empty() {
-        compare_and_cover(&Paper, seed);
+    for (party, place) in libraries_or_model().iter().zip(0..) {
+        agree_and_reach_everything(party.as_ref(), seed + place);
     }
 }
 
 /// The calls that are put to the library first.
 #[test]
 fn the_bulk_model_agrees_on_the_same_random_calls() {
-    compare_and_cover(&Bulk, from_environment("SGDMA_SEED", SEED));
+    agree_and_reach_everything(&Bulk, from_environment("SGDMA_SEED", SEED));
 }

@@ -1,8 +1,8 @@
 //! Lent slices of wrong size, odd streams, ledgers that are none and empty slices.
 //! The library is tried with NULL for an empty slice as well as without.
 
-use harness::call::{parties, Argument, Call, Lent, Party};
-use harness::compare::ask;
+use harness::call::{parties, Argument, Call, Lent};
+use harness::compare::{ask, check_refused};
 use harness::model::{
     Image, Images, Machine, Mode, Paper, Phase, Window, DESCRIPTOR_ANSWER_SIZE, IMAGE_SIZE,
     REPORT_SIZE, VALUE_SIZE,
@@ -100,15 +100,6 @@ fn due(name: &str) -> Option<usize> {
         "answer" => Some(DESCRIPTOR_ANSWER_SIZE),
         _ => None,
     }
-}
-
-/// The call must be refused with this number, and every byte keeps its value.
-fn check_refused(party: &dyn Party, call: &Call, number: u32) {
-    let answer = ask(party, call);
-    let name = party.name();
-    assert_eq!(answer.returned, number, "{name} on\n{call}");
-    assert!(answer.after == *call, "{name} changed bytes of\n{call}");
-    assert!(answer.canaries_live, "{name} wrote beside\n{call}");
 }
 
 fn resized(call: &Call, place: usize, size: usize) -> Call {

@@ -8,3 +8,4 @@ pub mod Behind
 pub mod Done
 pub mod TwoRuns
 pub mod OfVic
+pub mod OfTimer

@@ -12,6 +12,7 @@ use Rattle.vic.specs.Rules.{lowestBroken}
 use Rattle.vic.specs.Choice.{handler, chosenPort}
 use Rattle.vic.specs.Calls.{createNumber, loadNumber, portNumber, chooseNumber, chosen}
 use Rattle.chain_calls.specs.Theorems.{VicCreateInOrder, VicPortInOrder, VicChooseInOrder, VicUnchanged}
+use Rattle.chain_calls.proofs.Unchanged.{as-lent}
 
 -- 7 and 8 come first: by whether the size is right, and no rule broken
 load-first : (s k : Bool) (f n : ℕ)
@@ -54,5 +55,4 @@ vic-choose-in-order xs answer r answer' a =
     }
 
 pub vic-unchanged : VicUnchanged
-vic-unchanged number lent done r after a h =
-    a .lent ∙ ap (λ (b : Bool). cond b done lent) (ne-eqb number 0 (λ z. h (a .answer ∙ z)))
+vic-unchanged number lent done r after a h = as-lent a h

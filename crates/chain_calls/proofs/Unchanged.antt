@@ -2,12 +2,13 @@
 -- number than 0, everything that it may write is as it was lent. The machine is its image.
 -- Assumes nothing.
 use Prim.Native.Nat.{ℕ}
-use mathlib.Core.Path.{_≡_, refl, _∙_}
+use mathlib.Core.Path.{_≡_, refl, ap, _∙_}
 use mathlib.Core.Logic.{_≢_}
 use mathlib.Core.Bool.{Bool, true, false, cond, _&&_}
 use mathlib.Core.List.{List}
 use lib.ListN.{length}
 use borrow.Author.Tests.{ne-eqb}
+use Rattle.words.specs.Promise.{Answers}
 use Rattle.bus.specs.declared.Refusal.the-variants.{BadSize}
 use Rattle.descriptor.specs.declared.ReadDescriptor.{ReadDescriptor}
 use Rattle.descriptor.specs.declared.ReadDescriptor.the-variants as descriptor
@@ -34,6 +35,11 @@ use Rattle.chain_calls.specs.Theorems.{CreateUnchanged, ReadUnchanged, W
 -- the number given back is that of the answer, so the answer is a refusal too
 answer-refused : {r n : ℕ} → r ≡ n → r ≢ 0 → n ≢ 0
 answer-refused e h z = h (e ∙ z)
+
+-- the bytes that a call leaves which promises no more than a number and them
+pub as-lent : {number r : ℕ} {lent done after : List ℕ} → Answers number lent done r after → r ≢ 0 → after ≡ lent
+as-lent {number} {r} {lent} {done} a h =
+    a .lent ∙ ap (λ (b : Bool). cond b done lent) (ne-eqb number 0 (answer-refused (a .answer) h))
 
 -- ---- what each answer leaves, where its number is not 0
 

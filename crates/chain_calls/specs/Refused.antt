@@ -22,6 +22,10 @@ use Rattle.vic.specs.Rules.{portsKept}
 use Rattle.vic.specs.Rules as controller
 use Rattle.vic.specs.Choice.{handler, chosenPort}
 use Rattle.vic.specs.Calls.{chosen}
+use Rattle.timer.specs.Registers as registers
+use Rattle.timer.specs.Registers.{isFull}
+use Rattle.timer.specs.Saved as saved
+use Rattle.timer.specs.Calls.{timerIn}
 
 -- a refusal's number, the field that it carries, and whether it applies
 pub record Test : Type 0 where
@@ -43,9 +47,9 @@ abbrev pub first : List Test → ℕ
 first [] = 0
 first (t ∷ ts) = cond (t .applies) (told t) (first ts)
 
--- "First that applies: 7, 8, 9, 19, 2, 3, 4, 1, 5, 6", and those of the controller: 21, 22
+-- "First that applies: 7, 8, 9, 19, 2, 3, 4, 1, 5, 6", then those of the timer: 16, 17, and of the controller: 21, 22
 abbrev pub order : List ℕ
-order = 7 ∷ 8 ∷ 9 ∷ 19 ∷ 2 ∷ 3 ∷ 4 ∷ 1 ∷ 5 ∷ 6 ∷ 21 ∷ 22 ∷ []
+order = 7 ∷ 8 ∷ 9 ∷ 19 ∷ 2 ∷ 3 ∷ 4 ∷ 1 ∷ 5 ∷ 6 ∷ 16 ∷ 17 ∷ 21 ∷ 22 ∷ []
 
 -- whether tests come in an order
 abbrev pub comeIn : List ℕ → List Test → Bool
@@ -104,6 +108,23 @@ oddStream beats out = 9 when not (even beats && even out)
 abbrev pub badLedger : (ledger : List ℕ) (used : ℕ) → Test
 badLedger ledger used = 19 when not (isLedger (length ledger) used)
 
+-- 8 of a timer: its 14 bytes break a rule; with the lowest field that does
+abbrev pub badTimer : List ℕ → Test
+badTimer xs =
+    record {
+      number = 8;
+      field = saved.lowestBroken (saved.numbers xs);
+      applies = not (eqb (saved.lowestBroken (saved.numbers xs)) 0);
+    }
+
+-- 16, NoTimerRegister: an offset above 5
+abbrev pub noTimerRegister : ℕ → Test
+noTimerRegister offset = 16 when not (registers.isRegister offset)
+
+-- 17, NotFullPeriod: the period is another than 4,294,967,295
+abbrev pub notFullPeriod : List ℕ → Test
+notFullPeriod xs = 17 when not (isFull (timerIn xs))
+
 -- 8 of a controller: its 88 bytes break a rule; with the lowest field that does
 abbrev pub badController : List ℕ → Test
 badController xs = record { number = 8; field = controller.lowestBroken xs; applies = not (eqb (controller.lowestBroken xs) 0) }
@@ -139,6 +160,24 @@ buildTests window base a = badWindow base (length window) ∷ misaligned a ∷ o
 
 abbrev pub descriptorTests : (window : List ℕ) (base a : ℕ) (answer : List ℕ) → List Test
 descriptorTests window base a answer = badSize (isSize 18 answer) ∷ buildTests window base a
+
+-- ---- and each call on a timer
+
+abbrev pub timerCreateTests : List ℕ → List Test
+timerCreateTests xs = badSize (isSize 14 xs) ∷ []
+
+abbrev pub timerReadTests : (xs : List ℕ) (offset : ℕ) (value : List ℕ) → List Test
+timerReadTests xs offset value = badSize (isSize 14 xs && isSize 4 value) ∷ badTimer xs ∷ noTimerRegister offset ∷ []
+
+abbrev pub timerWriteTests : (xs : List ℕ) (offset : ℕ) → List Test
+timerWriteTests xs offset = badSize (isSize 14 xs) ∷ badTimer xs ∷ noTimerRegister offset ∷ []
+
+-- to tell the line, or to make ticks
+abbrev pub timerValueTests : (xs value : List ℕ) → List Test
+timerValueTests xs value = badSize (isSize 14 xs && isSize 4 value) ∷ badTimer xs ∷ []
+
+abbrev pub timerElapsedTests : (xs value : List ℕ) → List Test
+timerElapsedTests xs value = badSize (isSize 14 xs && isSize 4 value) ∷ badTimer xs ∷ notFullPeriod xs ∷ []
 
 -- ---- and each call on a controller
 

@@ -4,16 +4,19 @@ use Prim.Native.Nat.{ℕ, _+_, _^_, _≤_, _<_}
 use mathlib.Core.Path.{_≡_}
 use mathlib.Core.List.{List}
 use lib.ListN.{length}
+use Rattle.words.specs.Promise.{Answers}
 use Rattle.descriptor.specs.declared.Job.{Job}
 use Rattle.machine.specs.Run.{Lent, Returned, asLent}
 use Rattle.chain.specs.Chain.{shares, cost, Premises}
 use Rattle.chain.specs.Known.{known}
 use Rattle.sgdma.specs.Calls.{Created, RegisterRead, RegisterWritten, LineRead, RunMade, DescriptorBuilt, DescriptorRead}
-use Rattle.vic.specs.Calls.{portNumber, Answers, VicCreated, VicChosen}
+use Rattle.timer.specs.Calls.{TimerCreated, TimerRead, TimerWritten, TimerLine, TimerRan, TimerElapsed}
+use Rattle.vic.specs.Calls.{portNumber, VicCreated, VicChosen}
 use Rattle.chain_calls.specs.InC.{RunLent, RunLeft, Promised, Lends, WellLent, givenIn, Called, AllDone, Found, FoundAtEveryStep}
 use Rattle.chain_calls.specs.Known.{lends, knownLeft}
 use Rattle.chain_calls.specs.Refused.{FirstThatApplies, WhereRefused}
 use Rattle.chain_calls.specs.Refused.{createTests, readTests, writeTests, lineTests, runTests, buildTests, descriptorTests, vicCreateTests, vicPortTests, vicChooseTests}
+use Rattle.chain_calls.specs.Refused.{timerCreateTests, timerReadTests, timerWriteTests, timerValueTests, timerElapsedTests}
 use Rattle.chain_calls.specs.TwoRuns.{lentNext, lentWith, DoTheSame}
 use Rattle.chain_calls.specs.Images.{InUse, LoadsBack}
 use Rattle.chain_calls.specs.Useless.{Model, InBytes, Keeps, honest, RefusesEverything, OneFixedAnswer, NeverMoves, OnlyMarksTheOthers, MakesUpSteps}
@@ -54,6 +57,22 @@ BuildInOrder = (window : List ℕ) (base a : ℕ) (j : Job) (r : ℕ) (window' :
 abbrev pub DescriptorInOrder : Type 0
 DescriptorInOrder = (window : List ℕ) (base a : ℕ) (answer : List ℕ) (r : ℕ) (answer' : List ℕ) → DescriptorRead window base a answer r answer'
     → FirstThatApplies (descriptorTests window base a answer) r
+
+-- Each of the six calls on a timer does.
+pub record EachInOrder : Type 0 where
+  pub create : (xs : List ℕ) (period r : ℕ) (xs' : List ℕ) → TimerCreated xs period r xs' → FirstThatApplies (timerCreateTests xs) r
+  pub read : (xs : List ℕ) (offset : ℕ) (value : List ℕ) (r : ℕ) (value' : List ℕ) → TimerRead xs offset value r value'
+      → FirstThatApplies (timerReadTests xs offset value) r
+  pub write : (xs : List ℕ) (offset v r : ℕ) (xs' : List ℕ) → TimerWritten xs offset v r xs'
+      → FirstThatApplies (timerWriteTests xs offset) r
+  pub line : (xs value : List ℕ) (r : ℕ) (value' : List ℕ) → TimerLine xs value r value' → FirstThatApplies (timerValueTests xs value) r
+  pub run : (xs : List ℕ) (n : ℕ) (value : List ℕ) (r : ℕ) (xs' value' : List ℕ) → TimerRan xs n value r xs' value'
+      → FirstThatApplies (timerValueTests xs value) r
+  pub elapsed : (xs : List ℕ) (earlier later : ℕ) (value : List ℕ) (r : ℕ) (value' : List ℕ) → TimerElapsed xs earlier later value r value'
+      → FirstThatApplies (timerElapsedTests xs value) r
+
+abbrev pub TimerInOrder : Type 0
+TimerInOrder = EachInOrder
 
 -- sgdma_vic_create does.
 abbrev pub VicCreateInOrder : Type 0
@@ -103,6 +122,21 @@ BuildUnchanged = (window : List ℕ) (base a : ℕ) (j : Job) (r : ℕ) (window'
 abbrev pub DescriptorUnchanged : Type 0
 DescriptorUnchanged = (window : List ℕ) (base a : ℕ) (answer : List ℕ) (r : ℕ) (answer' : List ℕ)
     → DescriptorRead window base a answer r answer' → WhereRefused r (answer' ≡ answer)
+
+-- Each of the six calls on a timer leaves the timer, and the value that it may write.
+pub record EachUnchanged : Type 0 where
+  pub create : (xs : List ℕ) (period r : ℕ) (xs' : List ℕ) → TimerCreated xs period r xs' → WhereRefused r (xs' ≡ xs)
+  pub read : (xs : List ℕ) (offset : ℕ) (value : List ℕ) (r : ℕ) (value' : List ℕ) → TimerRead xs offset value r value'
+      → WhereRefused r (value' ≡ value)
+  pub write : (xs : List ℕ) (offset v r : ℕ) (xs' : List ℕ) → TimerWritten xs offset v r xs' → WhereRefused r (xs' ≡ xs)
+  pub line : (xs value : List ℕ) (r : ℕ) (value' : List ℕ) → TimerLine xs value r value' → WhereRefused r (value' ≡ value)
+  pub run : (xs : List ℕ) (n : ℕ) (value : List ℕ) (r : ℕ) (xs' value' : List ℕ) → TimerRan xs n value r xs' value'
+      → WhereRefused r ((xs' ≡ xs) × (value' ≡ value))
+  pub elapsed : (xs : List ℕ) (earlier later : ℕ) (value : List ℕ) (r : ℕ) (value' : List ℕ) → TimerElapsed xs earlier later value r value'
+      → WhereRefused r (value' ≡ value)
+
+abbrev pub TimerUnchanged : Type 0
+TimerUnchanged = EachUnchanged
 
 -- Every call on a controller leaves the bytes that it may write: the controller, and sgdma_vic_choose the answer.
 abbrev pub VicUnchanged : Type 0

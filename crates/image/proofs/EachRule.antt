@@ -1,32 +1,15 @@
 -- Fields break no rule exactly where they keep each: by its number, and by its field's name.
 -- Assumes nothing.
-use Prim.Native.Nat.{ℕ, zero, suc, _+_, _<_}
-use mathlib.Core.Path.{_≡_, refl, sym, ap, _∙_}
-use mathlib.Core.Logic.{_≢_}
-use mathlib.Core.Bool.{Bool, true, false, true≢false}
-use mathlib.Core.List.{List, [], _∷_}
-use native.Mathlib.Nat.{suc-ne-zero}
-use native.Mathlib.Omega.{arith}
-use lib.ListN.{getD}
+use Prim.Native.Nat.{ℕ, zero, suc}
+use mathlib.Core.Path.{_≡_, refl}
+use mathlib.Core.Bool.{true}
 use lib.Dec.{eqb}
+use Rattle.words.proofs.Firsts.{each, none, told-first}
 use Rattle.bus.specs.Window.{keepsLimits}
 use Rattle.image.specs.declared.Fields.{Fields}
 use Rattle.image.specs.Layout.{latest}
-use Rattle.image.specs.Rules.{_outside_, zeroOutside, inFaulted, working, editionKept, modeKept, phaseKept, faultKept, statusKept, countKept, controlKept, addressKept, sizeKept, dcontrolKept, errorsKept, asked, movedKept, eopKept, rules, ruleAt, firstFalse, lowestBroken}
+use Rattle.image.specs.Rules.{_outside_, zeroOutside, inFaulted, working, editionKept, modeKept, phaseKept, faultKept, statusKept, countKept, controlKept, addressKept, sizeKept, dcontrolKept, errorsKept, asked, movedKept, eopKept, rules, ruleAt, lowestBroken}
 use Rattle.image.specs.Theorems.{FieldTold}
-
--- where no test fails, each holds
-each : (k : ℕ) (bs : List Bool) → firstFalse (suc k) bs ≡ 0 → (i : ℕ) → getD bs i true ≡ true
-each k [] e i = refl
-each k (true ∷ bs) e zero = refl
-each k (true ∷ bs) e (suc i) = each (suc k) bs e i
-each k (false ∷ bs) e i = absurd (suc-ne-zero k e)
-
--- where each holds, none fails
-none : (k : ℕ) (bs : List Bool) → ((i : ℕ) → getD bs i true ≡ true) → firstFalse k bs ≡ 0
-none k [] h = refl
-none k (true ∷ bs) h = none (suc k) bs (λ i. h (suc i))
-none k (false ∷ bs) h = absurd (true≢false (sym (h 0)))
 
 -- the rule of the field with the number i
 pub rule : (f : Fields) → lowestBroken f ≡ 0 → (i : ℕ) → ruleAt f i ≡ true
@@ -39,30 +22,10 @@ pub rules-kept : (f : Fields) → ((i : ℕ) → ruleAt f i ≡ true) → lowest
 unfolding lowestBroken
 rules-kept f h = none 1 (rules f) (λ i. h (suc i))
 
--- where one fails, the first that does is the one told
-first-told : (k : ℕ) (bs : List Bool) → firstFalse (suc k) bs ≢ 0
-    → (j : ℕ) × (firstFalse (suc k) bs ≡ suc (k + j)) × (getD bs j true ≡ false) × ((i : ℕ) → i < j → getD bs i true ≡ true)
-first-told k [] h = absurd (h refl)
-first-told k (true ∷ bs) h =
-    let t = first-told (suc k) bs h in
-    (suc (t .0), t .1 ∙ omega arith, t .2, λ i. before i (t .0) (t .3))
-  where
-    before : (i j : ℕ) → ((i : ℕ) → i < j → getD bs i true ≡ true) → i < suc j → getD (true ∷ bs) i true ≡ true
-    before zero j g l = refl
-    before (suc i) j g l = g i (omega arith)
-first-told k (false ∷ bs) h = (0, omega arith, refl, λ i l. absurd (omega arith))
-
 -- The field told breaks its rule, and every field before it keeps its own.
 pub field-told : FieldTold
 unfolding lowestBroken
-field-told f h =
-    let t = first-told 0 (rules f) h in
-    let at : lowestBroken f ≡ suc (t .0) = t .1 ∙ omega arith in
-    (ap (ruleAt f) at ∙ t .2, λ i l. before i (t .0) (t .3) (let n = at in omega arith))
-  where
-    before : (i j : ℕ) → ((i : ℕ) → i < j → getD (rules f) i true ≡ true) → i < suc j → ruleAt f i ≡ true
-    before zero j g l = refl
-    before (suc i) j g l = g i (omega arith)
+field-told f h = told-first (rules f) h
 
 -- each rule under its field's name
 pub record Each (f : Fields) : Type 0 where

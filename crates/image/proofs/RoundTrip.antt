@@ -1,36 +1,21 @@
 -- The fields of an image are those that it was made of, and the image of the fields of its bytes is these bytes.
 -- Assumes nothing.
-use Prim.Native.Nat.{ℕ, zero, suc, _%_, _<_}
+use Prim.Native.Nat.{ℕ, zero, suc}
 use mathlib.Core.Path.{_≡_, refl, sym, ap, subst, _∙_}
-use mathlib.Core.Bool.{Bool, true, false}
-use mathlib.Core.List.{List, [], _∷_}
-use native.Mathlib.Nat.{mod-lt}
+use mathlib.Core.List.{List}
 use native.Mathlib.Omega.{arith}
 use borrow.Author.Needs.{needs}
 use lib.ListN.{length, length-replicate}
-use lib.Dec.{eqb}
-use Rattle.words.specs.Bits.{flag}
 use Rattle.words.specs.Numbers.{total, join, split, recode, bytes, Fit}
 use Rattle.words.specs.Slices.{AllBytes}
 use Rattle.words.proofs.Recode.{recode-back, recode-fit}
 use Rattle.words.proofs.Orders.{length-split}
 use Rattle.words.specs.Packed.{noFields, packedOver, fieldsPut}
-use Rattle.words.proofs.Bytes.{bytes-fit}
+use Rattle.words.proofs.Bits.{flag-back, flag-bit}
+use Rattle.words.proofs.Bytes.{bytes-fit, fit-bytes}
 use Rattle.words.proofs.Packing.{fields-packed}
 use Rattle.image.specs.declared.Fields.{Fields}
 use Rattle.image.specs.Layout.{fromNumbers, valuesOf, widthsOf, sizeOf, imageOf, fieldsIn, latest, values, widths, image, fields}
-
-pub flag-back : (b : Bool) → eqb (flag b) 1 ≡ b
-flag-back true = refl
-flag-back false = refl
-
-pub flag-there : (n : ℕ) → n < 2 → flag (eqb n 1) ≡ n
-flag-there zero h = refl
-flag-there (suc zero) h = refl
-flag-there (suc (suc n)) h = absurd (omega arith)
-
-flag-bit : (n : ℕ) → flag (eqb (n % 2) 1) ≡ n % 2
-flag-bit n = flag-there (n % 2) (mod-lt n (omega arith))
 
 -- the fields that the values of fields are
 of-values : (f : Fields) → fromNumbers (values f) ≡ f
@@ -49,10 +34,6 @@ values-of : (edition n : ℕ) → valuesOf edition (fromNumbers (split (widthsOf
 values-of zero n = refl
 values-of (suc zero) n = simp flag-bit
 values-of (suc (suc more)) n = simp flag-bit
-
-fit-bytes : (n : ℕ) (xs : List ℕ) → Fit (bytes n) xs → AllBytes xs
-fit-bytes zero [] p = tt
-fit-bytes (suc n) (x ∷ xs) p = (p .0, fit-bytes n xs (p .1))
 
 module _ (edition : ℕ) where
   pub length-of : (f : Fields) → length (imageOf edition f) ≡ sizeOf edition

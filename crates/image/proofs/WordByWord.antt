@@ -1,35 +1,21 @@
 -- The image's fields, met a word of 32 bits at a time, as the code that reads them meets them.
 -- Assumes nothing.
-use Prim.Native.Nat.{ℕ, _+_, _*_, _%_, _^_, _<_, _≤_}
-use mathlib.Core.Path.{_≡_, refl, sym, ap, subst, _∙_}
+use Prim.Native.Nat.{ℕ, _+_, _*_, _%_, _^_, _≤_}
+use mathlib.Core.Path.{_≡_, refl, sym, ap, _∙_}
 use mathlib.Core.List.{List, [], _∷_, _++_, map}
 use native.Mathlib.Nat.{div-one, mod-eq-of-lt}
 use native.Mathlib.Omega.{arith}
-use lib.ListN.{length, drop, length-drop}
-use lib.Seq.{drop-drop, length-take-le}
+use lib.ListN.{length, drop}
+use lib.Seq.{drop-drop}
 use lib.Dec.{lit≤}
 use Rattle.words.specs.declared.Order.the-variants.{MostFirst}
-use Rattle.words.specs.Numbers.{join, split, recode, bytes}
-use Rattle.words.specs.Slices.{part, numberAt, AllBytes}
-use Rattle.words.proofs.Recode.{join-lt}
-use Rattle.words.proofs.Bytes.{drop-bytes}
-use Rattle.words.proofs.Slices.{number-in}
-use Rattle.words.proofs.Groups.{recodes, Even, parts, fours, recode-groups, parts-all, parts-fit}
+use Rattle.words.specs.Numbers.{split, recode, bytes}
+use Rattle.words.specs.Slices.{numberAt, AllBytes}
+use Rattle.words.proofs.Groups.{recodes, Even, parts, fours, recode-groups, parts-all, parts-fit, number-join, number-lt}
 use Rattle.image.specs.Layout.{widths, fromNumbers, fields}
 use Rattle.image.specs.Helpers.InWords.{headWidths, sizesWidths, doneWidths, ofWords}
 
 -- ---- words of bytes
-
--- a word is the number of its four bytes
-word-join : (xs : List ℕ) (at : ℕ) → at + 4 ≤ length xs → join (bytes 4) (part xs at 4) ≡ numberAt MostFirst 4 xs at
-word-join xs at h =
-    let l : length (part xs at 4) ≡ 4 = length-take-le 4 (drop at xs) (simp length-drop (omega arith)) in
-    sym (number-in xs at MostFirst 4 h ∙ rw l)
-
-word-lt : (xs : List ℕ) (at : ℕ) → at + 4 ≤ length xs → AllBytes xs → numberAt MostFirst 4 xs at < 2 ^ 32
-word-lt xs at h g =
-    subst (λ (n : ℕ). n < 2 ^ 32) (word-join xs at h)
-    (join-lt (bytes 4) (part xs at 4) (parts-fit (drop at xs) (4 ∷ []) (simp length-drop (omega arith)) (drop-bytes at xs g) .0))
 
 -- four bytes for each run of fields
 abbrev fourEach : List (List ℕ) → List ℕ
@@ -50,7 +36,7 @@ cut-words : (fs : List (List ℕ)) (xs : List ℕ) (at : ℕ) → at + 4 * lengt
     → recodes (fours fs) fs (parts (drop at xs) (fourEach fs)) ≡ splits fs (wordsAt xs at fs)
 cut-words [] xs at h = refl
 cut-words (f ∷ fs) xs at h =
-    rw (word-join xs at (omega arith), drop-drop 4 at xs, cut-words fs xs (at + 4) (omega arith))
+    rw (number-join xs at 4 (omega arith), drop-drop 4 at xs, cut-words fs xs (at + 4) (omega arith))
 
 -- ---- the layout in words
 
@@ -73,7 +59,7 @@ module _ (xs : List ℕ) (l : length xs ≡ 44) (g : AllBytes xs) where
       ∙ ap fromNumbers (cut-words words xs 0 (omega arith))
 
   whole : (at : ℕ) → at + 4 ≤ 44 → numberAt MostFirst 4 xs at % 2 ^ 32 ≡ numberAt MostFirst 4 xs at
-  whole at h = mod-eq-of-lt (word-lt xs at (rw l h) g)
+  whole at h = mod-eq-of-lt (number-lt xs at 4 (rw l h) g)
 
   pub fields-words : fields xs
       ≡ ofWords (numberAt MostFirst 4 xs 0) (numberAt MostFirst 4 xs 4) (numberAt MostFirst 4 xs 8) (numberAt MostFirst 4 xs 12)

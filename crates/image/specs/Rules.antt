@@ -1,8 +1,8 @@
 -- The paper's "Image rules": a test for each field, in layout order. A rule over several fields stands at the last of them,
 -- one that makes several zero at each of them. The rules are a list of parts, as the table is.
 -- Assumes nothing.
-use Prim.Native.Nat.{ℕ, suc}
-use mathlib.Core.Bool.{Bool, true, false, not, cond, _&&_, _||_}
+use Prim.Native.Nat.{ℕ}
+use mathlib.Core.Bool.{Bool, true, not, cond, _&&_, _||_}
 use mathlib.Core.List.{List, [], _∷_}
 use lib.ListN.{getD}
 use lib.Dec.{eqb, leb, ltb}
@@ -11,6 +11,7 @@ use Rattle.descriptor.specs.Layout.{owned}
 use Rattle.image.specs.declared.Fields.{Fields}
 use Rattle.image.specs.Lines.{firstParts}
 use Rattle.image.specs.Layout.{latest}
+pub use Rattle.words.specs.Fields.{firstFalse}
 pub use Rattle.image.specs.Tests.{_⇒_, _exactly_, _outside_, either, between, zeroFrom, standsIn, inMove, inWriteBack, inEnded, inHalted, inFaulted, working, zeroOutside, error, eopEncountered, busy, run, swReset}
 
 -- ---- the rules
@@ -123,12 +124,6 @@ rules f = rulesOf latest f
 -- whether the field with this number keeps its rule
 abbrev pub ruleAt : Fields → (field : ℕ) → Bool
 ruleAt f field = getD (true ∷ rules f) field true
-
--- the place, counted from k, of the first test that fails, or 0
-abbrev pub firstFalse : (k : ℕ) → List Bool → ℕ
-firstFalse k [] = 0
-firstFalse k (true ∷ bs) = firstFalse (suc k) bs
-firstFalse k (false ∷ bs) = k
 
 -- the lowest field that breaks a rule, counted from 1, or 0
 unfoldable pub lowestBroken : Fields → ℕ

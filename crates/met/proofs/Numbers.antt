@@ -17,7 +17,7 @@ use Rattle.regs.specs.declared.Status.{Status}
 use Rattle.regs.specs.Modes.{modeNumber, modeOf}
 use Rattle.regs.specs.Status.{statusNumber, statusOf}
 use Rattle.image.specs.Rules as rule
-use Rattle.image.proofs.RoundTrip.{flag-back, flag-there}
+use Rattle.words.proofs.Bits.{flag-back, flag-there}
 use Rattle.machine.specs.declared.Work.{Work}
 use Rattle.machine.specs.declared.Fault.{Fault}
 use Rattle.machine.specs.declared.Phase.{Phase}

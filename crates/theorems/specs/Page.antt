@@ -3,6 +3,7 @@
 -- those of image_rows in its specs/Rows.antt, and those of sgdma beside the promises, in its specs/Calls.antt. What else a reader
 -- believes are the definitions that the statements use, all of them in specs/.
 -- Assumes nothing.
+use Rattle.words.specs.Promise.{AnswersUnique}
 use Rattle.words.specs.Theorems.{RecodeBack, FieldsPacked, RowBack, RowThere}
 use Rattle.bus.specs.Theorems.{LocatedIs}
 use Rattle.image.specs.Theorems.{ReadExactly, FieldTold}
@@ -21,7 +22,10 @@ use Rattle.chain_calls.specs.Theorems.{ReadUnchanged, WriteUnchanged, LineUncha
 use Rattle.chain_calls.specs.Theorems.{NoneRefused, ChainOfCalls, ChainOfCallsAtEveryStep, KnownRun1InC, HonestKeeps, RefuserFails, FixedFails}
 use Rattle.chain_calls.specs.Theorems.{NeverMovingFails, MarkerFails, MadeUpFails, TwoRunsAdd}
 use Rattle.chain_calls.specs.Theorems.{VicCreateInOrder, VicPortInOrder, VicChooseInOrder, VicUnchanged}
-use Rattle.vic.specs.Calls.{AnswersUnique}
+use Rattle.chain_calls.specs.Theorems.{TimerInOrder, TimerUnchanged}
+use Rattle.timer.specs.Calls.{TimerRanUnique}
+use Rattle.timer.specs.Theorems.{TicksAdd, ZerosWithin, TicksSetTO, ReachesEveryPeriod, OneShot, ElapsedIsTicks, TimerSavesLoaded, TimerMetSaves, TimersLoad}
+use Rattle.timer.specs.Theorems.{TimerFieldTold, TimerCasesHold}
 use Rattle.vic.specs.Theorems.{ChosenIs, ChosenOne, NothingChosen, TooLargeExactly, ToldWhole, Configures, Drives, Triggers, Enables, Stays, Starts, CasesHold}
 
 -- ======== demand 1: every call gets a defined answer, and one that is refused changes nothing
@@ -56,9 +60,13 @@ descriptor-built-unique = Rattle.sgdma.specs.Calls.descriptor-built-unique
 pub descriptor-read-unique : DescriptorReadUnique
 descriptor-read-unique = Rattle.sgdma.specs.Calls.descriptor-read-unique
 
--- No second outcome of a call on a controller keeps its promise: the six promises are of one form.
+-- No second outcome of sgdma_timer_run keeps its promise.
+pub timer-ran-unique : TimerRanUnique
+timer-ran-unique = Rattle.timer.specs.Calls.timer-ran-unique
+
+-- No second outcome of another call on a timer keeps its promise, nor one of a call on a controller: these promises are of one form.
 pub answers-unique : AnswersUnique
-answers-unique = Rattle.vic.specs.Calls.answers-unique
+answers-unique = Rattle.words.specs.Promise.answers-unique
 
 -- ---- "First that applies": 0, or the first number in the paper's one order of the refusals that apply
 
@@ -89,6 +97,11 @@ build-in-order = Rattle.chain_calls.proofs.Refused.build-in-order
 -- sgdma_read_descriptor gives back the first that applies.
 pub descriptor-in-order : DescriptorInOrder
 descriptor-in-order = Rattle.chain_calls.proofs.Refused.descriptor-in-order
+
+-- sgdma_timer_create, sgdma_timer_read, sgdma_timer_write, sgdma_timer_line, sgdma_timer_run and sgdma_timer_elapsed give back the first
+-- that applies.
+pub timer-in-order : TimerInOrder
+timer-in-order = Rattle.chain_calls.proofs.OfTimer.timer-in-order
 
 -- sgdma_vic_create gives back the first that applies.
 pub vic-create-in-order : VicCreateInOrder
@@ -131,6 +144,10 @@ build-unchanged = Rattle.chain_calls.proofs.Unchanged.build-unchanged
 -- sgdma_read_descriptor, refused, leaves the answer.
 pub descriptor-unchanged : DescriptorUnchanged
 descriptor-unchanged = Rattle.chain_calls.proofs.Unchanged.descriptor-unchanged
+
+-- A call on a timer, refused, leaves the timer and the value.
+pub timer-unchanged : TimerUnchanged
+timer-unchanged = Rattle.chain_calls.proofs.OfTimer.timer-unchanged
 
 -- A call on a controller, refused, leaves the controller, and sgdma_vic_choose the answer.
 pub vic-unchanged : VicUnchanged
@@ -419,6 +436,59 @@ marker-fails = Rattle.chain_calls.proofs.NoneUseless.marker-fails
 -- One with "a made-up step count" does not.
 pub made-up-fails : MadeUpFails
 made-up-fails = Rattle.chain_calls.proofs.NoneUseless.made-up-fails
+
+-- ======== order 2: the interval timer
+
+-- ---- ticks
+
+-- "Show that a running continuous timer with stored period value P, not written to, reaches zero every P + 1 ticks and sets TO each time":
+-- first after its counter's ticks, P = 0 included.
+pub reaches-every-period : ReachesEveryPeriod
+reaches-every-period = Rattle.timer.proofs.Periods.reaches-every-period
+
+-- A tick that reaches zero sets TO, whatever TO was; another leaves it.
+pub ticks-set-to : TicksSetTO
+ticks-set-to = Rattle.timer.proofs.Periods.ticks-set-to
+
+-- A running one-shot timer, not written to, reaches zero once, TO is set, and on the next tick it is loaded again and stands.
+pub one-shot : OneShot
+one-shot = Rattle.timer.proofs.Periods.one-shot
+
+-- Ticks made in two goes are the ticks of both.
+pub ticks-add : TicksAdd
+ticks-add = Rattle.timer.proofs.Periods.ticks-add
+
+-- No more than n of n ticks reach zero: so the value of a run tells their number whole.
+pub zeros-within : ZerosWithin
+zeros-within = Rattle.timer.proofs.Periods.zeros-within
+
+-- "Time between two snapshots of a full-period timer": n ticks apart, and written to in no other way, it is n modulo 2^32.
+pub elapsed-is-ticks : ElapsedIsTicks
+elapsed-is-ticks = Rattle.timer.proofs.Periods.elapsed-is-ticks
+
+-- ---- timers in use
+
+-- A loaded timer saves to the same bytes, and is not refused.
+pub timer-saves-loaded : TimerSavesLoaded
+timer-saves-loaded = Rattle.timer.proofs.InBytes.timer-saves-loaded
+
+-- Every timer met in use saves to bytes that load, as it.
+pub timer-met-saves : TimerMetSaves
+timer-met-saves = Rattle.timer.proofs.InUses.timer-met-saves
+
+-- All bytes that are reached by the calls are those of a timer met in use, and load back as it.
+pub timers-load : TimersLoad
+timers-load = Rattle.timer.proofs.InUses.timers-load
+
+-- The field told breaks its rule, and every field before it keeps its own.
+pub timer-field-told : TimerFieldTold
+timer-field-told = Rattle.timer.proofs.InBytes.timer-field-told
+
+-- ---- the definitions held against the request and the chapter
+
+-- Thirty-seven worked cases.
+pub timer-cases-hold : TimerCasesHold
+timer-cases-hold = Rattle.timer.proofs.Cases.timer-cases-hold
 
 -- ======== order 12: the interrupt controller
 

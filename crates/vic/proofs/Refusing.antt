@@ -13,18 +13,8 @@ use Rattle.words.specs.Orders.{rowBytes}
 use Rattle.vic.specs.Layout.{ports}
 use Rattle.vic.specs.Rules.{portsKept, lowestBroken}
 use Rattle.vic.specs.Choice.{chosenLevel, chosenPort, handler}
-use Rattle.vic.specs.Calls.{createNumber, loadNumber, portNumber, chooseNumber, chosen, answerWidths, told, answerOf, Answers}
+use Rattle.vic.specs.Calls.{createNumber, loadNumber, portNumber, chooseNumber, chosen, answerWidths, told, answerOf}
 use Rattle.vic.proofs.Ruling.{none-kept, many-kept, some-kept, sound-ports}
-
--- ---- the promise, by the number
-
-pub answers-refused : {number r : ℕ} {before done : List ℕ} → r ≡ number → (r ≡ 0 → ⊥) → Answers number before done r before
-answers-refused {number} {r} {before} {done} e h =
-    record { answer = e; lent = sym (ap (λ (b : Bool). cond b done before) (ne-eqb number 0 (λ z. h (e ∙ z)))) }
-
-pub answers-done : {number : ℕ} {before done after : List ℕ} → number ≡ 0 → after ≡ done → Answers number before done 0 after
-answers-done {number} {before} {done} e f =
-    record { answer = sym e; lent = f ∙ sym (ap (λ (b : Bool). cond b done before) (eq-eqb number 0 e)) }
 
 -- the number of a refusal is not 0
 pub named : {n r : ℕ} → r ≡ suc n → r ≡ 0 → ⊥

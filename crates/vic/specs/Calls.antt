@@ -1,7 +1,6 @@
 -- What the six calls promise: the number and every lent byte after the call. 0 is done; refused, nothing changes.
 -- Assumes nothing.
 use Prim.Native.Nat.{ℕ, _^_}
-use mathlib.Core.Path.{_≡_, sym, _∙_}
 use mathlib.Core.Bool.{Bool, cond, not, _&&_}
 use mathlib.Core.List.{List, [], _∷_}
 use lib.Dec.{eqb, leb, ltb}
@@ -10,6 +9,7 @@ use Rattle.bus.specs.declared.Refusal.the-variants.{BadSize, BadImage, NoPort, 
 use Rattle.bus.specs.Refusal.{refusalNumber}
 use Rattle.words.specs.declared.Order.the-variants.{MostFirst}
 use Rattle.words.specs.Orders.{rowBytes}
+use Rattle.words.specs.Promise.{Answers}
 use Rattle.vic.specs.Layout.{ports, linesAt, softwareAt, enabledAt, config, setOf, maskOf, fresh, bitMade, configured}
 use Rattle.vic.specs.Rules.{portsKept, lowestBroken}
 use Rattle.vic.specs.Choice.{level, chosenPort, chosenLevel, handler}
@@ -62,21 +62,6 @@ told xs p =
 
 unfoldable pub answerOf : List ℕ → List ℕ
 answerOf xs = cond (chosen xs) (rowBytes MostFirst answerWidths (told xs (chosenPort xs))) (replicate 12 0)
-
--- ---- the promise
-
--- the number, and the lent bytes: `done`, or refused those before
-pub record Answers (number : ℕ) (before done : List ℕ) (r : ℕ) (after : List ℕ) : Type 0 where
-  pub answer : r ≡ number
-  pub lent : after ≡ cond (eqb number 0) done before
-
--- No second outcome of a call keeps its promise.
-abbrev pub AnswersUnique : Type 0
-AnswersUnique = (number : ℕ) (before done : List ℕ) (r s : ℕ) (xs ys : List ℕ)
-    → Answers number before done r xs → Answers number before done s ys → (r ≡ s) × (xs ≡ ys)
-
-pub answers-unique : AnswersUnique
-answers-unique number before done r s xs ys p q = (p .answer ∙ sym (q .answer), p .lent ∙ sym (q .lent))
 
 -- ---- the six calls: each promises Answers, of its number and of what it leaves where it is done
 

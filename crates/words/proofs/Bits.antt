@@ -1,4 +1,4 @@
--- The bits of a number: of its half, of two numbers taken bit by bit, of a power of two.
+-- The bits of a number: of its half, of two numbers taken bit by bit, of a power of two; and one bit as a flag.
 -- Assumes nothing.
 use Prim.Native.Nat.{ℕ, zero, suc, _+_, _*_, _-_, _/_, _%_, _^_, _<_, max, min}
 use mathlib.Core.Path.{_≡_, refl, sym, ap, _∙_}
@@ -8,7 +8,7 @@ use native.Mathlib.Omega.{arith}
 use lib.Bits.{bitOr, bitAnd, or-step, and-step, or-shr, and-shr}
 use lib.Dec.{eqb}
 use lib.Pow.{pow-pos, field, mod-mod-pow}
-use Rattle.words.specs.Bits.{bit}
+use Rattle.words.specs.Bits.{bit, flag}
 
 -- the bits of a half
 pub half-first : (n p : ℕ) → n / 2 ^ suc p ≡ n / 2 / 2 ^ p
@@ -80,3 +80,17 @@ kept-bit k q n h =
     let e : k ≡ k - 1 - q + 1 + q = omega arith in
     ap (λ (x : ℕ). eqb x 1)
     (ap (λ (m : ℕ). n % 2 ^ m / 2 ^ q % 2) e ∙ ap (λ (x : ℕ). x % 2) (field n (k - 1 - q + 1) q) ∙ mod-mod-pow (n / 2 ^ q) (k - 1 - q) 1)
+
+-- ---- a flag as its bit, and back
+
+pub flag-back : (b : Bool) → eqb (flag b) 1 ≡ b
+flag-back true = refl
+flag-back false = refl
+
+pub flag-there : (n : ℕ) → n < 2 → flag (eqb n 1) ≡ n
+flag-there zero h = refl
+flag-there (suc zero) h = refl
+flag-there (suc (suc n)) h = absurd (omega arith)
+
+pub flag-bit : (n : ℕ) → flag (eqb (n % 2) 1) ≡ n % 2
+flag-bit n = flag-there (n % 2) (mod-lt n (omega arith))

@@ -18,6 +18,10 @@ pub bytes-fit : (xs : List ℕ) → AllBytes xs → Fit (bytes (length xs)) xs
 bytes-fit [] g = tt
 bytes-fit (x ∷ xs) g = (g .0, bytes-fit xs (g .1))
 
+pub fit-bytes : (n : ℕ) (xs : List ℕ) → Fit (bytes n) xs → AllBytes xs
+fit-bytes zero [] p = tt
+fit-bytes (suc n) (x ∷ xs) p = (p .0, fit-bytes n xs (p .1))
+
 pub take-bytes : (n : ℕ) (xs : List ℕ) → AllBytes xs → AllBytes (take n xs)
 take-bytes zero xs g = tt
 take-bytes (suc n) [] g = tt

@@ -1,17 +1,19 @@
 -- A long run of fields, read in groups that end at the same bits. With it a reader works a word at a time, and never meets
 -- the one long number.
 -- Assumes nothing.
-use Prim.Native.Nat.{ℕ, _+_, _≤_}
+use Prim.Native.Nat.{ℕ, _+_, _^_, _≤_, _<_}
 use mathlib.Core.Path.{_≡_, refl, sym, ap, _∙_, subst}
 use mathlib.Core.List.{List, [], _∷_, _++_, map}
 use native.Mathlib.Nat.{suc-ne-zero}
 use native.Mathlib.Omega.{arith}
 use lib.ListN.{length, take, drop, take-append-drop, length-drop}
 use lib.Seq.{length-take-le}
-use Rattle.words.specs.Numbers.{total, recode, bytes, Fit}
-use Rattle.words.specs.Slices.{AllBytes}
-use Rattle.words.proofs.Recode.{total-append, recode-append}
+use Rattle.words.specs.declared.Order.the-variants.{MostFirst}
+use Rattle.words.specs.Numbers.{total, join, recode, bytes, Fit}
+use Rattle.words.specs.Slices.{part, numberAt, AllBytes}
+use Rattle.words.proofs.Recode.{join-lt, total-append, recode-append}
 use Rattle.words.proofs.Bytes.{bytes-fit, take-bytes, drop-bytes}
+use Rattle.words.proofs.Slices.{number-in}
 
 -- runs one after the other
 abbrev pub concat : List (List ℕ) → List ℕ
@@ -83,3 +85,19 @@ parts-all xs (n ∷ ns) e =
 abbrev pub fours : List (List ℕ) → List (List ℕ)
 fours [] = []
 fours (f ∷ fs) = bytes 4 ∷ fours fs
+
+-- ---- a number as a reader meets it
+
+module _ (xs : List ℕ) (at n : ℕ) (h : at + n ≤ length xs) where
+  length-part : length (part xs at n) ≡ n
+  length-part = length-take-le n (drop at xs) (simp length-drop (omega arith))
+
+  -- it is that of its bytes side by side
+  pub number-join : join (bytes n) (part xs at n) ≡ numberAt MostFirst n xs at
+  number-join = sym (number-in xs at MostFirst n h ∙ rw length-part)
+
+  pub number-lt : AllBytes xs → numberAt MostFirst n xs at < 2 ^ total (bytes n)
+  number-lt g =
+      subst (λ (k : ℕ). k < 2 ^ total (bytes n)) number-join
+      (join-lt (bytes n) (part xs at n)
+      (subst (λ (k : ℕ). Fit (bytes k) (part xs at n)) length-part (bytes-fit (part xs at n) (take-bytes n (drop at xs) (drop-bytes at xs g)))))

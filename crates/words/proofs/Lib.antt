@@ -7,3 +7,5 @@ pub mod Groups
 pub mod Packing
 pub mod Beside
 pub mod Bits
+pub mod Answering
+pub mod Firsts

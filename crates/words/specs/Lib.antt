@@ -5,4 +5,5 @@ pub mod Bits
 pub mod Orders
 pub mod Slices
 pub mod Packed
+pub mod Fields
 pub mod Theorems

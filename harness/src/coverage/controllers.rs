@@ -1,10 +1,11 @@
 //! What random calls on a controller have reached, and what they must reach. What
 //! applies to a call is found here by looking at the bytes, without the model.
 
-use crate::call::{Call, Function};
+use super::counts::number;
+use super::{Numbered, Reachable};
+use crate::call::{Call, Function, VicCall};
 use crate::compare::Answer;
 use crate::model::{CHOICE_SIZE, CONTROLLER_SIZE, PORTS};
-use std::collections::{BTreeMap, BTreeSet};
 
 /// How it came that nothing is told.
 #[derive(Clone, Copy, Debug, PartialEq, Eq, PartialOrd, Ord)]
@@ -20,14 +21,7 @@ pub enum Silence {
 /// One thing that must have been reached.
 #[derive(Clone, Copy, Debug, PartialEq, Eq, PartialOrd, Ord)]
 pub enum Reached {
-    /// A call returned this number, the field of 8 left out.
-    Returned(Function, u32),
-    /// The first refusal was given though the second applied as well.
-    Outranked(Function, u32, u32),
-    /// 8 was given by this call with this field, which no other broken one was.
-    Field(usize),
-    /// .. and with others broken behind it.
-    FieldOfSome,
+    Numbered(Numbered),
     Silent(Silence),
     /// This port was told.
     Told(u8),
@@ -66,12 +60,6 @@ const BITS: [(Function, usize); 3] = [
     (Function::VicEnable, 20),
 ];
 
-fn number(bytes: &[u8], at: usize, size: usize) -> u64 {
-    bytes[at..at + size]
-        .iter()
-        .fold(0, |number, &byte| number << 8 | u64::from(byte))
-}
-
 fn config(vic: &[u8], port: usize) -> u64 {
     number(vic, 24 + 2 * port, 2)
 }
@@ -93,7 +81,10 @@ fn is_pending(vic: &[u8], port: usize) -> bool {
 }
 
 /// Every field that breaks its rule.
-pub fn broken_fields(vic: &[u8]) -> Vec<usize> {
+fn broken_fields(vic: &[u8]) -> Vec<usize> {
+    if vic.len() != CONTROLLER_SIZE {
+        return Vec::new();
+    }
     let ports = usize::from(vic[0]);
     let mut broken = Vec::new();
     if !(1..=PORTS).contains(&ports) {
@@ -119,7 +110,7 @@ pub fn broken_fields(vic: &[u8]) -> Vec<usize> {
 /// The port that a controller tells, by the words: it is pending with a level
 /// above 0, and every other such port has a lower level, or the same and a higher
 /// index.
-pub fn port_told(vic: &[u8]) -> Option<usize> {
+fn port_told(vic: &[u8]) -> Option<usize> {
     let asks = |port: &usize| is_pending(vic, *port) && level(vic, *port) > 0;
     let ports = usize::from(vic[0]).min(PORTS);
     let asking: Vec<usize> = (0..ports).filter(asks).collect();
@@ -136,28 +127,26 @@ fn handler(vic: &[u8], port: usize) -> u64 {
     port as u64 * number(vic, 4, 4) + number(vic, 8, 4)
 }
 
-fn port_given(call: &Call) -> Option<u32> {
+fn port_given(call: &VicCall) -> Option<u32> {
     match call {
-        Call::VicConfigure { port, .. }
-        | Call::VicEnable { port, .. }
-        | Call::VicTrigger { port, .. }
-        | Call::VicLine { port, .. } => Some(*port),
+        VicCall::Configure { port, .. }
+        | VicCall::Enable { port, .. }
+        | VicCall::Trigger { port, .. }
+        | VicCall::Line { port, .. } => Some(*port),
         _ => None,
     }
 }
 
 /// The numbers of all refusals that apply, in their order; 8 with its field.
-pub fn numbers_applying(call: &Call) -> Vec<u32> {
-    let Some(vic) = call.controller() else {
-        return Vec::new();
-    };
+fn numbers_applying(call: &VicCall) -> Vec<u32> {
+    let vic = call.vic();
     let mut applying = Vec::new();
     let other_answer =
-        matches!(call, Call::VicChoose { answer, .. } if answer.len() != CHOICE_SIZE);
+        matches!(call, VicCall::Choose { answer, .. } if answer.len() != CHOICE_SIZE);
     if vic.len() != CONTROLLER_SIZE || other_answer {
         applying.push(7);
     }
-    if let Call::VicCreate { ports, .. } = call {
+    if let VicCall::Create { ports, .. } = call {
         if !(1..=32).contains(ports) {
             applying.push(21);
         }
@@ -174,84 +163,61 @@ pub fn numbers_applying(call: &Call) -> Vec<u32> {
     if port_given(call).is_some_and(|port| port >= u32::from(vic[0])) {
         applying.push(21);
     }
-    let chooses = matches!(call, Call::VicChoose { .. });
+    let chooses = matches!(call, VicCall::Choose { .. });
     if chooses && port_told(vic).is_some_and(|port| handler(vic, port) >> 32 != 0) {
         applying.push(22);
     }
     applying
 }
 
-/// How often each was reached.
-#[derive(Default)]
-pub struct ControllerCoverage {
-    counts: BTreeMap<Reached, u64>,
-}
-
-impl ControllerCoverage {
-    /// Counts what a call and its answer show.
-    pub fn observe(&mut self, call: &Call, answer: &Answer) {
-        let mut reached = vec![Reached::Returned(call.function(), answer.returned & 0xFF)];
-        reached.extend(refused(call));
-        if answer.returned == 0 {
-            reached.extend(done(call));
-        }
-        for point in reached {
-            *self.counts.entry(point).or_default() += 1;
-        }
-    }
-
-    pub fn rarest(&self) -> Option<(Reached, u64)> {
-        let count = |point: &Reached| self.counts.get(point).copied().unwrap_or(0);
-        let counted = required().into_iter().map(|point| (point, count(&point)));
-        counted.min_by_key(|&(_, count)| count)
-    }
-
-    /// What was not reached, and what was though it is not in the list.
-    pub fn missing(&self) -> Vec<Reached> {
-        let mut missing = required();
-        missing.retain(|point| !self.counts.contains_key(point));
-        missing
-    }
-
-    pub fn unlisted(&self) -> Vec<Reached> {
-        let required: BTreeSet<Reached> = required().into_iter().collect();
-        let mut unlisted: Vec<Reached> = self.counts.keys().copied().collect();
-        unlisted.retain(|point| !required.contains(point));
-        unlisted
+/// The call, where it is one on a controller.
+fn on_controller(call: &Call) -> &VicCall {
+    match call {
+        Call::Vic(call) => call,
+        _ => panic!("no call on a controller:\n{call}"),
     }
 }
 
-fn refused(call: &Call) -> Vec<Reached> {
-    let applying = numbers_applying(call);
+impl Reachable for Reached {
+    fn required() -> Vec<Reached> {
+        [numbers(), marks(), choices()].concat()
+    }
+
+    fn number_due(call: &Call) -> u32 {
+        let applying = numbers_applying(on_controller(call));
+        applying.first().copied().unwrap_or(0)
+    }
+
+    fn shown(call: &Call, answer: &Answer, reach: &mut dyn FnMut(Reached)) {
+        let call = on_controller(call);
+        let (function, applying) = (call.function(), numbers_applying(call));
+        let broken = broken_fields(call.vic());
+        Numbered::shown(function, answer.returned, &applying, &broken)
+            .into_iter()
+            .map(Reached::Numbered)
+            .for_each(&mut *reach);
+        let shown = match answer.returned {
+            0 => done(call),
+            22 => too_large(call),
+            _ => Vec::new(),
+        };
+        shown.into_iter().for_each(reach);
+    }
+}
+
+fn too_large(call: &VicCall) -> Vec<Reached> {
+    let vic = call.vic();
+    let port = port_told(vic).expect("a port is chosen");
     let mut reached = Vec::new();
-    if let Some((&first, others)) = applying.split_first() {
-        let pair = |&other: &u32| Reached::Outranked(call.function(), first & 0xFF, other & 0xFF);
-        reached.extend(others.iter().map(pair));
-        if first & 0xFF == 8 {
-            let broken = call.controller().map(|vic| broken_fields(vic));
-            match broken.unwrap_or_default().as_slice() {
-                [alone] => reached.push(Reached::Field(*alone)),
-                _ => reached.push(Reached::FieldOfSome),
-            }
-        }
-        if first == 22 {
-            let vic = call.controller().expect("22 is the choice's");
-            let port = port_told(vic).expect("a port is chosen");
-            if handler(vic, port) == 1 << 32 {
-                reached.push(Reached::FirstTooLarge);
-            }
-            if handler(vic, 0) >> 32 == 0 {
-                reached.push(Reached::OnlyChosenTooLarge);
-            }
-        }
-    }
+    reached.extend((handler(vic, port) == 1 << 32).then_some(Reached::FirstTooLarge));
+    reached.extend((handler(vic, 0) >> 32 == 0).then_some(Reached::OnlyChosenTooLarge));
     reached
 }
 
-fn done(call: &Call) -> Vec<Reached> {
+fn done(call: &VicCall) -> Vec<Reached> {
     match call {
-        Call::VicChoose { vic, .. } => chosen(vic),
-        Call::VicConfigure {
+        VicCall::Choose { vic, .. } => chosen(vic),
+        VicCall::Configure {
             level, set, nmi, ..
         } => {
             let mut reached = Vec::new();
@@ -260,17 +226,17 @@ fn done(call: &Call) -> Vec<Reached> {
             reached.extend((*nmi > 1).then_some(Reached::OtherFlag(call.function())));
             reached
         }
-        Call::VicEnable {
+        VicCall::Enable {
             vic,
             port,
             on: flag,
         }
-        | Call::VicTrigger {
+        | VicCall::Trigger {
             vic,
             port,
             on: flag,
         }
-        | Call::VicLine {
+        | VicCall::Line {
             vic,
             port,
             up: flag,
@@ -334,43 +300,52 @@ fn chosen(vic: &[u8]) -> Vec<Reached> {
     reached
 }
 
-/// Everything that random calls must reach.
-pub fn required() -> Vec<Reached> {
+fn numbers() -> Vec<Reached> {
     use Function::*;
+    let mut numbers = vec![Numbered::FieldOfSome];
+    numbers.extend(Numbered::of_call(VicCreate, &[7, 21], &[(7, 21)]));
+    for function in [VicConfigure, VicEnable, VicTrigger, VicLine] {
+        numbers.extend(Numbered::of_call(function, &[7, 8, 21], &[(8, 21)]));
+    }
+    let pairs = [(7, 8), (7, 22), (8, 22)];
+    numbers.extend(Numbered::of_call(VicChoose, &[7, 8, 22], &pairs));
+    numbers.extend([1, 2, 5, 6, 7].map(Numbered::Field));
+    numbers.extend((8..8 + PORTS).map(Numbered::Field));
+    numbers.into_iter().map(Reached::Numbered).collect()
+}
+
+fn marks() -> Vec<Reached> {
+    let mut marks = vec![Reached::OtherFlag(Function::VicConfigure)];
+    for (function, _) in BITS {
+        marks.push(Reached::OtherFlag(function));
+        for flag in [false, true] {
+            marks.extend([
+                Reached::Again(function, flag),
+                Reached::Changed(function, flag),
+            ]);
+        }
+    }
+    marks
+}
+
+fn choices() -> Vec<Reached> {
     use Reached::*;
-    let mut points = vec![
-        FieldOfSome,
+    use Silence::*;
+    let mut choices = vec![
         Tie,
         Between,
         LargerNotPending,
         LastAddress,
         FirstTooLarge,
         OnlyChosenTooLarge,
-        OtherFlag(VicConfigure),
     ];
-    points.extend([0, 7, 21].map(|number| Returned(VicCreate, number)));
-    points.push(Outranked(VicCreate, 7, 21));
-    for function in [VicConfigure, VicEnable, VicTrigger, VicLine] {
-        points.extend([0, 7, 8, 21].map(|number| Returned(function, number)));
-        points.push(Outranked(function, 8, 21));
-    }
-    points.extend([0, 7, 8, 22].map(|number| Returned(VicChoose, number)));
-    let pairs = [(7, 8), (7, 22), (8, 22)];
-    points.extend(pairs.map(|(first, second)| Outranked(VicChoose, first, second)));
-    points.extend([1, 2, 5, 6, 7].map(Field));
-    points.extend((8..8 + PORTS).map(Field));
-    use Silence::*;
-    points.extend([NoneRaised, NoneEnabled, LevelZero].map(Silent));
-    points.extend((0..PORTS as u8).map(Told));
-    points.extend([1, 63].map(Level));
-    points.extend([(true, false), (false, true), (true, true)].map(|(line, own)| By(line, own)));
-    points.extend([1, PORTS as u8].map(AllPending));
+    choices.extend([NoneRaised, NoneEnabled, LevelZero].map(Silent));
+    choices.extend((0..PORTS as u8).map(Told));
+    choices.extend([1, 63].map(Level));
+    choices.extend([(true, false), (false, true), (true, true)].map(|(line, own)| By(line, own)));
+    choices.extend([1, PORTS as u8].map(AllPending));
     for flag in [false, true] {
-        points.extend([NonMaskable(flag), Dropped(flag)]);
-        for (function, _) in BITS {
-            points.extend([Again(function, flag), Changed(function, flag)]);
-        }
+        choices.extend([NonMaskable(flag), Dropped(flag)]);
     }
-    points.extend(BITS.map(|(function, _)| OtherFlag(function)));
-    points
+    choices
 }

@@ -5,7 +5,7 @@
 //! address at the end of the bus, a controller that breaks one rule.
 
 use super::{Hosts, Rng};
-use crate::call::{Call, Lent};
+use crate::call::{Call, Lent, VicCall};
 use crate::model::{Config, Controller, Controllers, Paper, CHOICE_SIZE, CONTROLLER_SIZE, PORTS};
 
 const CALLS_WITH_ONE_CONTROLLER: u64 = 30;
@@ -18,7 +18,7 @@ pub struct ControllerHost {
 }
 
 /// How often each call is made, in parts of the sum.
-type Making = (u64, fn(&mut ControllerHost) -> Call);
+type Making = (u64, fn(&mut ControllerHost) -> VicCall);
 const MAKINGS: [Making; 6] = [
     (40, ControllerHost::choose),
     (20, ControllerHost::configure),
@@ -33,18 +33,21 @@ impl Hosts for ControllerHost {
     fn next_call(&mut self) -> Call {
         if self.calls_left == 0 {
             self.calls_left = 1 + self.rng.below(CALLS_WITH_ONE_CONTROLLER);
-            return self.good_create();
+            return self.good_create().into();
         }
         self.calls_left -= 1;
         if self.rng.chance(30) {
             self.vic = self.good_controller().pack();
         }
         let make = self.rng.weighted(&MAKINGS);
-        make(self)
+        make(self).into()
     }
 
     fn carry(&mut self, after: &Call) {
-        if let Some(vic) = after.controller().and_then(|lent| (**lent).try_into().ok()) {
+        let Call::Vic(call) = after else {
+            return;
+        };
+        if let Ok(vic) = (**call.vic()).try_into() {
             self.vic = vic;
         }
     }
@@ -188,14 +191,6 @@ impl ControllerHost {
         }
     }
 
-    /// The size that is due, or now and then another.
-    fn size(&mut self, due: usize) -> usize {
-        if self.rng.chance(96) {
-            return due;
-        }
-        self.rng.pick(&[0, 1, due - 1, due + 1, 2 * due])
-    }
-
     /// The carried controller, or now and then a broken one or one of another size.
     fn lent(&mut self) -> Lent {
         let mut bytes = if self.rng.chance(20) {
@@ -203,12 +198,12 @@ impl ControllerHost {
         } else {
             self.vic.to_vec()
         };
-        bytes.resize(self.size(CONTROLLER_SIZE), 0);
+        bytes.resize(self.rng.size(CONTROLLER_SIZE), 0);
         Lent::from(bytes)
     }
 
-    fn good_create(&mut self) -> Call {
-        Call::VicCreate {
+    fn good_create(&mut self) -> VicCall {
+        VicCall::Create {
             vic: Lent::from(self.rng.bytes(CONTROLLER_SIZE)),
             ports: u32::from(self.count()),
             vector_bytes: self.any(),
@@ -216,21 +211,20 @@ impl ControllerHost {
         }
     }
 
-    fn create(&mut self) -> Call {
-        let size = self.size(CONTROLLER_SIZE);
+    fn create(&mut self) -> VicCall {
         let any = self.rng.number() as u32;
-        Call::VicCreate {
-            vic: Lent::from(self.rng.bytes(size)),
+        VicCall::Create {
+            vic: Lent::from(self.rng.to_write_over(CONTROLLER_SIZE)),
             ports: self.rng.pick(&[0, 1, 32, 33, 256, 257, 288, u32::MAX, any]),
             vector_bytes: self.any(),
             base: self.any(),
         }
     }
 
-    fn configure(&mut self) -> Call {
+    fn configure(&mut self) -> VicCall {
         let high = self.rng.number() as u32 & !0x3F;
         let high = self.rng.pick(&[0, 0, 64, high]);
-        Call::VicConfigure {
+        VicCall::Configure {
             vic: self.lent(),
             port: self.port(),
             level: high | u32::from(self.level()),
@@ -239,36 +233,34 @@ impl ControllerHost {
         }
     }
 
-    fn enable(&mut self) -> Call {
-        Call::VicEnable {
+    fn enable(&mut self) -> VicCall {
+        VicCall::Enable {
             vic: self.lent(),
             port: self.port(),
             on: self.flag(),
         }
     }
 
-    fn trigger(&mut self) -> Call {
-        Call::VicTrigger {
+    fn trigger(&mut self) -> VicCall {
+        VicCall::Trigger {
             vic: self.lent(),
             port: self.port(),
             on: self.flag(),
         }
     }
 
-    fn line(&mut self) -> Call {
-        Call::VicLine {
+    fn line(&mut self) -> VicCall {
+        VicCall::Line {
             vic: self.lent(),
             port: self.port(),
             up: self.flag(),
         }
     }
 
-    /// The answer has bytes to be written over.
-    fn choose(&mut self) -> Call {
-        let size = self.size(CHOICE_SIZE);
-        Call::VicChoose {
+    fn choose(&mut self) -> VicCall {
+        VicCall::Choose {
             vic: self.lent(),
-            answer: Lent::from(self.rng.bytes(size)),
+            answer: Lent::from(self.rng.to_write_over(CHOICE_SIZE)),
         }
     }
 }

@@ -43,6 +43,14 @@ impl Rng {
         unreachable!("the weights add up to their sum")
     }
 
+    /// The size that is due, or now and then another.
+    pub fn size(&mut self, due: usize) -> usize {
+        if self.chance(96) {
+            return due;
+        }
+        self.pick(&[0, 1, due - 1, due + 1, 2 * due])
+    }
+
     pub fn bytes(&mut self, count: usize) -> Vec<u8> {
         let mut bytes = vec![0; count];
         for chunk in bytes.chunks_mut(8) {
@@ -50,5 +58,12 @@ impl Rng {
             chunk.copy_from_slice(&random[..chunk.len()]);
         }
         bytes
+    }
+
+    /// Bytes to be written over, so that what is not written can be seen; now and
+    /// then not so many as are due.
+    pub fn to_write_over(&mut self, due: usize) -> Vec<u8> {
+        let size = self.size(due);
+        self.bytes(size)
     }
 }

@@ -1,5 +1,5 @@
-//! The seven calls on a core for a C host, on bytes; those on a controller stand
-//! with it.
+//! The seven calls on a core for a C host, on bytes; those on a controller and on
+//! a timer stand with these.
 //!
 //! Their arguments are those of the C prototypes, with a slice for a pointer and
 //! a length. "A refused call returns its number and nothing else; machine and
@@ -7,7 +7,7 @@
 //! paper's order, and only then writes.
 
 use super::{
-    Controllers, Descriptor, Images, Ledger, Machine, Mode, Ports, Report, Steps, Window,
+    Controllers, Descriptor, Images, Ledger, Machine, Mode, Ports, Report, Steps, Timers, Window,
     DESCRIPTOR_SIZE,
 };
 
@@ -99,7 +99,7 @@ fn window_at(base: u64, memory: &[u8]) -> Window {
     }
 }
 
-pub trait Calls: Steps + Images + Controllers {
+pub trait Calls: Steps + Images + Controllers + Timers {
     /// What the model is called where its answers differ from another's.
     const NAME: &'static str = "model";
 

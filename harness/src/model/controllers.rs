@@ -11,7 +11,7 @@ pub const PORTS: usize = 32;
 /// "fields 1 to 39"
 pub const CONTROLLER_FIELDS: usize = 39;
 
-const BAD_SIZE: u32 = 7;
+pub(super) const BAD_SIZE: u32 = 7;
 const BAD_IMAGE: u32 = 8;
 const NO_PORT: u32 = 21;
 const ADDRESS_TOO_LARGE: u32 = 22;
@@ -127,8 +127,13 @@ fn with_bit(bits: u32, port: u32, on: bool) -> u32 {
 }
 
 /// The number that a call returns: 0 for done, or the refusal's.
-fn number(outcome: Result<(), u32>) -> u32 {
+pub(super) fn number(outcome: Result<(), u32>) -> u32 {
     outcome.err().unwrap_or(0)
+}
+
+/// "8 carries it, in C as 8 + 256 × field"
+pub(super) fn number_of_field(field: usize) -> u32 {
+    BAD_IMAGE + 256 * field as u32
 }
 
 pub trait Controllers: Copy {
@@ -169,9 +174,8 @@ pub trait Controllers: Copy {
         (1..=CONTROLLER_FIELDS).find(|&field| !self.field_kept(controller, field))
     }
 
-    /// "8 carries it, in C as 8 + 256 × field"
     fn broken_number(self, field: usize) -> u32 {
-        BAD_IMAGE + 256 * field as u32
+        number_of_field(field)
     }
 
     fn controller(self, vic: &[u8]) -> Result<Controller, u32> {

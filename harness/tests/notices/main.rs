@@ -4,8 +4,8 @@
 mod slips;
 
 use harness::call::{Call, Party};
-use harness::compare::{compare, compare_call, compare_host, Mismatch};
-use harness::gen::ControllerHost;
+use harness::compare::{compare_call, compare_host, Mismatch};
+use harness::gen::{ControllerHost, Host, Hosts, TimerHost};
 use harness::model::Paper;
 use slips::Slip;
 use std::collections::BTreeSet;
@@ -31,29 +31,23 @@ impl Party for Guarded<'_> {
     }
 }
 
+/// Where the slip is noticed in calls of this host.
+fn noticed_by(host: &mut dyn Hosts, slip: &dyn Party) -> Option<Mismatch> {
+    compare_host(host, &Paper, &Guarded(slip), MOST_CALLS, &mut |_, _| {}).err()
+}
+
 fn notice(slip: &dyn Party) -> Option<Mismatch> {
-    compare(&Paper, &Guarded(slip), SEED, MOST_CALLS, &mut |_, _| {}).err()
+    noticed_by(&mut Host::new(SEED), slip)
 }
 
 #[test]
 fn the_slips_are_many_and_different() {
     let mut slips = slips::all();
     slips.extend(slips::controllers::slips());
+    slips.extend(slips::timers::slips());
     let different: BTreeSet<&String> = slips.iter().map(|(text, _)| text).collect();
     assert_eq!(different.len(), slips.len());
-    assert!(slips.len() >= 240, "only {} slips", slips.len());
-}
-
-fn notice_of_controller(slip: &dyn Party) -> Option<Mismatch> {
-    let mut host = ControllerHost::new(SEED);
-    compare_host(
-        &mut host,
-        &Paper,
-        &Guarded(slip),
-        MOST_CALLS,
-        &mut |_, _| {},
-    )
-    .err()
+    assert!(slips.len() >= 460, "only {} slips", slips.len());
 }
 
 #[test]
@@ -63,7 +57,14 @@ fn every_slip_is_noticed() {
 
 #[test]
 fn every_slip_of_the_controller_is_noticed() {
-    are_noticed(slips::controllers::slips(), notice_of_controller);
+    let notice = |slip: &dyn Party| noticed_by(&mut ControllerHost::new(SEED), slip);
+    are_noticed(slips::controllers::slips(), notice);
+}
+
+#[test]
+fn every_slip_of_the_timer_is_noticed() {
+    let notice = |slip: &dyn Party| noticed_by(&mut TimerHost::new(SEED), slip);
+    are_noticed(slips::timers::slips(), notice);
 }
 
 /// Each is noticed and shown by the smallest case, which is one call, shows the

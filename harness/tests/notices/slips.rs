@@ -7,28 +7,31 @@ use harness::model::{ImageRule, Images};
 /// Takes the rules of every other trait as they stand in the paper.
 macro_rules! paper_otherwise {
     (Windows for $model:ident) => {
-        paper_otherwise!(Registers, Descriptors, Ledgers, Steps, Images, Controllers, Calls: $model);
+        paper_otherwise!(Registers, Descriptors, Ledgers, Steps, Images, Controllers, Timers, Calls: $model);
     };
     (Registers for $model:ident) => {
-        paper_otherwise!(Windows, Descriptors, Ledgers, Steps, Images, Controllers, Calls: $model);
+        paper_otherwise!(Windows, Descriptors, Ledgers, Steps, Images, Controllers, Timers, Calls: $model);
     };
     (Descriptors for $model:ident) => {
-        paper_otherwise!(Windows, Registers, Ledgers, Steps, Images, Controllers, Calls: $model);
+        paper_otherwise!(Windows, Registers, Ledgers, Steps, Images, Controllers, Timers, Calls: $model);
     };
     (Ledgers for $model:ident) => {
-        paper_otherwise!(Windows, Registers, Descriptors, Steps, Images, Controllers, Calls: $model);
+        paper_otherwise!(Windows, Registers, Descriptors, Steps, Images, Controllers, Timers, Calls: $model);
     };
     (Steps for $model:ident) => {
-        paper_otherwise!(Windows, Registers, Descriptors, Ledgers, Images, Controllers, Calls: $model);
+        paper_otherwise!(Windows, Registers, Descriptors, Ledgers, Images, Controllers, Timers, Calls: $model);
     };
     (Images for $model:ident) => {
-        paper_otherwise!(Windows, Registers, Descriptors, Ledgers, Steps, Controllers, Calls: $model);
+        paper_otherwise!(Windows, Registers, Descriptors, Ledgers, Steps, Controllers, Timers, Calls: $model);
     };
     (Calls for $model:ident) => {
-        paper_otherwise!(Windows, Registers, Descriptors, Ledgers, Steps, Images, Controllers: $model);
+        paper_otherwise!(Windows, Registers, Descriptors, Ledgers, Steps, Images, Controllers, Timers: $model);
     };
     (Controllers for $model:ident) => {
-        paper_otherwise!(Windows, Registers, Descriptors, Ledgers, Steps, Images, Calls: $model);
+        paper_otherwise!(Windows, Registers, Descriptors, Ledgers, Steps, Images, Timers, Calls: $model);
+    };
+    (Timers for $model:ident) => {
+        paper_otherwise!(Windows, Registers, Descriptors, Ledgers, Steps, Images, Controllers, Calls: $model);
     };
     ($($rules:ident),*: $model:ident) => {
         $(impl harness::model::$rules for $model {})*
@@ -91,6 +94,7 @@ mod images;
 mod ledgers;
 mod registers;
 mod steps;
+pub mod timers;
 mod windows;
 
 /// An error under its description.

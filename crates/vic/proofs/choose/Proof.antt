@@ -4,7 +4,8 @@ use native.Mathlib.Omega.{arith}
 use lib.ListN.{length, replicate}
 use Rattle.vic.specs.Choice.{mostLevel, bestPort, chosenLevel, chosenPort, handler}
 use Rattle.vic.specs.Calls.{loadNumber}
-use Rattle.vic.proofs.Refusing.{answers-refused, answers-done, named, choose-size, choose-load, choose-nothing, choose-large, choose-told, answer-nothing, answer-told}
+use Rattle.words.proofs.Answering.{answers-refused, answers-done}
+use Rattle.vic.proofs.Refusing.{named, choose-size, choose-load, choose-nothing, choose-large, choose-told, answer-nothing, answer-told}
 use Rattle.vic.proofs.Telling.{put-whole, told-is, chosen-below}
 use borrow.Author.Needs.{needs}
 use Rattle.vic.proofs.choose.Statement.{statement}

@@ -1,4 +1,4 @@
-use Rattle.vic.proofs.Refusing.{answers-refused, answers-done}
+use Rattle.words.proofs.Answering.{answers-refused, answers-done}
 use Rattle.vic.specs.Layout.{place}
 use Rattle.words.specs.Slices.{putAt}
 use Rattle.words.specs.Orders.{bytesOf}

@@ -1,5 +1,6 @@
 use Rattle.vic.proofs.Telling.{put-whole, fresh-words, length-fresh}
-use Rattle.vic.proofs.Refusing.{answers-refused, answers-done, named, create-size, create-few, create-many, create-none}
+use Rattle.words.proofs.Answering.{answers-refused, answers-done}
+use Rattle.vic.proofs.Refusing.{named, create-size, create-few, create-many, create-none}
 use Rattle.vic.specs.Layout.{fresh}
 use Rattle.words.specs.Slices.{putAt}
 use native.Mathlib.Omega.{arith}

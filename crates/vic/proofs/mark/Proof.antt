@@ -1,4 +1,5 @@
-use Rattle.vic.proofs.Refusing.{answers-refused, answers-done, port-below}
+use Rattle.words.proofs.Answering.{answers-refused, answers-done}
+use Rattle.vic.proofs.Refusing.{port-below}
 use Rattle.vic.specs.Layout.{withBit}
 use Rattle.words.specs.Slices.{putAt}
 use Rattle.words.specs.Orders.{bytesOf}

@@ -1,0 +1,3 @@
+-- What only the contracts of private functions cite.
+-- Assumes nothing.
+pub mod Parts

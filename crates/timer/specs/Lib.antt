@@ -1,0 +1,9 @@
+pub mod Counting
+pub mod Registers
+pub mod Saved
+pub mod Calls
+pub mod Met
+pub mod InUse
+pub mod Rows
+pub mod Theorems
+pub mod Helpers
