@@ -26,7 +26,7 @@ use Rattle.chain_calls.specs.Theorems.{TimerInOrder, TimerUnchanged}
 use Rattle.timer.specs.Calls.{TimerRanUnique}
 use Rattle.timer.specs.Theorems.{TicksAdd, ZerosWithin, TicksSetTO, ReachesEveryPeriod, OneShot, ElapsedIsTicks, TimerSavesLoaded, TimerMetSaves, TimersLoad}
 use Rattle.timer.specs.Theorems.{TimerFieldTold, TimerCasesHold}
-use Rattle.vic.specs.Theorems.{ChosenIs, ChosenOne, NothingChosen, TooLargeExactly, ToldWhole, Configures, Drives, Triggers, Enables, Stays, Starts, CasesHold}
+use Rattle.vic.specs.Theorems.{ChosenIs, ChosenOne, NothingChosen, TooLargeExactly, ToldWhole, Configures, Drives, Triggers, Enables, VicFieldTold, Stays, Starts, CasesHold}
 
 -- ======== demand 1: every call gets a defined answer, and one that is refused changes nothing
 
@@ -533,6 +533,10 @@ pub enables : Enables
 enables = Rattle.vic.proofs.Proved.enables
 
 -- ---- controllers in use
+
+-- The field of a controller that is told breaks its rule, and every field before it keeps its own.
+pub vic-field-told : VicFieldTold
+vic-field-told = Rattle.vic.proofs.Keeping.vic-field-told
 
 -- A new controller keeps the rules.
 pub starts : Starts

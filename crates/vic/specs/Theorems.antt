@@ -3,13 +3,15 @@
 use Prim.Native.Nat.{ℕ, _+_, _*_, _^_, _≤_, _<_}
 use mathlib.Core.Path.{_≡_}
 use mathlib.Core.Bool.{Bool, true, false}
-use mathlib.Core.List.{List}
-use lib.ListN.{length}
+use mathlib.Core.List.{List, _∷_}
+use mathlib.Core.Logic.{_≢_}
+use lib.ListN.{length, getD}
 use Rattle.words.specs.declared.Order.the-variants.{MostFirst}
 use Rattle.words.specs.Bits.{bit}
 use Rattle.words.specs.Orders.{rowNumbers}
 use Rattle.vic.specs.Layout.{ports, zeros, vectorBytes, base, linesAt, softwareAt, enabledAt, lines, software, enabled, config, configOf, fresh, bitMade, configured}
 use Rattle.vic.specs.Choice.{chosenPort, Asks, IsChosen}
+use Rattle.vic.specs.Rules.{rules, lowestBroken}
 use Rattle.vic.specs.Rows.{Rows}
 use Rattle.vic.specs.Calls.{createNumber, loadNumber, portNumber, chooseNumber, chosen, answerWidths, told, answerOf}
 
@@ -108,6 +110,13 @@ Stays = (xs : List ℕ) (p : ℕ) → portNumber xs p ≡ 0 → StaysSound xs p
 
 abbrev pub Starts : Type 0
 Starts = (xs : List ℕ) (n each start : ℕ) → createNumber xs n ≡ 0 → loadNumber (fresh n each start) ≡ 0
+
+-- ---- the rules
+
+-- As order 1 has it of images: the field told breaks its rule, and every field before it keeps its own.
+abbrev pub VicFieldTold : Type 0
+VicFieldTold = (xs : List ℕ) → lowestBroken xs ≢ 0
+    → (getD (true ∷ rules xs) (lowestBroken xs) true ≡ false) × ((i : ℕ) → i < lowestBroken xs → getD (true ∷ rules xs) i true ≡ true)
 
 -- ---- the definitions held against the request
 
