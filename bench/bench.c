@@ -3,6 +3,7 @@
  * it is not. Each scene is played, shown and compared with what must come of
  * it; the program fails where one is not as it must be.
  */
+#include "late.h"
 #include "shared.h"
 #include "show.h"
 #include "stall.h"
@@ -119,8 +120,8 @@ static const struct scene SCENES[] = {
     },
 };
 
-/* Two more are played by themselves. */
-enum { SCENE_COUNT = sizeof SCENES / sizeof *SCENES, ALL_SCENES = SCENE_COUNT + 2 };
+/* Three more are played by themselves. */
+enum { SCENE_COUNT = sizeof SCENES / sizeof *SCENES, ALL_SCENES = SCENE_COUNT + 3 };
 
 /* What came of a scene. */
 struct outcome {
@@ -372,8 +373,9 @@ int main(void)
     show_legend();
     for (size_t i = 0; i < SCENE_COUNT; i++)
         good += play(i + 1, &SCENES[i]);
-    good += play_stall(SCENE_COUNT + 1, ENABLES);
-    good += play_shared(SCENE_COUNT + 2, ENABLES);
+    good += play_late(SCENE_COUNT + 1, ENABLES);
+    good += play_stall(SCENE_COUNT + 2, ENABLES);
+    good += play_shared(SCENE_COUNT + 3, ENABLES);
     printf("\n%zu of %d scenes are as they must be\n", good, ALL_SCENES);
     return good == ALL_SCENES ? 0 : 1;
 }

@@ -122,6 +122,15 @@ struct fault core_fault(const struct core *core)
     return fault;
 }
 
+struct slot core_slot(const struct core *core)
+{
+    struct slot slot;
+
+    slot.kind = core->image[SGDMA_IMAGE_SLOT_AT] >> SGDMA_IMAGE_SLOT_KIND_SHIFT;
+    slot.address = number_at(core->image + SGDMA_IMAGE_SLOT_ADDRESS_AT, 4);
+    return slot;
+}
+
 uint32_t core_look(const struct core *core)
 {
     uint8_t value[SGDMA_VALUE_SIZE];

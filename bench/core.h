@@ -68,6 +68,12 @@ struct fault {
     uint32_t address;
 };
 
+/* What the core has read ahead. */
+struct slot {
+    uint32_t kind;
+    uint32_t address; /* 0 where it is empty */
+};
+
 /* Ends the program, and tells the call, where the number is a refusal. */
 void must_be_done(const char *call, uint32_t number);
 
@@ -92,6 +98,7 @@ bool core_line(const struct core *core);
 struct ran core_run(struct core *core, struct stream in, struct stream out,
                     struct ledger ledger, uint32_t budget);
 struct fault core_fault(const struct core *core);
+struct slot core_slot(const struct core *core);
 
 /*
  * Looks whether the image is good, and nothing else: SGDMA_DONE, or the refusal

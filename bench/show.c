@@ -44,7 +44,7 @@ static const struct {
     const char *name;
     const char *rule;
 } FIELDS[] = {
-    [SGDMA_FIELD_EDITION] = {"edition", "be 1"},
+    [SGDMA_FIELD_EDITION] = {"edition", "be 2"},
     [SGDMA_FIELD_MODE] = {"mode", "be 0, 1 or 2"},
     [SGDMA_FIELD_PHASE] = {"phase", "be 0 to 6, and Halted in mode 2 only"},
     [SGDMA_FIELD_FAULT] =
@@ -73,6 +73,13 @@ static const struct {
         {"EOP seen", IN_HAND "; there fit the bytes moved"},
     [SGDMA_FIELD_ZERO] = {"zero bits", "be 0"},
     [SGDMA_FIELD_FAULT_ADDRESS] = {"fault address", "be 0 but in Faulted"},
+    [SGDMA_FIELD_SLOT_KIND] =
+        {"slot kind", "be 0, empty, but in Fetch, Move and WriteBack"},
+    [SGDMA_FIELD_SLOT_ZERO] = {"zero bits of the slot", "be 0"},
+    [SGDMA_FIELD_SLOT_ADDRESS] =
+        {"slot address", "be 0 if empty, else the pointer, and fit the kind"},
+    [SGDMA_FIELD_SLOT_BYTES] =
+        {"slot bytes", "be 0, but those of a descriptor any"},
 };
 
 /* The sign of the byte at an address where this sample must land. */

@@ -183,7 +183,8 @@ fn one(mode: u32, fields: Descriptor, beats: &[u16], room: usize) -> Call {
 }
 
 /// Stream to memory by one descriptor of 65,535 bytes. They run over the
-/// descriptor itself, which is allowed: it is read in its own Fetch only.
+/// descriptor itself and over the chain's end, which is allowed: both were read
+/// before.
 fn fill(desc_control: u8, mark: impl Fn(usize) -> u16) -> Call {
     let fields = Descriptor {
         destination: BASE,
@@ -387,19 +388,27 @@ fn missed(aims: &[(&str, bool)]) -> String {
     names.map(|(name, _)| format!("  {name} missed")).collect()
 }
 
-/// Calls on a core in Move, whose image has every field.
-fn calls() -> [(&'static str, Call); 4] {
+/// A core in Move with the next descriptor in its slot: its image has every field.
+fn moving() -> Firmware<'static> {
     let mut core = Firmware::new(&Paper, 2, BASE, 256);
     let fields = Descriptor {
         destination: BASE + 128,
+        next: BASE + 32,
         length: 64,
         control: OWNED,
         ..Descriptor::default()
     };
     core.build(BASE, &fields);
+    core.build(fields.next, &fields);
     core.write(offset::NEXT_DESCRIPTOR_POINTER, BASE);
     core.write(offset::CONTROL, control::RUN);
     core.run(&samples(20, no_mark), 0, 100);
+    core
+}
+
+/// Calls on such a core.
+fn calls() -> [(&'static str, Call); 4] {
+    let core = moving();
     let image = Lent::from(core.image.as_slice());
     let run = Call::Run {
         image: image.clone(),

@@ -34,7 +34,7 @@
  *   sgdma_timer_elapsed       the ticks between two snapshots
  *
  * The library keeps nothing between calls. All there is of a core is its image,
- * 44 bytes that belong to the caller. A copy of the image, with a copy of the
+ * 85 bytes that belong to the caller. A copy of the image, with a copy of the
  * window, is the saved core; lent to the next call, it goes on from there. A
  * controller is 88 bytes in the same way, and a timer is 14.
  *
@@ -79,7 +79,7 @@ extern "C" {
  * Sizes of lent slices, in bytes. A slice must have exactly its size: a larger
  * one is refused too.
  */
-#define SGDMA_IMAGE_SIZE              44
+#define SGDMA_IMAGE_SIZE              85
 #define SGDMA_VALUE_SIZE              4
 #define SGDMA_REPORT_SIZE             18
 #define SGDMA_DESCRIPTOR_ANSWER_SIZE  18
@@ -183,9 +183,11 @@ extern "C" {
  *
  *   Rest       RUN 0: no step. RUN 1: BUSY becomes 1, go to Fetch.
  *   Fetch      RUN 0: BUSY becomes 0, go to Rest. Else the descriptor at the
- *              pointer is read: 10, 11. Not owned: CHAIN_COMPLETED is set, go
- *              to Ended; BUSY and the pointer stay. Owned: 12; its fields are
- *              kept, the pointer becomes next_desc_ptr, go to Move.
+ *              pointer is taken from the slot or, where that is empty, read from
+ *              memory: 10, 11. Not owned: CHAIN_COMPLETED is set, go to Ended;
+ *              BUSY and the pointer stay. Owned: 12; its fields are kept, the
+ *              pointer becomes next_desc_ptr, the descriptor there is read ahead
+ *              into the slot, go to Move.
  *   Move       One byte goes
  *                mode 0  from memory (13) to memory (14),
  *                mode 1  from memory (13) to a beat; no room, no step,
@@ -208,15 +210,51 @@ extern "C" {
  *   Faulted    No step, until a reset.
  *
  * A fault takes the place of the step, and counts as one: BUSY becomes 0, the
- * descriptor in hand is dropped and not written back, nothing is written, no
- * beat is taken or made, and the core goes to Faulted. The image tells code
- * and address.
+ * descriptor in hand is dropped and not written back, what was read ahead is
+ * dropped too, nothing is written, no beat is taken or made, and the core goes to
+ * Faulted. The image tells code and address.
  */
 #define SGDMA_FAULT_MISALIGNED           10 /* Fetch: the pointer is not a multiple of 4 */
 #define SGDMA_FAULT_DESCRIPTOR_OUTSIDE   11 /* Fetch: its 32 bytes are not in the window */
 #define SGDMA_FAULT_NO_LENGTH            12 /* Fetch, modes 0 and 1: bytes_to_transfer is 0 */
 #define SGDMA_FAULT_SOURCE_OUTSIDE       13 /* Move: the byte to read is not in the window */
 #define SGDMA_FAULT_DESTINATION_OUTSIDE  14 /* Move: the byte to write is not in the window */
+
+/*
+ * What is read ahead
+ *
+ * The core has one descriptor always read in advance. The Fetch of an owned
+ * descriptor also reads the next one, all its 32 bytes as they are in memory then,
+ * into a slot, and the next Fetch takes it from there and does not look at memory.
+ * A next_desc_ptr that is not a multiple of 4, or not in the window, is kept in the
+ * slot as well: the fault is met at its own Fetch, and not at all where the core
+ * does not come to it.
+ *
+ * So a descriptor that is rewritten while it is in the slot runs as it was, and is
+ * written back with the desc_control that it had. One that was not owned when it
+ * was read ahead ends the chain, though it is owned by then. One that links to
+ * itself, without PARK, runs twice before the chain ends: the second time from the
+ * slot, in which it is still owned. Bytes moved over the descriptor in the slot
+ * change nothing in the slot.
+ *
+ * The slot is emptied by a write of the pointer, in every phase and also of the
+ * number that is there; by a reset; and where the core goes to Rest, Ended, Halted
+ * or Faulted. Clearing RUN alone empties nothing: where RUN is set again before
+ * the core has come to Rest, it goes on with what is in the slot.
+ *
+ * What firmware must do, then: write the chain, up to the descriptor at its end,
+ * before it sets RUN. Where it changes or adds descriptors later, it lets the core
+ * come to Rest or to Ended first, or it writes the pointer again, the number that
+ * it reads there: the next Fetch then reads memory.
+ *
+ * The run number counts how often RUN has gone from 0 to 1, in every phase. It is
+ * 0 in a core as it is created, stays at 4,294,967,295 once it is there, and outlives
+ * a reset. No register tells it; the image does.
+ */
+#define SGDMA_SLOT_EMPTY       0
+#define SGDMA_SLOT_DESCRIPTOR  1
+#define SGDMA_SLOT_MISALIGNED  2 /* fault 10 is met at the next Fetch */
+#define SGDMA_SLOT_OUTSIDE     3 /* fault 11 is met at the next Fetch */
 
 /*
  * Interrupts
@@ -259,7 +297,7 @@ extern "C" {
  * 4,294,967,295 used, has no room behind it either, however long the ledger is.
  */
 #define SGDMA_RECORD_SIZE           12
-#define SGDMA_RECORD_RUN_AT         0  /* 32 bits: run number; 0 in this edition of the image */
+#define SGDMA_RECORD_RUN_AT         0  /* 32 bits: 0 in every record for now */
 #define SGDMA_RECORD_DESCRIPTOR_AT  4  /* 32 bits: the bus address of the descriptor */
 #define SGDMA_RECORD_ACTUAL_AT      8  /* 16 bits: as in actual_bytes_transferred */
 #define SGDMA_RECORD_STATUS_AT      10 /* 8 bits: as in desc_status, errors of its beats */
@@ -271,7 +309,9 @@ extern "C" {
  *
  * Descriptors are memory, and the core writes where they say: a byte that lands
  * on the control byte of another descriptor can clear its OWNED_BY_HW, and then
- * it reads as done with no sample behind it. It has no record in the ledger.
+ * it reads as done with no sample behind it, and without a record in the ledger.
+ * The one that is in the slot by then is processed all the same, and has its
+ * record when it is written back. Any other one ends the chain, and never has one.
  * Firmware that trusts a done mark alone sees to it, on a fresh core in mode 2
  * and before it sets RUN, that
  *   - the descriptors of the chain are multiples of 4, in the window, and apart
@@ -319,14 +359,16 @@ extern "C" {
 #define SGDMA_ANSWER_DESC_CONTROL_AT              17 /* 8 bits */
 
 /*
- * The image, 44 bytes. Firmware keeps it, copies it and lends it; the fault is
- * what it may want to read there. For the reader of a dump, its 22 fields in
- * order: the byte in which each begins, its width in bits, the most significant
- * first, and the rule by which a call knows that it is wrong. The phases are
- * numbered from Rest, 0, to Faulted, 6, in the order above.
+ * The image, 85 bytes, edition 2. Firmware keeps it, copies it and lends it; the
+ * fault, the slot and the run number are what it may want to read there. An image
+ * of edition 1, which had 44 bytes, is refused as one of another size. For the
+ * reader of a dump, its 27 fields in order: the byte in which each begins, its
+ * width in bits, the most significant first, and the rule by which a call knows
+ * that it is wrong. The phases are numbered from Rest, 0, to Faulted, 6, in the
+ * order above, and the kinds of the slot as SGDMA_SLOT_EMPTY and so on are.
  *
  *       field               byte  bits  rule
- *    1  edition                0     4  1
+ *    1  edition                0     4  2
  *    2  mode                   0     2  0, 1 or 2
  *    3  phase                  0     3  0 to 6; Halted, 5, in mode 2 only
  *    4  armed                  1     1  none of its own: see 9
@@ -358,6 +400,16 @@ extern "C" {
  *                                       1 where not all bytes are moved
  *   21  zero                  38    15  0
  *   22  fault address         40    32  0, but in Faulted any
+ *       slot                            empty, and each of 25 and 26 is 0, or held
+ *   23    its kind            44     2  held in Fetch, Move and WriteBack only
+ *   24  zero                  44     6  0
+ *   25    its address         45    32  the pointer; and the kind is that of this
+ *                                       address: 2 where it is not a multiple of 4,
+ *                                       else 3 where its 32 bytes are not in the
+ *                                       window, else 1
+ *   26    its bytes           49   256  kind 1: any, in the order of memory. Kinds
+ *                                       2 and 3: 0
+ *   27  run number            81    32  none
  *
  * An image that breaks one of these rules is refused (SGDMA_BAD_IMAGE), and the
  * field is told, by its number in the table. Where several are wrong the lowest
@@ -391,11 +443,21 @@ extern "C" {
 #define SGDMA_FIELD_EOP_SEEN            UINT32_C(20)
 #define SGDMA_FIELD_ZERO                UINT32_C(21)
 #define SGDMA_FIELD_FAULT_ADDRESS       UINT32_C(22)
+#define SGDMA_FIELD_SLOT_KIND           UINT32_C(23)
+#define SGDMA_FIELD_SLOT_ZERO           UINT32_C(24)
+#define SGDMA_FIELD_SLOT_ADDRESS        UINT32_C(25)
+#define SGDMA_FIELD_SLOT_BYTES          UINT32_C(26)
+#define SGDMA_FIELD_RUN_NUMBER          UINT32_C(27) /* never told */
 
 #define SGDMA_IMAGE_FAULT_AT          1    /* 8 bits, of which the code is those of the mask */
 #define SGDMA_IMAGE_FAULT_MASK        0x1F
 #define SGDMA_IMAGE_FAULT_ADDRESS_AT  40   /* 32 bits: for 10, 11 and 12 the pointer; */
                                            /* for 13 and 14 the byte's, modulo 2^32 */
+#define SGDMA_IMAGE_SLOT_AT           44   /* 8 bits, of which the kind is the upper two */
+#define SGDMA_IMAGE_SLOT_KIND_SHIFT   6
+#define SGDMA_IMAGE_SLOT_ADDRESS_AT   45   /* 32 bits */
+#define SGDMA_IMAGE_SLOT_BYTES_AT     49   /* 32 bytes: the descriptor that was read ahead */
+#define SGDMA_IMAGE_RUN_NUMBER_AT     81   /* 32 bits */
 
 /*
  * The interrupt controller
@@ -567,11 +629,12 @@ extern "C" {
 #define SGDMA_ADDRESS_TOO_LARGE  UINT32_C(22) /* the chosen port's handler is past 32 bits */
 
 /*
- * Makes a fresh core: every register 0, nothing pending, phase Rest.
+ * Makes a fresh core: every register 0, nothing pending, phase Rest, the slot
+ * empty, run number 0.
  *
  * Reads    nothing: what the image held before does not matter
  * Writes   image
- * Returns  SGDMA_BAD_SIZE    image_len is not 44
+ * Returns  SGDMA_BAD_SIZE    image_len is not 85
  *          SGDMA_BAD_MODE    mode is above 2
  *          SGDMA_BAD_WINDOW  base and length break the limits of a window
  *          SGDMA_DONE
@@ -587,7 +650,7 @@ uint32_t sgdma_create(uint8_t *image, size_t image_len,
  *
  * Reads    image
  * Writes   value: the register, 4 bytes
- * Returns  SGDMA_BAD_SIZE     image_len is not 44 or value_len not 4
+ * Returns  SGDMA_BAD_SIZE     image_len is not 85 or value_len not 4
  *          SGDMA_BAD_IMAGE    + 256 x field: that field of the image is wrong
  *          SGDMA_NO_REGISTER  offset is not 0, 4 or 8
  *          SGDMA_DONE
@@ -601,17 +664,20 @@ uint32_t sgdma_read_register(const uint8_t *image, size_t image_len,
  *
  * Reads    image
  * Writes   image: the core after the write
- * Returns  SGDMA_BAD_SIZE     image_len is not 44
+ * Returns  SGDMA_BAD_SIZE     image_len is not 85
  *          SGDMA_BAD_IMAGE    + 256 x field: that field of the image is wrong
  *          SGDMA_NO_REGISTER  offset is not 0, 4 or 8
  *          SGDMA_DONE
  *
  * A write of control with SW_RESET 1, where SW_RESET reads 1 already, makes the
- * core fresh; mode and window stay, and the rest of the value is ignored. Any
- * other stores bits 0 to 17; CLEAR_INTERRUPT clears what is pending; RUN going
- * from 0 to 1 starts the count of descriptors anew; RUN 0 takes a core from
- * Ended or Halted to Rest, with BUSY 0. RUN 0 in Move does not cut a descriptor
- * short: the core stops after its WriteBack.
+ * core fresh; mode, window and run number stay, and the rest of the value is
+ * ignored. Any other stores bits 0 to 17; CLEAR_INTERRUPT clears what is pending;
+ * RUN going from 0 to 1 starts the count of descriptors anew and adds 1 to the run
+ * number; RUN 0 takes a core from Ended or Halted to Rest, with BUSY 0. RUN 0 in
+ * Move does not cut a descriptor short: the core stops after its WriteBack.
+ *
+ * A write of the pointer, whatever the number, empties the slot: the next Fetch
+ * reads memory.
  */
 uint32_t sgdma_write_register(uint8_t *image, size_t image_len,
                               uint32_t offset, uint32_t value);
@@ -621,7 +687,7 @@ uint32_t sgdma_write_register(uint8_t *image, size_t image_len,
  *
  * Reads    image
  * Writes   value: 1 where the line is up, else 0, 4 bytes
- * Returns  SGDMA_BAD_SIZE   image_len is not 44 or value_len not 4
+ * Returns  SGDMA_BAD_SIZE   image_len is not 85 or value_len not 4
  *          SGDMA_BAD_IMAGE  + 256 x field: that field of the image is wrong
  *          SGDMA_DONE
  */
@@ -639,7 +705,7 @@ uint32_t sgdma_line(const uint8_t *image, size_t image_len,
  *          ledger: a record for each descriptor written back, behind the `used`
  *          first ones; what lies before and past them is unchanged
  *          report: reason, steps, beats taken, beats made, records now used
- * Returns  SGDMA_BAD_SIZE      image_len is not 44 or report_len not 18
+ * Returns  SGDMA_BAD_SIZE      image_len is not 85 or report_len not 18
  *          SGDMA_BAD_IMAGE     + 256 x field: that field of the image is wrong
  *          SGDMA_ODD_STREAM    beats_len or out_len is odd, in any mode
  *          SGDMA_BAD_LEDGER    ledger_len is not a multiple of 12, or is less

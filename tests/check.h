@@ -30,6 +30,7 @@ void test_ledger(void);
 void test_largest_ledger(void);
 void test_refusals(void);
 void test_fields(void);
+void test_ahead(void);
 void test_controller(void);
 void test_timer(void);
 

@@ -35,6 +35,11 @@ static const struct {
     {SGDMA_FIELD_EOP_SEEN, 1},
     {SGDMA_FIELD_ZERO, 15},
     {SGDMA_FIELD_FAULT_ADDRESS, 32},
+    {SGDMA_FIELD_SLOT_KIND, 2},
+    {SGDMA_FIELD_SLOT_ZERO, 6},
+    {SGDMA_FIELD_SLOT_ADDRESS, 32},
+    {SGDMA_FIELD_SLOT_BYTES, 256},
+    {SGDMA_FIELD_RUN_NUMBER, 32},
 };
 
 /* A field and what stands there. */
@@ -72,7 +77,7 @@ static void put(uint8_t *image, struct set set)
     while (LAYOUT[i].field != set.field)
         place += LAYOUT[i++].bits;
     for (unsigned bit = LAYOUT[i].bits; bit-- > 0; place++)
-        put_bit(image, place, set.value >> bit & 1);
+        put_bit(image, place, bit < 32 ? set.value >> bit & 1 : 0);
 }
 
 static void put_all(uint8_t *image, const struct set *sets, size_t count)
@@ -88,7 +93,7 @@ static void make_image(uint8_t *image, uint32_t mode, enum phase phase)
 {
     bool busy = phase >= FETCH && phase <= ENDED;
     const struct set always[] = {
-        {SGDMA_FIELD_EDITION, 1},
+        {SGDMA_FIELD_EDITION, 2},
         {SGDMA_FIELD_MODE, mode},
         {SGDMA_FIELD_PHASE, phase},
         {SGDMA_FIELD_STATUS, busy ? SGDMA_STATUS_BUSY : 0},
@@ -144,16 +149,22 @@ static void check_calls(const uint8_t *image, uint32_t refusal, uint32_t field)
 #define MODE_2 SGDMA_MODE_STREAM_TO_MEMORY
 #define RUN    SGDMA_CONTROL_RUN
 
+/* Addresses for the slot, and a slot that is held at the pointer. */
+enum { INSIDE = LENT_BASE + 32, UNALIGNED = LENT_BASE + 2, PAST = LENT_BASE + LENT_LENGTH - 28 };
+#define AT(address, kind)                                                      \
+    {SGDMA_FIELD_POINTER, (address)}, {SGDMA_FIELD_SLOT_ADDRESS, (address)},   \
+    {SGDMA_FIELD_SLOT_KIND, (kind)}
+
 /* A rule: the good image, what is put there so that it is broken and no other is,
    and the field that is told. */
 static const struct rule {
     const char *broken;
     uint32_t mode;
     enum phase phase;
-    struct set sets[2];
+    struct set sets[4];
     uint32_t told;
 } RULES[] = {
-    {"edition 2", MODE_2, REST, {{SGDMA_FIELD_EDITION, 2}}, SGDMA_FIELD_EDITION},
+    {"edition 1", MODE_2, REST, {{SGDMA_FIELD_EDITION, 1}}, SGDMA_FIELD_EDITION},
     {"edition 0", MODE_2, MOVE, {{SGDMA_FIELD_EDITION, 0}}, SGDMA_FIELD_EDITION},
     {"mode 3", MODE_2, REST, {{SGDMA_FIELD_MODE, 3}}, SGDMA_FIELD_MODE},
     {"phase 7", MODE_2, REST, {{SGDMA_FIELD_PHASE, 7}}, SGDMA_FIELD_PHASE},
@@ -262,7 +273,81 @@ static const struct rule {
      SGDMA_FIELD_FAULT_ADDRESS},
     {"a fault address in Move", MODE_2, MOVE, {{SGDMA_FIELD_FAULT_ADDRESS, 1}},
      SGDMA_FIELD_FAULT_ADDRESS},
+    {"a slot held in Rest", MODE_2, REST, {AT(INSIDE, SGDMA_SLOT_DESCRIPTOR)},
+     SGDMA_FIELD_SLOT_KIND},
+    {"a slot held in Ended", MODE_1, ENDED, {AT(UNALIGNED, SGDMA_SLOT_MISALIGNED)},
+     SGDMA_FIELD_SLOT_KIND},
+    {"a slot held in Halted", MODE_2, HALTED, {AT(PAST, SGDMA_SLOT_OUTSIDE)},
+     SGDMA_FIELD_SLOT_KIND},
+    {"a slot held in Faulted", MODE_0, FAULTED, {AT(INSIDE, SGDMA_SLOT_DESCRIPTOR)},
+     SGDMA_FIELD_SLOT_KIND},
+    {"zero bits of an empty slot", MODE_2, REST, {{SGDMA_FIELD_SLOT_ZERO, 1}},
+     SGDMA_FIELD_SLOT_ZERO},
+    {"zero bits of a held slot", MODE_2, MOVE,
+     {AT(INSIDE, SGDMA_SLOT_DESCRIPTOR), {SGDMA_FIELD_SLOT_ZERO, 0x20}},
+     SGDMA_FIELD_SLOT_ZERO},
+    {"an address in an empty slot, Rest", MODE_2, REST,
+     {{SGDMA_FIELD_SLOT_ADDRESS, 1}}, SGDMA_FIELD_SLOT_ADDRESS},
+    {"an address in an empty slot, Move", MODE_2, MOVE,
+     {{SGDMA_FIELD_POINTER, INSIDE}, {SGDMA_FIELD_SLOT_ADDRESS, INSIDE}},
+     SGDMA_FIELD_SLOT_ADDRESS},
+    {"a slot that is not at the pointer", MODE_2, FETCH,
+     {{SGDMA_FIELD_POINTER, INSIDE + 4}, {SGDMA_FIELD_SLOT_ADDRESS, INSIDE},
+      {SGDMA_FIELD_SLOT_KIND, SGDMA_SLOT_DESCRIPTOR}}, SGDMA_FIELD_SLOT_ADDRESS},
+    {"a fault 11 that is not at the pointer", MODE_2, WRITE_BACK,
+     {{SGDMA_FIELD_POINTER, INSIDE}, {SGDMA_FIELD_SLOT_ADDRESS, PAST},
+      {SGDMA_FIELD_SLOT_KIND, SGDMA_SLOT_OUTSIDE}}, SGDMA_FIELD_SLOT_ADDRESS},
+    {"a descriptor at a misaligned address", MODE_2, MOVE,
+     {AT(UNALIGNED, SGDMA_SLOT_DESCRIPTOR)}, SGDMA_FIELD_SLOT_ADDRESS},
+    {"a descriptor outside", MODE_2, WRITE_BACK, {AT(PAST, SGDMA_SLOT_DESCRIPTOR)},
+     SGDMA_FIELD_SLOT_ADDRESS},
+    {"fault 10 at a good address", MODE_2, FETCH, {AT(INSIDE, SGDMA_SLOT_MISALIGNED)},
+     SGDMA_FIELD_SLOT_ADDRESS},
+    {"fault 10 outside", MODE_2, MOVE, {AT(PAST, SGDMA_SLOT_MISALIGNED)},
+     SGDMA_FIELD_SLOT_ADDRESS},
+    {"fault 11 at a good address", MODE_2, MOVE, {AT(INSIDE, SGDMA_SLOT_OUTSIDE)},
+     SGDMA_FIELD_SLOT_ADDRESS},
+    {"fault 11 at a misaligned address", MODE_2, WRITE_BACK, {AT(3, SGDMA_SLOT_OUTSIDE)},
+     SGDMA_FIELD_SLOT_ADDRESS},
+    {"bytes in an empty slot, Rest", MODE_2, REST, {{SGDMA_FIELD_SLOT_BYTES, 1}},
+     SGDMA_FIELD_SLOT_BYTES},
+    {"bytes in an empty slot, Move", MODE_2, MOVE, {{SGDMA_FIELD_SLOT_BYTES, 0x80}},
+     SGDMA_FIELD_SLOT_BYTES},
+    {"bytes with fault 10", MODE_2, FETCH,
+     {AT(UNALIGNED, SGDMA_SLOT_MISALIGNED), {SGDMA_FIELD_SLOT_BYTES, 1}},
+     SGDMA_FIELD_SLOT_BYTES},
+    {"bytes with fault 11", MODE_2, WRITE_BACK,
+     {AT(PAST, SGDMA_SLOT_OUTSIDE), {SGDMA_FIELD_SLOT_BYTES, 1}},
+     SGDMA_FIELD_SLOT_BYTES},
 };
+
+/* What looks odd in slot and run number, and yet keeps every rule. */
+static const struct {
+    enum phase phase;
+    struct set sets[4];
+} GOOD[] = {
+    {FETCH, {AT(INSIDE, SGDMA_SLOT_DESCRIPTOR)}},
+    {MOVE, {AT(INSIDE, SGDMA_SLOT_DESCRIPTOR), {SGDMA_FIELD_SLOT_BYTES, UINT32_MAX}}},
+    {WRITE_BACK, {AT(LENT_BASE, SGDMA_SLOT_DESCRIPTOR)}},
+    {FETCH, {AT(UNALIGNED, SGDMA_SLOT_MISALIGNED)}},
+    {MOVE, {AT(3, SGDMA_SLOT_MISALIGNED)}},
+    {MOVE, {AT(PAST, SGDMA_SLOT_OUTSIDE)}},
+    {WRITE_BACK, {AT(LENT_BASE - 4, SGDMA_SLOT_OUTSIDE)}},
+    {REST, {{SGDMA_FIELD_RUN_NUMBER, UINT32_MAX}}},
+    {FAULTED, {{SGDMA_FIELD_RUN_NUMBER, 1}}},
+};
+
+static void check_good_slots(void)
+{
+    uint8_t image[SGDMA_IMAGE_SIZE];
+
+    check_case("slots and run numbers that keep the rules");
+    for (size_t i = 0; i < COUNT(GOOD); i++) {
+        make_image(image, MODE_2, GOOD[i].phase);
+        put_all(image, GOOD[i].sets, COUNT(GOOD[i].sets));
+        check_calls(image, SGDMA_DONE, 0);
+    }
+}
 
 /* The good image of a rule is one. Broken, the rule tells its field. */
 static void check_alone(const struct rule *rule)
@@ -278,15 +363,19 @@ static void check_alone(const struct rule *rule)
 
 static bool changes(const struct rule *rule, uint32_t field)
 {
-    return rule->sets[0].field == field || rule->sets[1].field == field;
+    for (size_t i = 0; i < COUNT(rule->sets); i++)
+        if (rule->sets[i].field == field)
+            return true;
+    return false;
 }
 
 /* Whether both rules can be broken in one image. */
 static bool go_together(const struct rule *one, const struct rule *other)
 {
-    return one->mode == other->mode && one->phase == other->phase &&
-           !changes(one, other->sets[0].field) &&
-           !(other->sets[1].field && changes(one, other->sets[1].field));
+    for (size_t i = 0; i < COUNT(other->sets) && other->sets[i].field; i++)
+        if (changes(one, other->sets[i].field))
+            return false;
+    return one->mode == other->mode && one->phase == other->phase;
 }
 
 /* Both broken: the lower field is told. */
@@ -303,9 +392,9 @@ static void check_both(const struct rule *one, const struct rule *other)
 }
 
 /* What makes a good image of one of which every bit is 1, field by field. No rule
-   is of armed, pending, pointer and base. */
+   is of armed, pending, pointer, base and run number. */
 static const struct set REPAIRS[] = {
-    {SGDMA_FIELD_EDITION, 1},
+    {SGDMA_FIELD_EDITION, 2},
     {SGDMA_FIELD_MODE, MODE_2},
     {SGDMA_FIELD_PHASE, REST},
     {SGDMA_FIELD_FAULT, 0},
@@ -323,6 +412,10 @@ static const struct set REPAIRS[] = {
     {SGDMA_FIELD_EOP_SEEN, 0},
     {SGDMA_FIELD_ZERO, 0},
     {SGDMA_FIELD_FAULT_ADDRESS, 0},
+    {SGDMA_FIELD_SLOT_KIND, SGDMA_SLOT_EMPTY},
+    {SGDMA_FIELD_SLOT_ZERO, 0},
+    {SGDMA_FIELD_SLOT_ADDRESS, 0},
+    {SGDMA_FIELD_SLOT_BYTES, 0},
 };
 
 /* All are wrong: each is told when those before it are put right. */
@@ -351,5 +444,6 @@ void test_fields(void)
             if (go_together(&RULES[i], &RULES[j]))
                 check_both(&RULES[i], &RULES[j]);
     }
+    check_good_slots();
     check_all_wrong();
 }

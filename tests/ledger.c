@@ -272,31 +272,40 @@ static void check_refused_everywhere(void)
 }
 
 /*
- * A sample that lands on the control byte of the next descriptor marks it done;
- * the ledger does not tell of it.
+ * A sample that lands on the control byte of a descriptor marks it done; the ledger
+ * does not tell of it. Of three, the first lands on the third: by then the second
+ * is read ahead, and the third is not, so that it is met as it is marked.
  */
 static void check_mark_without_record(void)
 {
-    enum { NEXT = 4128, ITS_CONTROL = NEXT + SGDMA_DESCRIPTOR_DESC_CONTROL_AT };
-    uint8_t memory[ROW_LENGTH] = {0}, records[2 * SGDMA_RECORD_SIZE] = {0};
-    uint8_t beat[SGDMA_BEAT_SIZE] = {0};
+    enum { SECOND = 4128, THIRD = 4160, ITS_CONTROL = THIRD + 31 };
+    uint8_t memory[ROW_LENGTH] = {0}, records[3 * SGDMA_RECORD_SIZE] = {0};
+    uint8_t beats[3 * SGDMA_BEAT_SIZE] = {0};
     struct descriptor first = {
-        .destination = ITS_CONTROL, .next = NEXT, .length = 1, .control = 0x80};
-    struct descriptor next = {
-        .destination = 4224, .next = 4160, .length = 1, .control = 0x80};
-    struct stream in = {beat, 1}, none = {NULL, 0};
-    struct ledger ledger = {records, 2, 0};
+        .destination = ITS_CONTROL, .next = SECOND, .length = 1, .control = 0x80};
+    struct descriptor second = {
+        .destination = 4224, .next = THIRD, .length = 1, .control = 0x80};
+    struct descriptor third = {
+        .destination = 4225, .next = 4192, .length = 1, .control = 0x80};
+    struct stream in = {beats, 3}, none = {NULL, 0};
+    struct ledger ledger = {records, 3, 0};
     struct core core;
+    struct ran ran;
 
     check_case("a done mark without a record");
     core_create(&core, SGDMA_MODE_STREAM_TO_MEMORY, ROW_BASE, memory, sizeof memory);
     core_build(&core, ROW_D, &first);
-    core_build(&core, NEXT, &next);
+    core_build(&core, SECOND, &second);
+    core_build(&core, THIRD, &third);
     core_write(&core, SGDMA_REGISTER_NEXT_DESCRIPTOR_POINTER, ROW_D);
     core_write(&core, SGDMA_REGISTER_CONTROL, SGDMA_CONTROL_RUN);
-    check("records used", core_run(&core, in, none, ledger, UINT32_MAX).used, 1);
+    ran = core_run(&core, in, none, ledger, UINT32_MAX);
+    check("reason", ran.reason, SGDMA_REASON_ENDED);
+    check("steps", ran.steps, 8);
+    check("records used", ran.used, 2);
     check("its control", memory[ITS_CONTROL - ROW_BASE], 0);
-    check("the record's descriptor", record_at(ledger, 0).descriptor, ROW_D);
+    check("a record's descriptor", record_at(ledger, 0).descriptor, ROW_D);
+    check("a record's descriptor", record_at(ledger, 1).descriptor, SECOND);
 }
 
 void test_ledger(void)

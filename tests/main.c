@@ -14,6 +14,7 @@ int main(void)
     test_largest_ledger();
     test_refusals();
     test_fields();
+    test_ahead();
     test_controller();
     test_timer();
     return check_figures();

@@ -56,6 +56,25 @@ static const struct call CALLS[] = {
       {outside, SGDMA_OUTSIDE}}},
 };
 
+/* An image of the size that edition 1 had: "7 means 85 bytes for edition 2". */
+static void check_edition_1(void)
+{
+    enum { ITS_SIZE = 44, ITS_EDITION = 1 << 4 };
+
+    check_case("an image of edition 1");
+    check("size of edition 2", SGDMA_IMAGE_SIZE, 85);
+    for (size_t i = 0; i < COUNT(CALLS); i++) {
+        struct lent l;
+
+        if (CALLS[i].make == lent_build_descriptor || CALLS[i].make == lent_read_descriptor)
+            continue;
+        lent_prepare(&l, CALLS[i].answer_len);
+        l.image[0] = (uint8_t)((l.image[0] & 0x0F) | ITS_EDITION);
+        l.image_len = ITS_SIZE;
+        check_lent(CALLS[i].make, &l, SGDMA_BAD_SIZE, 0);
+    }
+}
+
 /* A slice of length 0 may be NULL: where a size is asked for, that is wrong. */
 static void check_null(void)
 {
@@ -79,5 +98,6 @@ static void check_null(void)
 void test_refusals(void)
 {
     check_sets(CALLS, COUNT(CALLS));
+    check_edition_1();
     check_null();
 }

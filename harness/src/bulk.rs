@@ -9,7 +9,7 @@ pub mod rows;
 
 use crate::model::{
     descriptor_control, Calls, Controllers, Descriptors, Fault, Images, Ledgers, Machine, Mode,
-    Phase, Ports, Reason, Registers, Report, Steps, Timers, Windows, OUTPUT_EOP, OUTPUT_SOP,
+    Phase, Ports, Reason, Registers, Report, Slots, Steps, Timers, Windows, OUTPUT_EOP, OUTPUT_SOP,
 };
 use rows::Row;
 
@@ -19,6 +19,7 @@ pub struct Bulk;
 impl Windows for Bulk {}
 impl Registers for Bulk {}
 impl Descriptors for Bulk {}
+impl Slots for Bulk {}
 impl Ledgers for Bulk {}
 impl Images for Bulk {}
 impl Controllers for Bulk {}

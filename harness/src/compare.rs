@@ -186,12 +186,12 @@ fn for_lent_bytes(ours: &Call, theirs: &Call, note: &mut dyn FnMut(&str, u32, u3
 mod tests {
     use super::*;
     use crate::call::Lent;
-    use crate::model::Paper;
+    use crate::model::{Paper, IMAGE_SIZE};
 
     #[test]
     fn a_dead_canary_is_a_difference() {
         let call = Call::Line {
-            image: Lent::zeros(44),
+            image: Lent::zeros(IMAGE_SIZE),
             value: Lent::zeros(4),
         };
         let (answer, mut other) = (ask(&Paper, &call), ask(&Paper, &call));

@@ -9,11 +9,13 @@ mod counts;
 mod ledgers;
 mod observe;
 mod refusals;
+mod slots;
 pub mod timers;
 
 pub use counts::{compare_and_cover, Coverage, Numbered, Reachable};
 pub use ledgers::{LedgerFlaw, LedgerUse};
 pub use refusals::{applying, first_applying};
+pub use slots::{RunNumberCase, SlotCase};
 
 use crate::call::{Call, Function};
 use crate::compare::Answer;
@@ -169,6 +171,8 @@ pub enum Point {
     /// RUN went from 0 to 1 with a count that was not 0.
     RunRose(Phase),
     RunFell(Phase),
+    Slot(SlotCase),
+    RunNumber(RunNumberCase),
 }
 
 impl Reachable for Point {
@@ -183,6 +187,7 @@ impl Reachable for Point {
             write_back_points(),
             interrupt_points(),
             register_points(),
+            slots::required(),
         ];
         lists.concat()
     }

@@ -4,13 +4,15 @@
 //! firmware does, and starts anew after a while. Its choices lean towards what is
 //! easily missed: the ends of the window, the first and the last byte of a
 //! descriptor, one step at a time, one enable alone, the last room in the ledger,
-//! images that differ from a good one in a field or two.
+//! a descriptor written over while the core holds it, images that differ from a
+//! good one in a field or two.
 
 mod controllers;
 mod images;
 mod layout;
 mod ledgers;
 mod rng;
+mod slots;
 mod timers;
 
 pub use controllers::ControllerHost;
@@ -25,6 +27,8 @@ use crate::model::{
 
 const CALLS_WITH_ONE_WINDOW: u64 = 40;
 const TWO_TO_32: u64 = 1 << 32;
+/// The bytes of an image before there was a slot: another size like any other.
+const EDITION_1_SIZE: usize = 44;
 
 /// Whoever makes calls that lead to one another.
 pub trait Hosts {
@@ -94,6 +98,9 @@ impl Host {
         if self.rng.chance(10) {
             self.lay_chain();
         }
+        if self.rng.chance(12) {
+            self.rewrite_held();
+        }
         if self.rng.chance(75) {
             if let Some(help) = self.help_on() {
                 return help;
@@ -145,12 +152,16 @@ impl Host {
 
     /// The carried image, or now and then a broken one or one of another size.
     fn lent_image(&mut self) -> Lent {
-        let mut bytes = if self.rng.chance(14) {
+        let mut bytes = if self.rng.chance(16) {
             self.broken_image().pack().to_vec()
         } else {
             self.image.to_vec()
         };
-        bytes.resize(self.rng.size(IMAGE_SIZE), 0);
+        let mut size = self.rng.size(IMAGE_SIZE);
+        if self.rng.chance(1) {
+            size = EDITION_1_SIZE;
+        }
+        bytes.resize(size, 0);
         Lent::from(bytes)
     }
 
@@ -223,7 +234,7 @@ impl Host {
         let (offset, value) = match self.rng.below(20) {
             0..=4 => (offset::STATUS, self.status_value()),
             5..=12 => (offset::CONTROL, self.control_value()),
-            13..=18 => (offset::NEXT_DESCRIPTOR_POINTER, self.descriptor_address()),
+            13..=18 => (offset::NEXT_DESCRIPTOR_POINTER, self.pointer_value()),
             _ => (self.no_offset(), self.rng.number() as u32),
         };
         Call::WriteRegister {
@@ -240,7 +251,7 @@ impl Host {
 
     fn control_value(&mut self) -> u32 {
         let mut value = self.control_bits();
-        if self.carried_image().armed && self.rng.chance(50) {
+        if self.carried_image().armed && self.rng.chance(75) {
             value |= control::SW_RESET;
         }
         if self.rng.chance(15) {
@@ -273,7 +284,7 @@ impl Host {
             (80, control::RUN),
             (50, control::IE_GLOBAL),
             (40, control::STOP_DMA_ER),
-            (10, control::SW_RESET),
+            (16, control::SW_RESET),
             (25, control::PARK),
         ] {
             bits |= bit * u32::from(self.rng.chance(percent));

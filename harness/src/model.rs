@@ -1,6 +1,6 @@
 //! The core as the scope paper describes it, written from the paper alone, and
-//! the field of a refused image, the ledger, the interrupt controller and the
-//! interval timer as their requests do.
+//! the field of a refused image, the ledger, the descriptor read ahead, the run
+//! number, the interrupt controller and the interval timer as their requests do.
 //!
 //! One step moves one byte and steps are taken one by one. Each sentence of the
 //! paper is one small rule, and the rules are provided methods of a few traits,
@@ -16,6 +16,7 @@ mod images;
 mod ledgers;
 mod machine;
 mod registers;
+mod slots;
 mod steps;
 mod timers;
 mod windows;
@@ -29,6 +30,7 @@ pub use images::{Image, ImageRule, Images, IMAGE_SIZE};
 pub use ledgers::{Ledger, Ledgers, Record, RECORD_SIZE};
 pub use machine::{Fault, Kept, Machine, Mode, Phase};
 pub use registers::{control, offset, status, Registers};
+pub use slots::{Emptying, Slot, SlotKind, Slots};
 pub use steps::{InputBeat, Ports, Reason, Report, Steps, OUTPUT_EOP, OUTPUT_SOP};
 pub use timers::{
     timer_control, timer_offset, Timer, Timers, FULL_PERIOD, MOST_SINGLE_TICKS, TIMER_SIZE,
@@ -42,6 +44,7 @@ pub struct Paper;
 impl Windows for Paper {}
 impl Registers for Paper {}
 impl Descriptors for Paper {}
+impl Slots for Paper {}
 impl Ledgers for Paper {}
 impl Steps for Paper {}
 impl Images for Paper {}

@@ -10,13 +10,21 @@ use std::ops::Range;
 /// Bounds the work on a case with a large window.
 const MOST_TRIALS: usize = 10_000;
 
-/// Where the window's length stands in an image.
+/// Where the window's length stands in an image, the pointer, the slot, and the
+/// address in it.
 const WINDOW_LENGTH: Range<usize> = 16..20;
+const POINTER: Range<usize> = 8..12;
+const SLOT: Range<usize> = 44..81;
+const SLOT_ADDRESS: Range<usize> = 45..49;
 
 /// One way to make a call simpler. An argument is named by its place.
 enum Edit {
     /// So many bytes fewer at the end of the window, also by the word of the image.
     ShortenWindow { by: usize },
+    /// A lower pointer, and with it the address of what was read ahead there.
+    LowerPointer { place: usize, by: u32 },
+    /// Nothing in the slot, neither kind nor address nor bytes.
+    EmptySlot { place: usize },
     /// Some beats fewer in a stream, or records in the ledger.
     Cut { place: usize, bytes: Range<usize> },
     /// Zero in the place of some bytes.
@@ -83,6 +91,9 @@ fn edits(call: &mut Call) -> Vec<Edit> {
     let shorter = halves(window as u64).map(|by| Edit::ShortenWindow { by: by as usize });
     let mut edits: Vec<Edit> = shorter.collect();
     for (place, argument) in call.arguments().iter().enumerate() {
+        if let Argument::Lent("image", lent) = argument {
+            edits.extend(edits_of_slot(lent, place));
+        }
         if let Argument::Lent(name, lent) = argument {
             if let Some(size) = element_size(name) {
                 edits.extend(cuts(lent.len(), size).map(|bytes| Edit::Cut { place, bytes }));
@@ -93,6 +104,35 @@ fn edits(call: &mut Call) -> Vec<Edit> {
         edits.extend(lower.map(|by| Edit::Lower { place, by }));
     }
     edits
+}
+
+/// The edits of pointer and slot, which go together where a slot is held.
+fn edits_of_slot(image: &[u8], place: usize) -> Vec<Edit> {
+    let pointer = image.get(POINTER).map_or(0, number);
+    let lower = halves(pointer.into()).map(|by| Edit::LowerPointer {
+        place,
+        by: by as u32,
+    });
+    std::iter::once(Edit::EmptySlot { place })
+        .chain(lower)
+        .collect()
+}
+
+fn number(bytes: &[u8]) -> u32 {
+    let append = |number, &byte| number << 8 | u32::from(byte);
+    bytes.iter().fold(0, append)
+}
+
+/// Lowers the pointer, and the slot's address where that is the pointer.
+fn lower_pointer(image: &mut [u8], by: u32) {
+    let pointer = number(&image[POINTER]);
+    for address in [POINTER, SLOT_ADDRESS] {
+        if let Some(bytes) = image.get_mut(address) {
+            if number(bytes) == pointer {
+                bytes.copy_from_slice(&(pointer - by).to_be_bytes());
+            }
+        }
+    }
 }
 
 /// The bytes of one element of a slice that may have fewer of them.
@@ -129,11 +169,13 @@ impl Edit {
     fn simplifies(&self, call: &mut Call) -> bool {
         match self {
             Edit::ShortenWindow { by } => call.window().is_some_and(|window| *by <= window.len()),
-            Edit::Cut { place, bytes } => lent_at(call, *place).len() >= bytes.end,
-            Edit::Clear { place, bytes } => {
-                let cleared = lent_at(call, *place).get(bytes.clone());
-                cleared.is_some_and(|bytes| bytes.iter().any(|&byte| byte != 0))
+            Edit::LowerPointer { place, by } => {
+                let pointer = lent_at(call, *place).get(POINTER);
+                pointer.is_some_and(|bytes| number(bytes) >= *by)
             }
+            Edit::EmptySlot { place } => clears(lent_at(call, *place), &SLOT),
+            Edit::Cut { place, bytes } => lent_at(call, *place).len() >= bytes.end,
+            Edit::Clear { place, bytes } => clears(lent_at(call, *place), bytes),
             Edit::Lower { place, by } => call.arguments()[*place].number() >= Some(*by),
         }
     }
@@ -141,6 +183,8 @@ impl Edit {
     fn apply(&self, call: &mut Call) {
         match self {
             Edit::ShortenWindow { by } => shorten_window(call, *by),
+            Edit::LowerPointer { place, by } => lower_pointer(lent_at(call, *place), *by),
+            Edit::EmptySlot { place } => lent_at(call, *place)[SLOT].fill(0),
             Edit::Cut { place, bytes } => {
                 let stream = lent_at(call, *place);
                 *stream = Lent::from([&stream[..bytes.start], &stream[bytes.end..]].concat());
@@ -153,6 +197,12 @@ impl Edit {
             }
         }
     }
+}
+
+/// Whether there is a byte that zero would change.
+fn clears(lent: &[u8], bytes: &Range<usize>) -> bool {
+    let cleared = lent.get(bytes.clone());
+    cleared.is_some_and(|bytes| bytes.iter().any(|&byte| byte != 0))
 }
 
 fn lent_at(call: &mut Call, place: usize) -> &mut Lent {
@@ -185,6 +235,7 @@ fn shorten_window(call: &mut Call, by: usize) {
 #[cfg(test)]
 mod tests {
     use super::*;
+    use crate::model::IMAGE_SIZE;
 
     fn write(offset: u32, value: u32) -> Call {
         Call::WriteRegister {
@@ -233,6 +284,38 @@ mod tests {
         };
         assert_eq!(**image, [0, 0, 0, 0, 0, 0xFF, 0, 0]);
         assert_eq!((*offset, *value), (0, 37));
+    }
+
+    /// A slot and its pointer stay together, and go together.
+    #[test]
+    fn a_slot_stays_at_the_pointer() {
+        let mut image = [0; IMAGE_SIZE];
+        image[POINTER].copy_from_slice(&4100_u32.to_be_bytes());
+        image[SLOT].fill(7);
+        image[SLOT_ADDRESS].copy_from_slice(&4100_u32.to_be_bytes());
+        let line = |image: &[u8]| Call::Line {
+            image: Lent::from(image),
+            value: Lent::zeros(0),
+        };
+        let at_pointer = |calls: &[Call]| {
+            let [Call::Line { image, .. }] = calls else {
+                return false;
+            };
+            let [pointer, address] = [POINTER, SLOT_ADDRESS].map(|at| number(&image[at]));
+            pointer >= 100 && (address == pointer || image[SLOT] == [0; 37])
+        };
+        let shrunk = shrink(vec![line(&image)], &at_pointer);
+        let mut smallest = [0; IMAGE_SIZE];
+        smallest[POINTER].copy_from_slice(&100_u32.to_be_bytes());
+        assert_eq!(shrunk, [line(&smallest)]);
+        let held = |calls: &[Call]| {
+            let holds = matches!(calls, [Call::Line { image, .. }] if image[44] != 0);
+            holds && at_pointer(calls)
+        };
+        let shrunk = shrink(vec![line(&image)], &held);
+        smallest[44] = 7;
+        smallest[SLOT_ADDRESS].copy_from_slice(&100_u32.to_be_bytes());
+        assert_eq!(shrunk, [line(&smallest)]);
     }
 
     /// A ledger that matters for its room behind a used record keeps one of each.

@@ -1,11 +1,13 @@
 //! Single steps and register writes, each worked out by hand from one sentence of
-//! the paper, or of the request for the ledger, by the model and by the library.
+//! the paper, or of the requests for the ledger and for reading ahead, by the model
+//! and by the library.
 
 use harness::call::{parties, Call, Lent, Party};
 use harness::compare::ask;
 use harness::firmware::stream;
 use harness::model::{
-    offset, Image, Kept, Mode, Phase, Reason, RECORD_SIZE, REPORT_SIZE, VALUE_SIZE,
+    offset, Image, Kept, Mode, Phase, Reason, Slot, SlotKind, DESCRIPTOR_SIZE, RECORD_SIZE,
+    REPORT_SIZE, VALUE_SIZE,
 };
 use harness::samples::{image, record, BASE, LENGTH};
 use Mode::{MemoryToMemory as M0, MemoryToStream as M1, StreamToMemory as M2};
@@ -73,10 +75,44 @@ fn lay(memory: &mut [u8], length: u8) {
     memory[63] = 0xA9;
 }
 
-/// The descriptor that [`lay`] lays, as it is kept.
+/// The slot with what stands at an address of the window.
+fn slot_at(address: u32, bytes: [u8; DESCRIPTOR_SIZE]) -> Slot {
+    Slot {
+        kind: SlotKind::Descriptor,
+        address,
+        bytes,
+    }
+}
+
+/// The slot of a bad address.
+fn bad_slot(kind: SlotKind, address: u32) -> Slot {
+    Slot {
+        kind,
+        address,
+        ..Slot::default()
+    }
+}
+
+/// The descriptor that [`lay`] lays, as it is held before its Fetch.
+fn laid(length: u8) -> Slot {
+    let mut memory = [0; LENGTH];
+    lay(&mut memory, length);
+    slot_at(4128, *memory[32..].first_chunk().expect("32 bytes"))
+}
+
+/// The same with another control byte.
+fn laid_as(length: u8, control: u8) -> Slot {
+    let mut slot = laid(length);
+    slot.bytes[31] = control;
+    slot
+}
+
+/// The descriptor that [`lay`] lays, as it is kept; the zeros at 4096 are read
+/// ahead.
 fn keep(image: &mut Image, length: u16) {
     image.phase = Move as u8;
     image.pointer = 4096;
+    image.slot = slot_at(4096, [0; DESCRIPTOR_SIZE]);
     image.kept = Kept {
         address: 4128,
         source: 4200,
@@ -92,6 +128,7 @@ fn fail(image: &mut Image, code: u8, address: u32) {
     image.status &= !BUSY;
     (image.fault, image.fault_address) = (code, address);
     image.kept = Kept::default();
+    image.slot = Slot::default();
 }
 
 #[rustfmt::skip]
@@ -205,9 +242,13 @@ fn done(memory: &mut [u8], errors: u8, control: u8) {
     memory[28..32].copy_from_slice(&[4, 0, errors, control]);
 }
 
-/// WriteBack drops what was kept and goes to this phase with this status.
+/// WriteBack drops what was kept and goes to this phase with this status. Only
+/// Fetch finds the slot as it was.
 fn leave(image: &mut Image, phase: Phase, status: u8) {
     image.kept = Kept::default();
+    if phase != Fetch {
+        image.slot = Slot::default();
+    }
     image.phase = phase as u8;
     image.status = status;
 }
@@ -340,6 +381,100 @@ const FULL_LEDGERS: [Step; 12] = [
         told: (Reason::Budget, 1, 0), ..FULL },
 ];
 
+/// "On the step that fetches an owned descriptor, also read the next one into a
+/// slot".
+#[rustfmt::skip]
+const READ_AHEAD: [Step; 6] = [
+    Step { name: "the next descriptor is read with every byte it has",
+        memory: |m| { m[..32].fill(0x5A); lay(m, 4) },
+        image_after: |i| { keep(i, 4); i.slot.bytes = [0x5A; 32] },
+        told: (Reason::NeedsInput, 1, 0), ..STEP },
+    Step { name: "in mode 0 too",
+        mode: M0, memory: |m| { m[..32].fill(0xA5); lay(m, 4) },
+        image_after: |i| { keep(i, 4); i.slot.bytes = [0xA5; 32] }, ..STEP },
+    Step { name: "a misaligned address is kept, and is no fault yet",
+        mode: M1, room: 1, memory: |m| { lay(m, 4); put(m, 48, 4098) },
+        image_after: |i| { keep(i, 4); i.pointer = 4098;
+                           i.slot = bad_slot(SlotKind::Misaligned, 4098) }, ..STEP },
+    Step { name: "an address outside is kept, and is no fault yet",
+        mode: M0, memory: |m| { lay(m, 4); put(m, 48, 4324) },
+        image_after: |i| { keep(i, 4); i.pointer = 4324;
+                           i.slot = bad_slot(SlotKind::Outside, 4324) }, ..STEP },
+    Step { name: "misaligned comes before outside there too",
+        mode: M0, memory: |m| { lay(m, 4); put(m, 48, 3) },
+        image_after: |i| { keep(i, 4); i.pointer = 3;
+                           i.slot = bad_slot(SlotKind::Misaligned, 3) }, ..STEP },
+    Step { name: "one that links to itself is in hand and in the slot",
+        mode: M0, memory: |m| { lay(m, 4); put(m, 48, 4128) },
+        image_after: |i| { keep(i, 4); i.pointer = 4128; i.slot = laid(4);
+                           i.slot.bytes[16] = 0x20 }, ..STEP },
+];
+
+/// "the next Fetch uses the slot instead of memory"
+#[rustfmt::skip]
+const FROM_SLOT: [Step; 9] = [
+    Step { name: "a descriptor that memory no longer has is kept from the slot",
+        given: |i| i.slot = laid(4), image_after: |i| keep(i, 4),
+        told: (Reason::NeedsInput, 1, 0), ..STEP },
+    Step { name: "unowned in the slot ends the chain, though memory says owned",
+        given: |i| i.slot = laid_as(4, 0x7F), memory: |m| lay(m, 4),
+        image_after: |i| { (i.phase, i.status) = (4, 0x18); i.slot = Slot::default() },
+        told: (Reason::Ended, 1, 0), ..STEP },
+    Step { name: "what follows is read from memory as it is now",
+        mode: M0, given: |i| i.slot = laid(4), memory: |m| m[..32].fill(0x11),
+        image_after: |i| { keep(i, 4); i.slot.bytes = [0x11; 32] }, ..STEP },
+    Step { name: "length 0 in the slot is fault 12",
+        mode: M0, given: |i| i.slot = laid(0), memory: |m| lay(m, 4),
+        image_after: |i| fail(i, 12, 4128), told: (Reason::Faulted, 1, 0), ..STEP },
+    Step { name: "fault 10 is met at its own Fetch",
+        given: |i| { i.pointer = 4130; i.slot = bad_slot(SlotKind::Misaligned, 4130) },
+        image_after: |i| fail(i, 10, 4130), told: (Reason::Faulted, 1, 0), ..STEP },
+    Step { name: "and fault 11",
+        given: |i| { i.pointer = 4324; i.slot = bad_slot(SlotKind::Outside, 4324) },
+        image_after: |i| fail(i, 11, 4324), told: (Reason::Faulted, 1, 0), ..STEP },
+    Step { name: "RUN 0 comes before a fault in the slot",
+        given: |i| { (i.control, i.pointer) = (0, 4324); i.slot = bad_slot(SlotKind::Outside, 4324) },
+        image_after: |i| { (i.phase, i.status) = (0, 0); i.slot = Slot::default() },
+        told: (Reason::Rest, 1, 0), ..STEP },
+    Step { name: "RUN 0 comes before a descriptor in the slot",
+        given: |i| { i.control = 0; i.slot = laid(4) },
+        image_after: |i| { (i.phase, i.status) = (0, 0); i.slot = Slot::default() },
+        told: (Reason::Rest, 1, 0), ..STEP },
+    Step { name: "no step, and the slot stays",
+        given: |i| i.slot = laid(4), budget: 0, told: (Reason::Budget, 0, 0), ..STEP },
+];
+
+/// What a slot does while another descriptor is moved and written back.
+#[rustfmt::skip]
+const BESIDE_SLOT: [Step; 9] = [
+    Step { name: "data over the descriptor in the slot leaves the slot",
+        phase: Move, given: |i| { i.kept.destination = 4127; i.slot = laid(4) }, beats: &[0x005A],
+        memory: |m| lay(m, 4), image_after: |i| i.kept.moved = 2, memory_after: |m| m[32] = 0x5A,
+        told: (Reason::NeedsInput, 1, 1), ..STEP },
+    Step { name: "no beat, no step, and the slot stays",
+        phase: Move, given: |i| i.slot = laid(4), told: (Reason::NeedsInput, 0, 0), ..STEP },
+    Step { name: "a fault of a byte empties the slot",
+        phase: Move, given: |i| { i.kept.destination = 0; i.slot = laid(4) }, beats: &[0],
+        image_after: |i| fail(i, 14, 1), told: (Reason::Faulted, 1, 0), ..STEP },
+    Step { name: "Fetch finds the slot that WriteBack had",
+        given: |i| i.slot = laid(4), ..WRITTEN },
+    Step { name: "a bad address too",
+        given: |i| { i.pointer = 3; i.slot = bad_slot(SlotKind::Misaligned, 3) }, ..WRITTEN },
+    Step { name: "the write-back of one that links to itself leaves the slot",
+        given: |i| { i.kept.address = 4128; i.slot = laid(4) },
+        memory: |m| lay(m, 4), memory_after: |m| done(&mut m[32..], 0, 0),
+        recorded: Some(record(4128, [0, 4, 0, 0])), ..WRITTEN },
+    Step { name: "Rest empties the slot",
+        given: |i| { i.control = 0; i.slot = laid(4) }, image_after: |i| leave(i, Rest, 0x04),
+        told: (Reason::Rest, 1, 0), ..WRITTEN },
+    Step { name: "Halted empties the slot",
+        given: |i| { i.kept.errors = 1; i.control |= STOP_DMA_ER; i.slot = laid(4) },
+        image_after: |i| leave(i, Halted, 0x05), memory_after: |m| done(m, 1, 0),
+        told: (Reason::Halted, 1, 0), recorded: Some(record(4096, [0, 4, 1, 0])), ..WRITTEN },
+    Step { name: "no room for a record, and the slot stays",
+        given: |i| { i.control = 0; i.slot = laid(4) }, ..FULL },
+];
+
 /// The ledger before and after a step. Behind one used record, of any bytes, there
 /// is the room, of any bytes as well.
 fn ledgers(step: &Step) -> [Vec<u8>; 2] {
@@ -428,7 +563,23 @@ fn full_ledgers() {
     check_steps(&FULL_LEDGERS);
 }
 
+#[test]
+fn reading_ahead() {
+    check_steps(&READ_AHEAD);
+}
+
+#[test]
+fn fetches_from_the_slot() {
+    check_steps(&FROM_SLOT);
+}
+
+#[test]
+fn steps_beside_the_slot() {
+    check_steps(&BESIDE_SLOT);
+}
+
 /// A register write on an image, and what it changes.
+#[derive(Clone, Copy)]
 struct Write {
     name: &'static str,
     phases: &'static [Phase],
@@ -441,11 +592,12 @@ struct Write {
 const MOVING: [Phase; 4] = [Rest, Fetch, Move, WriteBack];
 const ALL: [Phase; 7] = Phase::ALL;
 
-/// A machine after reset: only mode and window stay.
+/// A machine after reset: only mode, window and run number stay.
 fn fresh(image: &mut Image) {
-    let (mode, base, window_length) = (image.mode, image.base, image.window_length);
+    let before = *image;
     *image = harness::samples::image(M2, Rest);
-    (image.mode, image.base, image.window_length) = (mode, base, window_length);
+    (image.mode, image.run_number) = (before.mode, before.run_number);
+    (image.base, image.window_length) = (before.base, before.window_length);
     (image.control, image.pointer) = (0, 0);
 }
 
@@ -486,10 +638,10 @@ const WRITES: [Write; 17] = [
         after: |i| (i.control, i.armed) = (RUN, false) },
     Write { name: "RUN going 0 to 1 zeroes the count",
         phases: &MOVING, given: |i| (i.control, i.count) = (0, 7), offset: offset::CONTROL,
-        value: RUN, after: |i| (i.control, i.count) = (RUN, 0) },
+        value: RUN, after: |i| (i.control, i.count, i.run_number) = (RUN, 0, 1) },
     Write { name: "in Faulted too",
         phases: &[Faulted], given: |i| (i.control, i.count) = (0, 7), offset: offset::CONTROL,
-        value: RUN, after: |i| (i.control, i.count) = (RUN, 0) },
+        value: RUN, after: |i| (i.control, i.count, i.run_number) = (RUN, 0, 1) },
     Write { name: "RUN staying 1 does not",
         phases: &ALL, given: |i| i.count = 7, offset: offset::CONTROL, value: RUN | 1,
         after: |i| i.control = RUN | 1 },
@@ -510,10 +662,76 @@ const WRITES: [Write; 17] = [
         after: |i| { (i.control, i.phase, i.status) = (0, 0, 0); arm(i) } },
 ];
 
+const HOLDING: [Phase; 3] = [Fetch, Move, WriteBack];
+
+/// "a host pointer write" and a reset empty the slot; nothing else that a host
+/// writes does.
+#[rustfmt::skip]
+const SLOT_WRITES: [Write; 8] = [
+    Write { name: "a pointer write empties the slot",
+        phases: &HOLDING, given: |i| i.slot = laid(4), offset: offset::NEXT_DESCRIPTOR_POINTER,
+        value: 4160, after: |i| { i.pointer = 4160; i.slot = Slot::default() } },
+    Write { name: "of the number that is there too",
+        phases: &HOLDING, given: |i| i.slot = laid(4), offset: offset::NEXT_DESCRIPTOR_POINTER,
+        value: 4128, after: |i| i.slot = Slot::default() },
+    Write { name: "a bad address goes as well",
+        phases: &HOLDING, given: |i| { i.pointer = 4090; i.slot = bad_slot(SlotKind::Misaligned, 4090) },
+        offset: offset::NEXT_DESCRIPTOR_POINTER, value: 4090, after: |i| i.slot = Slot::default() },
+    Write { name: "RUN cleared leaves the slot",
+        phases: &HOLDING, given: |i| i.slot = laid(4), offset: offset::CONTROL, value: 0,
+        after: |i| i.control = 0 },
+    Write { name: "RUN set again leaves the slot, and a run is counted",
+        phases: &HOLDING, given: |i| { i.control = 0; i.slot = laid(4) }, offset: offset::CONTROL,
+        value: RUN, after: |i| (i.control, i.run_number) = (RUN, 1) },
+    Write { name: "a status write leaves the slot",
+        phases: &HOLDING, given: |i| { i.status |= 4; i.slot = laid(4) }, offset: offset::STATUS,
+        value: u32::MAX, after: |i| i.status = BUSY },
+    Write { name: "the arming write leaves the slot",
+        phases: &HOLDING, given: |i| i.slot = laid(4), offset: offset::CONTROL,
+        value: SW_RESET | RUN, after: arm },
+    Write { name: "a reset empties the slot",
+        phases: &HOLDING, given: |i| { arm(i); i.slot = laid(4) }, offset: offset::CONTROL,
+        value: SW_RESET, after: fresh },
+];
+
+const RISING: [Phase; 5] = [Rest, Fetch, Move, WriteBack, Faulted];
+
+/// "The run number rises by 1 whenever RUN goes 0 to 1, stays at its largest value
+/// and outlives a reset."
+#[rustfmt::skip]
+const RUN_WRITES: [Write; 8] = [
+    Write { name: "RUN going 0 to 1 counts a run",
+        phases: &RISING, given: |i| (i.control, i.run_number) = (0, 0xFFFF), offset: offset::CONTROL,
+        value: RUN, after: |i| (i.control, i.run_number) = (RUN, 0x1_0000) },
+    Write { name: "in the write that arms too",
+        phases: &RISING, given: |i| (i.control, i.run_number) = (0, 7), offset: offset::CONTROL,
+        value: RUN | SW_RESET, after: |i| { (i.control, i.run_number) = (RUN, 8); arm(i) } },
+    Write { name: "the largest number is reached",
+        phases: &RISING, given: |i| (i.control, i.run_number) = (0, u32::MAX - 1),
+        offset: offset::CONTROL, value: RUN,
+        after: |i| (i.control, i.run_number) = (RUN, u32::MAX) },
+    Write { name: "and stays",
+        phases: &RISING, given: |i| (i.control, i.run_number) = (0, u32::MAX),
+        offset: offset::CONTROL, value: RUN, after: |i| i.control = RUN },
+    Write { name: "RUN staying 1 counts none",
+        phases: &ALL, given: |i| i.run_number = 7, offset: offset::CONTROL, value: RUN | 2,
+        after: |i| i.control = RUN | 2 },
+    Write { name: "RUN going 1 to 0 counts none",
+        phases: &RISING, given: |i| i.run_number = 7, offset: offset::CONTROL, value: 0,
+        after: |i| i.control = 0 },
+    Write { name: "a reset keeps the number",
+        phases: &ALL, given: |i| { arm(i); i.run_number = 7 }, offset: offset::CONTROL,
+        value: SW_RESET, after: fresh },
+    Write { name: "and counts none, though RUN is written over a 0",
+        phases: &RISING, given: |i| { i.control = 0; arm(i); i.run_number = 7 },
+        offset: offset::CONTROL, value: SW_RESET | RUN, after: fresh },
+];
+
 #[test]
 fn register_writes() {
+    let writes = [WRITES.as_slice(), &SLOT_WRITES, &RUN_WRITES].concat();
     for party in parties() {
-        for write in &WRITES {
+        for write in &writes {
             for &phase in write.phases {
                 let mut before = image(M2, phase);
                 (write.given)(&mut before);

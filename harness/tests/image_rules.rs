@@ -5,8 +5,8 @@ use harness::call::{parties, Call, Lent, Party};
 use harness::compare::ask;
 use harness::model::ImageRule::{self, *};
 use harness::model::{
-    offset, Image, Images, Kept, Machine, Mode, Paper, Phase, Window, IMAGE_SIZE, REPORT_SIZE,
-    VALUE_SIZE,
+    offset, Image, Images, Kept, Machine, Mode, Paper, Phase, Slot, SlotKind, Window,
+    DESCRIPTOR_SIZE, IMAGE_SIZE, REPORT_SIZE, VALUE_SIZE,
 };
 use harness::samples::image;
 use std::collections::BTreeSet;
@@ -85,13 +85,31 @@ const NOT_FAULTED: [Phase; 6] = [
     Phase::Halted,
 ];
 
+const HOLDING: [Phase; 3] = [Phase::Fetch, Phase::Move, Phase::WriteBack];
+const NOT_HOLDING: [Phase; 4] = [Phase::Rest, Phase::Ended, Phase::Halted, Phase::Faulted];
+
+/// Points there and holds that in the slot: of a descriptor, bytes of which each
+/// is another.
+fn hold(image: &mut Image, address: u32, kind: SlotKind) {
+    let bytes = match kind {
+        SlotKind::Descriptor => std::array::from_fn(|place| 0x81 + place as u8),
+        _ => [0; DESCRIPTOR_SIZE],
+    };
+    image.pointer = address;
+    image.slot = Slot {
+        kind,
+        address,
+        bytes,
+    };
+}
+
 #[rustfmt::skip]
 fn head_rows() -> Vec<Row> {
     let at_the_top = || with(of(&MODES, &REST), |i| i.base = u32::MAX);
     vec![
-        row(1, EditionOne, images(), |i| i.edition = 0, |i| i.edition = 1),
-        row(1, EditionOne, images(), |i| i.edition = 2, |i| i.edition = 1),
-        row(1, EditionOne, images(), |i| i.edition = 9, |i| i.edition = 1),
+        row(1, EditionTwo, images(), |i| i.edition = 0, |i| i.edition = 2),
+        row(1, EditionTwo, images(), |i| i.edition = 1, |i| i.edition = 2),
+        row(1, EditionTwo, images(), |i| i.edition = 9, |i| i.edition = 2),
         row(2, ModeAtMostTwo, of(&MODES, &REST), |i| i.mode = 3, |i| i.mode = 2),
         row(3, PhaseAtMostSix, of(&MODES, &REST), |i| i.phase = 7, |i| i.phase = 0),
         row(12, WindowLength, of(&MODES, &REST),
@@ -204,11 +222,60 @@ fn progress_rows() -> Vec<Row> {
     ]
 }
 
+/// Rules of the slot. A held one is broken in images that hold one, and an empty
+/// one in images that do not.
+#[rustfmt::skip]
+fn slot_rows() -> Vec<Row> {
+    use SlotKind::*;
+    let holding = |edit| with(of(&MODES, &HOLDING), edit);
+    let held = || holding(|i| hold(i, 4128, Descriptor));
+    let misaligned = || holding(|i| hold(i, 4098, Misaligned));
+    let outside = || holding(|i| hold(i, 4324, Outside));
+    vec![
+        row(23, HeldOnlyInFetchMoveWriteBack, of(&MODES, &NOT_HOLDING),
+            |i| hold(i, i.pointer, Descriptor), |i| i.slot = Slot::default()),
+        row(23, HeldOnlyInFetchMoveWriteBack, of(&MODES, &NOT_HOLDING),
+            |i| hold(i, 2, Misaligned), |i| i.pointer = 2),
+        row(23, HeldOnlyInFetchMoveWriteBack, of(&MODES, &NOT_HOLDING),
+            |i| hold(i, 0, Outside), |i| i.pointer = 0),
+        row(24, SlotZeroBitsZero, images(), |i| i.slot_zero = 1, |i| i.slot_zero = 0),
+        row(24, SlotZeroBitsZero, held(), |i| i.slot_zero = 0x20, |i| i.slot_zero = 0),
+        row(25, EmptySlotWithoutAddress, images(), |i| i.slot.address = i.pointer, |i| i.slot.address = 0),
+        row(25, EmptySlotWithoutAddress, images(), |i| i.slot.address = 1, |i| i.slot.address = 0),
+        row(25, HeldSlotAtPointer, held(), |i| i.slot.address = 4132, |i| i.slot.address = 4128),
+        row(25, HeldSlotAtPointer, held(), |i| i.pointer = 4160, |i| i.pointer = 4128),
+        row(25, HeldSlotAtPointer, misaligned(), |i| i.slot.address = 4099, |i| i.slot.address = 4098),
+        row(25, HeldSlotAtPointer, outside(), |i| i.slot.address = 0, |i| i.slot.address = 4324),
+        row(25, SlotKindOfItsAddress, with(held(), |i| i.slot.bytes = [0; 32]),
+            |i| i.slot.kind = Misaligned, |i| i.slot.kind = Descriptor),
+        row(25, SlotKindOfItsAddress, with(held(), |i| i.slot.bytes = [0; 32]),
+            |i| i.slot.kind = Outside, |i| i.slot.kind = Descriptor),
+        row(25, SlotKindOfItsAddress, misaligned(), |i| i.slot.kind = Descriptor, |i| i.slot.kind = Misaligned),
+        row(25, SlotKindOfItsAddress, misaligned(), |i| i.slot.kind = Outside, |i| i.slot.kind = Misaligned),
+        row(25, SlotKindOfItsAddress, outside(), |i| i.slot.kind = Descriptor, |i| i.slot.kind = Outside),
+        row(25, SlotKindOfItsAddress, outside(), |i| i.slot.kind = Misaligned, |i| i.slot.kind = Outside),
+        row(25, SlotKindOfItsAddress, held(), |i| hold(i, 4324, Descriptor), |i| hold(i, 4320, Descriptor)),
+        row(25, SlotKindOfItsAddress, held(), |i| hold(i, 4092, Descriptor), |i| hold(i, 4096, Descriptor)),
+        row(25, SlotKindOfItsAddress, held(), |i| hold(i, 4130, Descriptor), |i| hold(i, 4132, Descriptor)),
+        row(25, SlotKindOfItsAddress, held(), |i| hold(i, 3, Outside), |i| hold(i, 4, Outside)),
+        row(26, EmptySlotWithoutBytes, images(), |i| i.slot.bytes[0] = 1, |i| i.slot.bytes[0] = 0),
+        row(26, EmptySlotWithoutBytes, images(), |i| i.slot.bytes[31] = 0x80, |i| i.slot.bytes[31] = 0),
+        row(26, FaultSlotWithoutBytes, misaligned(), |i| i.slot.bytes[16] = 2, |i| i.slot.bytes[16] = 0),
+        row(26, FaultSlotWithoutBytes, outside(), |i| i.slot.bytes[31] = 0x80, |i| i.slot.bytes[31] = 0),
+    ]
+}
+
 fn rows() -> Vec<Row> {
-    [head_rows(), phase_rows(), kept_rows(), progress_rows()]
-        .into_iter()
-        .flatten()
-        .collect()
+    [
+        head_rows(),
+        phase_rows(),
+        kept_rows(),
+        progress_rows(),
+        slot_rows(),
+    ]
+    .into_iter()
+    .flatten()
+    .collect()
 }
 
 /// The calls that read an image, on this one. None of them changes it when done:
@@ -305,18 +372,18 @@ fn two_rules_broken_at_once_tell_the_lower_field() {
                 }
             }
         }
-        // Every two of the 18 fields that can be told.
-        assert_eq!(met.len(), 18 * 17 / 2);
+        // Every two of the 22 fields that can be told.
+        assert_eq!(met.len(), 22 * 21 / 2);
     }
 }
 
 /// An image of ones breaks a rule of every field that can be told. Put right field
-/// by field, it tells one after the other. Armed, pending, pointer and base, of
-/// which no rule is, stay as they are.
+/// by field, it tells one after the other. Armed, pending, pointer, base and run
+/// number, of which no rule is, stay as they are.
 #[test]
 fn many_rules_broken_at_once_tell_the_lowest_field() {
-    let repairs: [(u32, Edit); 18] = [
-        (1, |i| i.edition = 1),
+    let repairs: [(u32, Edit); 22] = [
+        (1, |i| i.edition = 2),
         (2, |i| i.mode = 2),
         (3, |i| i.phase = 0),
         (6, |i| i.fault = 0),
@@ -334,6 +401,10 @@ fn many_rules_broken_at_once_tell_the_lowest_field() {
         (20, |i| i.kept.eop_seen = false),
         (21, |i| i.zero = 0),
         (22, |i| i.fault_address = 0),
+        (23, |i| i.slot.kind = SlotKind::Empty),
+        (24, |i| i.slot_zero = 0),
+        (25, |i| i.slot.address = 0),
+        (26, |i| i.slot.bytes = [0; DESCRIPTOR_SIZE]),
     ];
     for party in parties() {
         let mut image = Image::unpack(&[0xFF; IMAGE_SIZE]);
@@ -377,7 +448,7 @@ fn no_length_is_told_whatever_was_moved() {
 /// What looks odd and yet keeps every rule.
 #[test]
 fn odd_images_load() {
-    let odd: [(Image, Edit); 9] = [
+    let odd: [(Image, Edit); 13] = [
         (image(STREAM, Phase::Rest), |i| i.pointer = 3),
         (image(STREAM, Phase::Rest), |i| i.count = 254),
         (image(STREAM, Phase::Rest), |i| i.status = 0x0F),
@@ -389,6 +460,19 @@ fn odd_images_load() {
             (i.fault, i.fault_address) = (10, 4096)
         }),
         (image(STREAM, Phase::Faulted), |i| i.fault_address = 0),
+        (image(STREAM, Phase::Fetch), |i| i.run_number = u32::MAX),
+        (image(STREAM, Phase::Fetch), |i| {
+            hold(i, 4128, SlotKind::Descriptor);
+            i.slot.bytes = [0; DESCRIPTOR_SIZE]
+        }),
+        (image(STREAM, Phase::Move), |i| {
+            hold(i, 4096, SlotKind::Descriptor);
+            i.control = 0
+        }),
+        (image(STREAM, Phase::WriteBack), |i| {
+            hold(i, 4320, SlotKind::Descriptor);
+            i.slot.bytes = [0xFF; DESCRIPTOR_SIZE]
+        }),
     ];
     for (mut image, edit) in odd {
         edit(&mut image);
@@ -398,11 +482,13 @@ fn odd_images_load() {
     }
 }
 
-/// The layout by hand: "edition 4 (=1), mode 2, phase 3 .., armed 1, pending 1,
-/// fault 5, ..", bits most significant first.
-#[test]
-fn the_layout_is_the_papers() {
-    let moving = Machine {
+/// A machine in Move with a bad address ahead, in which each byte is another.
+fn moving() -> Machine {
+    let window = Window {
+        base: 0x1000_0000,
+        length: 0x0000_0130,
+    };
+    Machine {
         status: 0x13,
         control: 0x0001_2360,
         pointer: 0x0405_0607,
@@ -419,21 +505,47 @@ fn the_layout_is_the_papers() {
             moved: 0x0102,
             eop_seen: false,
         },
-        ..Machine::fresh(
-            STREAM,
-            Window {
-                base: 0x1000_0000,
-                length: 0x0000_0130,
-            },
-        )
-    };
-    let bytes = [
-        0x19, 0x60, 0x13, 0x21, 0x00, 0x01, 0x23, 0x60, 0x04, 0x05, 0x06, 0x07, 0x10, 0x00, 0x00,
+        slot: Slot {
+            kind: SlotKind::Misaligned,
+            address: 0x0405_0607,
+            ..Slot::default()
+        },
+        run_number: 0x5152_5354,
+        ..Machine::fresh(STREAM, window)
+    }
+}
+
+/// The layout by hand: "edition 4, mode 2, phase 3 .., armed 1, pending 1,
+/// fault 5, ..", bits most significant first.
+#[test]
+fn the_layout_is_the_papers() {
+    let mut bytes = [0; IMAGE_SIZE];
+    bytes[..49].copy_from_slice(&[
+        0x29, 0x60, 0x13, 0x21, 0x00, 0x01, 0x23, 0x60, 0x04, 0x05, 0x06, 0x07, 0x10, 0x00, 0x00,
         0x00, 0x00, 0x00, 0x01, 0x30, 0x10, 0x00, 0x00, 0x20, 0x21, 0x22, 0x23, 0x24, 0x31, 0x32,
-        0x33, 0x34, 0x41, 0x42, 0xC5, 0x51, 0x01, 0x02, 0x00, 0x00, 0x00, 0x00, 0x00, 0x00,
-    ];
-    assert_eq!(Paper.save(&moving), bytes);
-    assert_eq!(Paper.load(&bytes), Ok(moving));
+        0x33, 0x34, 0x41, 0x42, 0xC5, 0x51, 0x01, 0x02, 0x00, 0x00, 0x00, 0x00, 0x00, 0x00, 0x80,
+        0x04, 0x05, 0x06, 0x07,
+    ]);
+    bytes[81..].copy_from_slice(&[0x51, 0x52, 0x53, 0x54]);
+    assert_eq!(Paper.save(&moving()), bytes);
+    assert_eq!(Paper.load(&bytes), Ok(moving()));
+}
+
+/// "slot kind 2 (empty, descriptor, fault 10, fault 11), zero 6, slot address 32,
+/// slot bytes 256", and these as they stand in memory.
+#[test]
+fn the_slot_has_its_places() {
+    for (kind, first) in SlotKind::ALL.into_iter().zip([0x00, 0x40, 0x80, 0xC0]) {
+        let mut held = image(STREAM, Phase::Fetch);
+        hold(&mut held, 0x1122_3344, kind);
+        assert_eq!(held.pack()[44..49], [first, 0x11, 0x22, 0x33, 0x44]);
+        held.slot_zero = 0x3F;
+        assert_eq!(held.pack()[44], first | 0x3F);
+        held.slot.bytes = std::array::from_fn(|place| place as u8);
+        assert_eq!(held.pack()[49..52], [0, 1, 2]);
+        assert_eq!(held.pack()[78..81], [29, 30, 31]);
+        assert_eq!(Image::unpack(&held.pack()), held);
+    }
 }
 
 /// The fields that are zero in the layout above.
@@ -444,8 +556,8 @@ fn eop_seen_and_the_fault_have_their_places() {
     assert_eq!(done.pack()[38..40], [0x80, 0x00]);
     let mut faulted = image(Mode::MemoryToMemory, Phase::Faulted);
     (faulted.fault, faulted.fault_address) = (14, 0xDEAD_BEEF);
-    assert_eq!(faulted.pack()[..2], [0x13, 0x0E]);
-    assert_eq!(faulted.pack()[40..], [0xDE, 0xAD, 0xBE, 0xEF]);
+    assert_eq!(faulted.pack()[..2], [0x23, 0x0E]);
+    assert_eq!(faulted.pack()[40..44], [0xDE, 0xAD, 0xBE, 0xEF]);
     for image in [done, faulted] {
         assert_eq!(Image::unpack(&image.pack()), image);
     }

@@ -110,13 +110,14 @@ fn assert_same(core: &Firmware, other: &Firmware) {
 }
 
 /// A stream over the full window but its first byte, and so over its own
-/// descriptor: what is written back was kept, not read again.
+/// descriptor: what is written back was kept, not read again. It goes over the
+/// chain's end too, which was read ahead as it was.
 #[test]
 fn a_full_window_is_filled() {
     let fields = Descriptor {
         source: 0x1234_56C9,
         destination: TOP + 1,
-        next: TOP,
+        next: TOP + 32,
         control: OWNED | 0x28,
         ..Descriptor::default()
     };
@@ -303,39 +304,64 @@ fn fill(core: &mut Firmware) {
     }
 }
 
-/// Half of the window is copied to the other half.
-#[test]
-fn half_a_window_is_copied() {
+/// Data that reads as a descriptor which is not owned: its control byte is at place
+/// 75, and 75 times 7 is 2 times 256 and 13.
+const NOT_OWNED: u32 = BASE + 44;
+
+/// Half of the window is copied to the other half, by a descriptor that leads
+/// there: the figures of a core with so many records lent.
+fn copy_half(party: &dyn Party, next: u32, records: usize) -> (Ran, Vec<[u8; RECORD_SIZE]>) {
     let half = (FULL - 32) / 2;
     let fields = Descriptor {
         source: BASE + 32,
         destination: BASE + 32 + half as u32,
-        next: BASE,
+        next,
         length: half as u16,
         control: OWNED,
         ..Descriptor::default()
     };
+    let mut core = Firmware::new(party, MEMORY_TO_MEMORY, BASE, FULL);
+    core.build(BASE, &fields);
+    fill(&mut core);
+    started(&mut core, BASE);
+    core.lend_records(records - 1);
+    let ran = core.run(&[], 0, u32::MAX);
+    let (source, copy) = core.memory[32..].split_at(half);
+    assert!(source == copy && source[1] == data(33));
+    (ran, core.records().to_vec())
+}
+
+#[test]
+fn half_a_window_is_copied() {
     for party in parties() {
-        let mut core = Firmware::new(party.as_ref(), MEMORY_TO_MEMORY, BASE, FULL);
-        core.build(BASE, &fields);
-        fill(&mut core);
-        started(&mut core, BASE);
-        let ran = core.run(&[], 0, u32::MAX);
-        assert_eq!(ran, ended(4 + half as u32, 0, 1), "{}", party.name());
-        assert_eq!(core.records(), [record(BASE, [0x7F, 0xF0, 0, 0])]);
-        let (source, copy) = core.memory[32..].split_at(half);
-        assert!(source == copy && source[1] == data(33));
+        let found = copy_half(party.as_ref(), NOT_OWNED, 1);
+        let record = record(BASE, [0x7F, 0xF0, 0, 0]);
+        let due = (ended(32_756, 0, 1), vec![record]);
+        assert_eq!(found, due, "{}", party.name());
     }
 }
 
-/// A copy one byte on reads what it has just written: the first byte fills all.
+/// "An unparked descriptor that links to itself now runs twice before Ended." A
+/// step out of Rest, a Fetch, 32,752 bytes and a WriteBack each time, and a Fetch.
+#[test]
+fn half_a_window_is_copied_twice() {
+    for party in parties() {
+        let found = copy_half(party.as_ref(), BASE, 2);
+        let record = record(BASE, [0x7F, 0xF0, 0, 0]);
+        let due = (ended(65_510, 0, 2), vec![record; 2]);
+        assert_eq!(found, due, "{}", party.name());
+    }
+}
+
+/// A copy one byte on reads what it has just written: the first byte fills all. That
+/// byte is 0xE0, and would be owned; what follows was read before.
 #[test]
 fn an_overlapping_copy_repeats_its_first_byte() {
     let length = FULL - 33;
     let fields = Descriptor {
         source: BASE + 32,
         destination: BASE + 33,
-        next: BASE,
+        next: NOT_OWNED,
         length: length as u16,
         control: OWNED,
         ..Descriptor::default()
@@ -356,7 +382,7 @@ fn an_overlapping_copy_repeats_its_first_byte() {
 fn a_full_window_is_streamed_out() {
     let fields = Descriptor {
         source: BASE,
-        next: BASE,
+        next: NOT_OWNED,
         length: 65_535,
         control: OWNED | descriptor_control::GENERATE_EOP | descriptor_control::WRITE_FIXED_ADDRESS,
         ..Descriptor::default()

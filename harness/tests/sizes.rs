@@ -189,6 +189,23 @@ fn empty_slices_are_slices() {
     }
 }
 
+/// The size that an image had before there was a slot: "7 means 85 bytes for
+/// edition 2".
+#[test]
+fn an_image_of_44_bytes_is_refused() {
+    for party in parties() {
+        for call in good_calls(64) {
+            let Some(image) = call.image() else { continue };
+            assert_eq!(image.len(), 85);
+            let mut old = call.clone();
+            *lent_as(&mut old, "image") = Lent::from(&image[..44]);
+            check_refused(party.as_ref(), &old, BAD_SIZE);
+            lent_as(&mut old, "image")[0] = 0x10;
+            check_refused(party.as_ref(), &old, BAD_SIZE);
+        }
+    }
+}
+
 /// The size that a report had before runs kept a ledger.
 #[test]
 fn a_report_without_the_records_is_refused() {

@@ -1,22 +1,22 @@
 -- What stays of the descriptors in memory while bytes are sent and descriptors are marked.
 -- Assumes nothing.
 use Prim.Native.Nat.{ℕ, _+_, _%_, _≤_, _<_}
-use mathlib.Core.Path.{_≡_, refl, sym, ap, _∙_}
+use mathlib.Core.Path.{_≡_, refl, sym, ap, subst, _∙_}
 use mathlib.Core.Logic.{_≢_}
 use mathlib.Core.Bool.{true}
-use mathlib.Core.List.{List}
+use mathlib.Core.List.{List, _∷_, _++_}
 use native.Mathlib.Omega.{arith}
 use lib.ListN.{length, getD, set, length-set}
 use lib.Seq.{getD-set-other}
 use Rattle.words.specs.Slices.{part}
 use Rattle.words.proofs.Slices.{part-part}
 use Rattle.bus.specs.declared.Window.{Window}
-use Rattle.bus.specs.Window.{placeOf}
+use Rattle.bus.specs.Window.{inWindow, placeOf}
 use Rattle.descriptor.specs.declared.Descriptor.{Descriptor}
 use Rattle.descriptor.specs.Layout.{owned, descriptorAt, lastFour}
 use Rattle.chain.specs.Chain.{All, Link, linkAt, Off, Apart, Share, Sent, sentByAll, gathered, Done, Waiting, FirstFew}
-use Rattle.chain.proofs.Lists.{all-map}
-use Rattle.chain.proofs.Memory.{Placed, part-ext, says-same, actual-says, control-says, cleared}
+use Rattle.chain.proofs.Lists.{all-map, all-right}
+use Rattle.chain.proofs.Memory.{Placed, placed, part-ext, says-same, actual-says, control-says, cleared, lastAt, lastAt-last}
 
 -- the 32 bytes of a descriptor are in m as in o
 abbrev pub Same : Window → List ℕ → List ℕ → Link → Type 0
@@ -109,3 +109,21 @@ pub waits : (w : Window) (m o : List ℕ) (s : Share) → length o ≡ length m 
     → Same w o m (s .link) → Waiting w m o s
 waits w m o s l h e =
     record { unmarked = ap (λ (x : Descriptor). owned (x .control .0)) (says-same o m _ l e) ∙ h; same = e }
+
+-- ---- the last byte sent to a place stands there
+
+module _ (w : Window) (before after : List ℕ) (ls : List Link) (ss : List Sent)
+    (inside : All (λ s. inWindow w (s .to) 1 ≡ true) ss) (outside : All (λ s. All (λ l. Off l (s .to)) ls) ss)
+    (bytes : (p : ℕ) → All (OffFour w p) ls → getD after p 0 ≡ lastAt (w .base + p) ss (getD before p 0)) where
+  pub landed-last : (first rest : List Sent) (s : Sent) → ss ≡ first ++ s ∷ rest → All (λ later. later .to ≢ s .to) rest
+      → getD after (placeOf w (s .to)) 0 ≡ s .byte
+  landed-last first rest s e a =
+      let p : ℕ = placeOf w (s .to) in
+      let at : Placed w (s .to) 1 =
+      placed _ _ _ (all-right (λ x. inWindow w (x .to) 1 ≡ true) first (s ∷ rest) (subst (All (λ x. inWindow w (x .to) 1 ≡ true)) e inside) .0) in
+      let off : All (λ l. Off l (s .to)) ls =
+      all-right (λ x. All (λ l. Off l (x .to)) ls) first (s ∷ rest) (subst (All (λ x. All (λ l. Off l (x .to)) ls)) e outside) .0 in
+      bytes p (all-map (λ l o j k f. o (28 + j) (omega arith) (sym (at .address) ∙ f)) ls off)
+      ∙ ap (λ (q : ℕ). lastAt q ss (getD before p 0)) (at .address)
+      ∙ ap (λ (x : List Sent). lastAt (s .to) x (getD before p 0)) e
+      ∙ lastAt-last s first rest (getD before p 0) a

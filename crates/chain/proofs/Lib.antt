@@ -4,8 +4,11 @@ pub mod Links
 pub mod Rules
 pub mod Moves
 pub mod Blocks
+pub mod Start
+pub mod One
 pub mod Walk
 pub mod Theorem
+pub mod Twice
 pub mod OfRun
 pub mod Instances
 pub mod Enough

@@ -19,6 +19,7 @@ use Rattle.words.proofs.Slices.{part-part}
 use Rattle.bus.specs.declared.Window.{Window}
 use Rattle.bus.specs.Window.{inWindow, placeOf}
 use Rattle.descriptor.specs.declared.Descriptor.{Descriptor}
+use Rattle.descriptor.specs.Looking.{rawAt}
 use Rattle.descriptor.specs.Layout.{owned, descriptorAt, lastFour}
 use Rattle.descriptor.proofs.Reading.{by-offset, there}
 use Rattle.image.proofs.Tests.{and-left, and-right}
@@ -57,6 +58,10 @@ part-ext m o p n l h =
 pub says-same : (m o : List ℕ) (p : ℕ) → length m ≡ length o → part m p 32 ≡ part o p 32 → descriptorAt m p ≡ descriptorAt o p
 unfolding descriptorAt
 says-same m o p l e = rw (l, e)
+
+pub raw-same : (m o : List ℕ) (p : ℕ) → length m ≡ length o → part m p 32 ≡ part o p 32 → rawAt m p ≡ rawAt o p
+unfolding rawAt
+raw-same m o p l e = rw (l, e)
 
 -- its last four bytes
 module _ (m : List ℕ) (p actual status control : ℕ) (fits : p + 32 ≤ length m) (e : part m (p + 28) 4 ≡ lastFour actual status control) where

@@ -11,7 +11,7 @@ use borrow.Author.Tests.{eq-eqb, ne-eqb}
 use Rattle.bus.specs.Window.{inWindow, placeOf}
 use Rattle.descriptor.specs.Layout.{writeFixed}
 use Rattle.flow.specs.Beats.{beatEop}
-use Rattle.machine.specs.declared.Machine.{Machine}
+use Rattle.machine.specs.declared.Core.{Core}
 use Rattle.machine.specs.declared.Work.{Work}
 use Rattle.machine.specs.declared.Phase.the-variants.{Move, WriteBack}
 use Rattle.machine.specs.State.{withPhase}
@@ -80,32 +80,32 @@ sentOf k t = sentFrom (writeFixed (k .control .0)) (k .destination) (k .moved) t
 
 abbrev pub deliveredWorld : World → Work → List ℕ → List ℕ → World
 deliveredWorld w k t bs =
-    received w (withPhase (WriteBack (worked k t)) (w .machine)) (writes (w .machine .window) (sentOf k t) (w .memory)) (drop (length t) bs)
+    received w (withPhase (WriteBack (worked k t)) (w .core)) (writes (w .core .window) (sentOf k t) (w .memory)) (drop (length t) bs)
 
 -- ---- where the work goes after a byte
 
-on-eop : (m : Machine) (k : Work) → k .eop ≡ true → goesTo m k ≡ WriteBack k
+on-eop : (m : Core) (k : Work) → k .eop ≡ true → goesTo m k ≡ WriteBack k
 on-eop m k h = rw h
 
-on-count : (m : Machine) (k : Work) → k .eop ≡ false → k .moved ≡ whole m k → goesTo m k ≡ WriteBack k
+on-count : (m : Core) (k : Work) → k .eop ≡ false → k .moved ≡ whole m k → goesTo m k ≡ WriteBack k
 on-count m k h l = simp (h, eq-eqb (k .moved) (whole m k) l)
 
-on-more : (m : Machine) (k : Work) → k .eop ≡ false → k .moved ≢ whole m k → goesTo m k ≡ Move k
+on-more : (m : Core) (k : Work) → k .eop ≡ false → k .moved ≢ whole m k → goesTo m k ≡ Move k
 on-more m k h l = simp (h, ne-eqb (k .moved) (whole m k) l)
 
 -- ---- the moves, with what holds of memory at each: P, kept by every byte that Q holds of
 
 module _ (P : List ℕ → Type 0) (Q : Sent → Type 0) where
-  pub moves : {n : ℕ} {t bs : List ℕ} → Takes n t bs → (w : World) (k : Work) → w .machine .phase ≡ Move k → Set (w .machine)
-      → w .input ≡ bs → k .moved + n ≡ whole (w .machine) k
-      → ((s : Sent) → Q s → inWindow (w .machine .window) (s .to) 1 ≡ true)
-      → ((m : List ℕ) (s : Sent) → Q s → P m → P (set m (placeOf (w .machine .window) (s .to)) (s .byte)))
+  pub moves : {n : ℕ} {t bs : List ℕ} → Takes n t bs → (w : World) (k : Work) → w .core .phase ≡ Move k → Set (w .core)
+      → w .input ≡ bs → k .moved + n ≡ whole (w .core) k
+      → ((s : Sent) → Q s → inWindow (w .core .window) (s .to) 1 ≡ true)
+      → ((m : List ℕ) (s : Sent) → Q s → P m → P (set m (placeOf (w .core .window) (s .to)) (s .byte)))
       → All Q (sentOf k t) → P (w .memory) → Along (λ (x : World). P (x .memory)) (length t) w (deliveredWorld w k t bs)
   unfolding destinationOf
   moves (by-eop {b = b} {bs = bs} h) w k p c i l inside keep q pw =
-      more pw (move-step w k b bs _ p c i (inside _ (q .0)) (on-eop (w .machine) (withBeat b k) h)) (here (keep _ _ (q .0) pw))
+      more pw (move-step w k b bs _ p c i (inside _ (q .0)) (on-eop (w .core) (withBeat b k) h)) (here (keep _ _ (q .0) pw))
   moves (by-count {b = b} {bs = bs} h) w k p c i l inside keep q pw =
-      more pw (move-step w k b bs _ p c i (inside _ (q .0)) (on-count (w .machine) (withBeat b k) h l)) (here (keep _ _ (q .0) pw))
+      more pw (move-step w k b bs _ p c i (inside _ (q .0)) (on-count (w .core) (withBeat b k) h l)) (here (keep _ _ (q .0) pw))
   moves (goes-on {n = n} {b = b} {t = t} {bs = bs} h r) w k p c i l inside keep q pw =
-      more pw (move-step w k b bs _ p c i (inside _ (q .0)) (on-more (w .machine) (withBeat b k) h (omega arith)))
+      more pw (move-step w k b bs _ p c i (inside _ (q .0)) (on-more (w .core) (withBeat b k) h (omega arith)))
       (moves r (receivedWorld w k b bs (Move (withBeat b k))) (withBeat b k) refl c refl (omega arith) inside keep (q .1) (keep _ _ (q .0) pw))

@@ -11,19 +11,25 @@ use Rattle.words.specs.Bits.{bit}
 use Rattle.words.specs.Slices.{put}
 use Rattle.bus.specs.declared.Window.{Window}
 use Rattle.bus.specs.Window.{keepsLimits}
+use Rattle.descriptor.proofs.Looks.{zero-none}
 use Rattle.regs.specs.declared.Mode.the-variants.{StreamToMemory}
 use Rattle.ledger.specs.declared.Entry.{Entry}
 use Rattle.ledger.specs.Records.{ledgerBytes, isLedger}
 use Rattle.image.specs.declared.Fields.{Fields}
+use Rattle.image.specs.declared.Tail.{Tail}
 use Rattle.image.specs.Rules.{keepsRules, lowestBroken}
 use Rattle.image.proofs.EachRule.{each-rule, each-keeps}
+use Rattle.regs.specs.Control.{runFrom}
+use Rattle.regs.specs.Offsets.{isRegister}
+use Rattle.machine.specs.declared.Core.{Core}
+use Rattle.machine.specs.declared.Slot.the-variants.{Empty}
 use Rattle.machine.specs.declared.Machine.{Machine}
 use Rattle.machine.specs.declared.registers.WroteRegister.{WroteRegister}
 use Rattle.machine.specs.declared.registers.WroteRegister.the-variants as wrote
 use Rattle.machine.specs.declared.RunAnswer.{RunAnswer}
-use Rattle.machine.specs.State.{withPointer, withControl, fresh}
-use Rattle.machine.specs.Saved.{fieldsOf, keeps, spoiled}
-use Rattle.machine.specs.Registers.{controlStored, controlWritten, writeOf, WasWritten}
+use Rattle.machine.specs.State.{withPointer, withControl, freshCore, machineWith, fresh}
+use Rattle.machine.specs.Saved.{fieldsOf, tailOf, keeps, spoiled}
+use Rattle.machine.specs.Registers.{controlStored, writtenTo, writeOf, WasWritten}
 use Rattle.machine.specs.Step.{World}
 use Rattle.machine.specs.Run.{run, even, Lent, Returned, Served, serves, servedOf, worldOf, outputOver, returned, ranAs, runAnswer}
 use Rattle.machine.proofs.Writes.{write-runs}
@@ -33,25 +39,17 @@ use Rattle.chain.specs.Theorems.{ChainOfRun, ChainOfRunAtEveryStep}
 use Rattle.chain.proofs.Theorem.{chain-theorem, chain-records, chain-at-every-step}
 
 -- a write that is done was made of a machine that keeps the rules
-wrote-pointer : (m n : Machine) (v : ℕ) → wrote.Done n ≡ writeOf m 8 v → (keeps m ≡ true) × (n ≡ withPointer v m)
+wrote-done : (m n : Machine) (offset v : ℕ) → isRegister offset ≡ true → wrote.Done n ≡ writeOf m offset v → (keeps m ≡ true) × (n ≡ writtenTo m offset v)
 unfolding writeOf
-wrote-pointer m n v e = by (keeps m) refl
+wrote-done m n offset v o e = by (keeps m) refl
   where
-    by : (b : Bool) → keeps m ≡ b → (keeps m ≡ true) × (n ≡ withPointer v m)
-    by true k = (k, let f : wrote.Done n ≡ wrote.Done (withPointer v m) = e ∙ rw k in cc)
+    by : (b : Bool) → keeps m ≡ b → (keeps m ≡ true) × (n ≡ writtenTo m offset v)
+    by true k = (k, let f : wrote.Done n ≡ wrote.Done (writtenTo m offset v) = e ∙ rw (k, o) in cc)
     by false k = absurd (let f : wrote.Done n ≡ wrote.Refused (spoiled m) = e ∙ rw k in let z : _≡_ {A = ℕ} 0 1 = cc in omega arith)
 
-wrote-control : (m n : Machine) (v : ℕ) → wrote.Done n ≡ writeOf m 4 v → n ≡ controlWritten v m
-unfolding writeOf
-wrote-control m n v e = by (keeps m) refl
-  where
-    by : (b : Bool) → keeps m ≡ b → n ≡ controlWritten v m
-    by true k = let f : wrote.Done n ≡ wrote.Done (controlWritten v m) = e ∙ rw k in cc
-    by false k = absurd (let f : wrote.Done n ≡ wrote.Refused (spoiled m) = e ∙ rw k in let z : _≡_ {A = ℕ} 0 1 = cc in omega arith)
-
-limits-kept : (f : Fields) → keepsRules f ≡ true → keepsLimits (f .base) (f .window) ≡ true
+limits-kept : (f : Fields) (t : Tail) → keepsRules f t ≡ true → keepsLimits (f .base) (f .window) ≡ true
 unfolding keepsRules
-limits-kept f e = each-rule f (eqb-true (lowestBroken f) 0 e) .window
+limits-kept f t e = each-rule f t (eqb-true (lowestBroken f t) 0 e) .window
 
 cond-same : (b : Bool) → cond {A = ℕ} b 0 0 ≡ 0
 cond-same true = refl
@@ -63,12 +61,13 @@ same-same false = refl
 
 -- a machine at rest, with nothing in its status, keeps the rules
 module _ (window : Window) (h : keepsLimits (window .base) (window .length) ≡ true) where
-  rest-keeps : (pointer control : ℕ) (pending : Bool) (count : ℕ) → control < 2 ^ 18 → count ≤ 254
-      → keeps (withControl control pending count (withPointer pointer (fresh StreamToMemory window))) ≡ true
+  rest-keeps : (pointer control : ℕ) (pending : Bool) (count number : ℕ) → control < 2 ^ 18 → count ≤ 254
+      → keeps (machineWith (withControl control pending count (withPointer pointer (freshCore StreamToMemory window))) Empty number) ≡ true
   unfolding keepsRules
-  rest-keeps pointer control pending count l n =
+  rest-keeps pointer control pending count number l n =
       eq-eqb _ 0
-      (each-keeps (fieldsOf (withControl control pending count (withPointer pointer (fresh StreamToMemory window))))
+      (each-keeps (fieldsOf (withControl control pending count (withPointer pointer (freshCore StreamToMemory window))))
+      (tailOf (machineWith (withControl control pending count (withPointer pointer (freshCore StreamToMemory window))) Empty number))
       (record {
         edition = refl;
         mode = refl;
@@ -88,24 +87,28 @@ module _ (window : Window) (h : keepsLimits (window .base) (window .length) ≡ 
         eop = refl;
         zero15 = refl;
         faultat = refl;
+        kind = refl;
+        zero6 = refl;
+        at = refl;
+        raw = zero-none;
       }))
 
   -- of a fresh machine of a window within its limits neither write is refused
   pub pointer-done : {r : WroteRegister} (pointer : ℕ) → WasWritten (fresh StreamToMemory window) 8 pointer r
-      → r ≡ wrote.Done (withPointer pointer (fresh StreamToMemory window))
+      → r ≡ wrote.Done (writtenTo (fresh StreamToMemory window) 8 pointer)
   unfolding writeOf
-  pointer-done pointer p = p .answer ∙ rw (rest-keeps 0 0 false 0 (omega arith) (omega arith))
+  pointer-done pointer p = p .answer ∙ rw (rest-keeps 0 0 false 0 0 (omega arith) (omega arith))
 
-  pub control-done : {r : WroteRegister} (pointer control : ℕ) → WasWritten (withPointer pointer (fresh StreamToMemory window)) 4 control r
-      → r ≡ wrote.Done (controlWritten control (withPointer pointer (fresh StreamToMemory window)))
+  pub control-done : {r : WroteRegister} (pointer control : ℕ) → WasWritten (writtenTo (fresh StreamToMemory window) 8 pointer) 4 control r
+      → r ≡ wrote.Done (writtenTo (writtenTo (fresh StreamToMemory window) 8 pointer) 4 control)
   unfolding writeOf
-  control-done pointer control p = p .answer ∙ rw (rest-keeps pointer 0 false 0 (omega arith) (omega arith))
+  control-done pointer control p = p .answer ∙ rw (rest-keeps pointer 0 false 0 0 (omega arith) (omega arith))
 
 -- what is lent serves it
 serve : (m : Machine) (l : Lent) → keeps m ≡ true → even (l .beats) ≡ true → even (l .out) ≡ true
-    → isLedger (length (l .ledger)) (l .used) ≡ true → length (l .window) ≡ m .window .length → servedOf m l ≡ serves
+    → isLedger (length (l .ledger)) (l .used) ≡ true → length (l .window) ≡ m .core .window .length → servedOf m l ≡ serves
 unfolding servedOf
-serve m l k e f d n = rw (k, e, f, d, eq-eqb (length (l .window)) (m .window .length) n)
+serve m l k e f d n = rw (k, e, f, d, eq-eqb (length (l .window)) (m .core .window .length) n)
 
 -- no byte is put where nothing is made
 nothing-made : (v : World) (out : List ℕ) → length (v .output) ≡ 0 → outputOver v out ≡ out
@@ -120,25 +123,28 @@ module _ {window : Window} {pointer control : ℕ} {l : Lent} {budget : ℕ} {r 
   abbrev g : Given
   g = givenBy window pointer control k l
 
-  m1-is : c .m1 ≡ withPointer pointer (fresh StreamToMemory window)
-  m1-is = wrote-pointer (c .m0) (c .m1) pointer (c .pointed .answer) .1 ∙ ap (withPointer pointer) (c .made .value)
+  m1-is : c .m1 ≡ writtenTo (fresh StreamToMemory window) 8 pointer
+  m1-is = wrote-done (c .m0) (c .m1) 8 pointer refl (c .pointed .answer) .1 ∙ ap (λ (m : Machine). writtenTo m 8 pointer) (c .made .value)
 
   m2-is : c .m2 ≡ machineFor g
-  m2-is = wrote-control (c .m1) (c .m2) control (c .started .answer) ∙ ap (controlWritten control) m1-is
+  m2-is = wrote-done (c .m1) (c .m2) 4 control refl (c .started .answer) .1 ∙ ap (λ (m : Machine). writtenTo m 4 control) m1-is
 
   limits : keepsLimits (window .base) (window .length) ≡ true
   limits =
-      limits-kept (fieldsOf (fresh StreamToMemory window))
-      (subst (λ (m : Machine). keeps m ≡ true) (c .made .value) (wrote-pointer (c .m0) (c .m1) pointer (c .pointed .answer) .0))
+      limits-kept (fieldsOf (freshCore StreamToMemory window)) (tailOf (fresh StreamToMemory window))
+      (subst (λ (m : Machine). keeps m ≡ true) (c .made .value) (wrote-done (c .m0) (c .m1) 8 pointer refl (c .pointed .answer) .0))
 
-  m2-stored : c .m2 ≡ controlStored control (withPointer pointer (fresh StreamToMemory window))
-  m2-stored = m2-is ∙ write-runs control (withPointer pointer (fresh StreamToMemory window)) (and-false (bit 16 control)) (h .run-set)
+  m2-stored : c .m2 ≡ machineWith (controlStored control (withPointer pointer (freshCore StreamToMemory window))) Empty (runFrom control (record { 0 = 0 }) 0)
+  m2-stored =
+      m2-is
+      ∙ ap (λ (x : Core). machineWith x Empty (runFrom control (record { 0 = 0 }) 0))
+      (write-runs control (withPointer pointer (freshCore StreamToMemory window)) (and-false (bit 16 control)) (h .run-set))
 
   pub served : servedOf (c .m2) l ≡ serves
   served =
       serve (c .m2) l (subst⁻¹ (λ (m : Machine). keeps m ≡ true) m2-stored
-      (rest-keeps window limits pointer (control % 2 ^ 18) _ _ (omega arith) (let z = cond-same (bit 5 control) in omega arith)))
-      (c .even-beats) (c .even-out) (c .is-ledger) (h .lent ∙ sym (ap (λ (m : Machine). m .window .length) m2-stored))
+      (rest-keeps window limits pointer (control % 2 ^ 18) _ _ (runFrom control (record { 0 = 0 }) 0) (omega arith) (let z = cond-same (bit 5 control) in omega arith)))
+      (c .even-beats) (c .even-out) (c .is-ledger) (h .lent ∙ sym (ap (λ (m : Machine). m .core .window .length) m2-stored))
 
   -- what comes back is what the run leaves
   back-is : b ≡ returned l serves (run budget (worldFor g) .world)

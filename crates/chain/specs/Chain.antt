@@ -22,8 +22,8 @@ use Rattle.flow.specs.Beats.{beatError, beatEop, beatData}
 use Rattle.machine.specs.declared.Machine.{Machine}
 use Rattle.machine.specs.declared.Reason.the-variants.{Ended, Budget}
 use Rattle.machine.specs.declared.Ran.{Ran}
-use Rattle.machine.specs.State.{withPointer, fresh}
-use Rattle.machine.specs.Registers.{controlWritten}
+use Rattle.machine.specs.State.{fresh}
+use Rattle.machine.specs.Registers.{writtenTo}
 use Rattle.machine.specs.Step.{World, opened}
 use Rattle.machine.specs.Run.{run}
 
@@ -51,9 +51,9 @@ pub record Given : Type 0 where
   pub left : ℕ
   pub k : ℕ
 
--- "a fresh machine in stream-to-memory mode, its pointer set, then" control written
+-- "a fresh machine in stream-to-memory mode, its pointer set, then" control written: next_descriptor_pointer is at 8, control at 4
 abbrev pub machineFor : Given → Machine
-machineFor g = controlWritten (g .control) (withPointer (g .pointer) (fresh StreamToMemory (g .window)))
+machineFor g = writtenTo (writtenTo (fresh StreamToMemory (g .window)) 8 (g .pointer)) 4 (g .control)
 
 -- where the one run is made
 abbrev pub worldFor : Given → World
@@ -269,4 +269,4 @@ pub record Outcome (g : Given) (ran : Ran) (memory : List ℕ) : Type 0 where
   pub made : ran .made ≡ 0
   -- one record more is used for each of the k
   pub used : ran .used ≡ g .used + g .k
-  pub pointer : ran .machine .pointer .0 ≡ last g .at
+  pub pointer : ran .machine .core .pointer .0 ≡ last g .at

@@ -32,7 +32,7 @@ pub record InNumbers (g : Given) (steps taken pointer : ℕ) (fours : List There
   pub reason : told g .reason ≡ Ended
   pub steps-are : told g .steps ≡ steps
   pub taken-are : told g .taken ≡ taken
-  pub pointer-is : told g .machine .pointer .0 ≡ pointer
+  pub pointer-is : told g .machine .core .pointer .0 ≡ pointer
   pub fours-are : All (λ x. part (after g) (x .place) 4 ≡ x .bytes) fours
   pub landed-are : All (λ s. getD (after g) (placeOf (g .window) (s .to)) 0 ≡ s .byte) landed
 

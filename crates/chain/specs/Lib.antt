@@ -2,4 +2,5 @@ pub mod Chain
 pub mod Calls
 pub mod Known
 pub mod Enough
+pub mod Twice
 pub mod Theorems

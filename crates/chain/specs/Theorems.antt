@@ -10,6 +10,7 @@ use Rattle.machine.specs.declared.RunAnswer.{RunAnswer}
 use Rattle.machine.specs.Run.{run, Lent, Returned, ranAs}
 use Rattle.chain.specs.Chain.{Given, worldFor, shares, cost, recordsOf, Premises, FirstFew, AtEveryStep, Outcome}
 use Rattle.chain.specs.Enough.{WithinBudget}
+use Rattle.chain.specs.Twice.{twice, LinksToItself, RanTwice}
 use Rattle.chain.specs.Calls.{givenBy, Called, Finished}
 use Rattle.chain.specs.Known.{InNumbers, known, three}
 
@@ -35,6 +36,11 @@ ChainAtEveryStep = (g : Given) → Premises g → AtEveryStep g
 -- other is refused, and no machine stands over it.
 abbrev pub BudgetExists : Type 0
 BudgetExists = (g : Given) → Premises g → keepsLimits (g .window .base) (g .window .length) ≡ true → WithinBudget g
+
+-- Order 4: an unparked descriptor that links to itself runs twice before Ended.
+abbrev pub RunsTwice : Type 0
+RunsTwice = (g : Given) → LinksToItself g → (budget : ℕ) → 2 + cost (twice g) ≤ budget
+    → RanTwice g (ranAs (g .used) (worldFor g) (run budget (worldFor g))) (run budget (worldFor g) .world .memory) (run budget (worldFor g) .world .records)
 
 -- ---- of the public methods: fresh, two register writes, one run
 

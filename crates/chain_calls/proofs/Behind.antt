@@ -17,15 +17,16 @@ use Rattle.ledger.specs.declared.Entry.{Entry}
 use Rattle.machine.specs.declared.Work.{Work}
 use Rattle.machine.specs.declared.Phase.{Phase}
 use Rattle.machine.specs.declared.Phase.the-variants.{Rest, Fetch, Move, WriteBack, Ended, Halted, Faulted}
-use Rattle.machine.specs.State.{home}
-use Rattle.machine.specs.Step.{World, Answer, homeBytes, taken, stopped, sent, noted, restStep, wantsLength, fetched, meets, fetchStep, sourceOf, destinationOf}
+use Rattle.machine.specs.declared.Slot.{Slot}
+use Rattle.machine.specs.declared.Slot.the-variants.{Empty, Ahead}
+use Rattle.machine.specs.Step.{World, Answer, taken, stopped, sent, noted, settle, seenIn, seen, restStep, wantsLength, fetched, meets, fetchStep, sourceOf, destinationOf}
 use Rattle.machine.specs.Step.{copyStep, sendTo, sendStep, receiveFrom, moveStep, writtenBack, backTo, writeBackStep, stepIn, step}
 use Rattle.machine.specs.Run.{Report, oneMore, runOn, run}
 
 module _ (beats : List ℕ) (records : List Entry) where
   -- the world, with these made before
   abbrev pub behind : World → World
-  behind w = noted (sent w (w .machine) (beats ++ w .output) (w .room)) (records ++ w .records) (w .left)
+  behind w = noted (sent w (w .core) (beats ++ w .output) (w .room)) (records ++ w .records) (w .left)
 
   abbrev answerBehind : Answer → Answer
   answerBehind (taken w) = taken (behind w)
@@ -40,10 +41,14 @@ module _ (beats : List ℕ) (records : List Entry) where
   choice true u v p q = p
   choice false u v p q = q
 
+  settle-behind : (a : Answer) → settle (answerBehind a) ≡ answerBehind (settle a)
+  settle-behind (taken v) = refl
+  settle-behind (stopped r) = refl
+
   module _ (w : World) where
     rest-behind : restStep (behind w) ≡ answerBehind (restStep w)
     unfolding restStep
-    rest-behind = choice (register.run (w .machine .control)) _ _ refl refl
+    rest-behind = choice (register.run (w .core .control)) _ _ refl refl
 
     met-behind : (l : Look) → meets (behind w) l ≡ answerBehind (meets w l)
     unfolding fetched
@@ -51,20 +56,24 @@ module _ (beats : List ℕ) (records : List Entry) where
     met-behind Outside = refl
     met-behind (There r) =
         let d = namedIn r in
-        choice (not (owned (d .control .0))) _ _ refl (choice (wantsLength (w .machine .mode) && eqb (d .length) 0) _ _ refl refl)
+        choice (not (owned (d .control .0))) _ _ refl (choice (wantsLength (w .core .mode) && eqb (d .length) 0) _ _ refl refl)
+
+    seen-behind : (s : Slot) → seenIn (behind w) s ≡ seenIn w s
+    seen-behind Empty = refl
+    seen-behind (Ahead look) = refl
 
     fetch-behind : fetchStep (behind w) ≡ answerBehind (fetchStep w)
-    unfolding fetchStep
+    unfolding fetchStep seen
     fetch-behind =
-        let m = w .machine in
-        choice (not (register.run (m .control))) _ _ refl (met-behind (lookAt (home m) (homeBytes w) (m .pointer .0)))
+        let m = w .core in
+        choice (not (register.run (m .control))) _ _ refl (ap (meets (behind w)) (seen-behind (w .slot)) ∙ met-behind (seen w))
 
     module _ (k : Work) where
       copy-behind : copyStep (behind w) k ≡ answerBehind (copyStep w k)
       unfolding copyStep
       copy-behind =
-          choice (inWindow (w .machine .window) (sourceOf k) 1) _ _
-          (choice (inWindow (w .machine .window) (destinationOf k) 1) _ _ refl refl)
+          choice (inWindow (w .core .window) (sourceOf k) 1) _ _
+          (choice (inWindow (w .core .window) (destinationOf k) 1) _ _ refl refl)
           refl
 
       send-to-behind : (room : ℕ) → sendTo (behind w) k room ≡ answerBehind (sendTo w k room)
@@ -73,11 +82,11 @@ module _ (beats : List ℕ) (records : List Entry) where
 
       send-behind : sendStep (behind w) k ≡ answerBehind (sendStep w k)
       unfolding sendStep
-      send-behind = choice (inWindow (w .machine .window) (sourceOf k) 1) _ _ (send-to-behind (w .room)) refl
+      send-behind = choice (inWindow (w .core .window) (sourceOf k) 1) _ _ (send-to-behind (w .room)) refl
 
       receive-behind : (input : List ℕ) → receiveFrom (behind w) k input ≡ answerBehind (receiveFrom w k input)
       receive-behind [] = refl
-      receive-behind (b ∷ bs) = choice (inWindow (w .machine .window) (destinationOf k) 1) _ _ refl refl
+      receive-behind (b ∷ bs) = choice (inWindow (w .core .window) (destinationOf k) 1) _ _ refl refl
 
       move-behind : (mode : Mode) → moveStep mode (behind w) k ≡ answerBehind (moveStep mode w k)
       move-behind MemoryToMemory = copy-behind
@@ -93,7 +102,7 @@ module _ (beats : List ℕ) (records : List Entry) where
     unfolding writeBackStep
     in-phase Rest = rest-behind
     in-phase Fetch = fetch-behind
-    in-phase (Move k) = move-behind k (w .machine .mode)
+    in-phase (Move k) = move-behind k (w .core .mode)
     in-phase (WriteBack k) = back-behind k (w .left)
     in-phase Ended = refl
     in-phase Halted = refl
@@ -101,7 +110,7 @@ module _ (beats : List ℕ) (records : List Entry) where
 
     step-behind : step (behind w) ≡ answerBehind (step w)
     unfolding step
-    step-behind = in-phase (w .machine .phase)
+    step-behind = ap settle (in-phase (w .core .phase)) ∙ settle-behind (stepIn (w .core .phase) w)
 
   -- ---- a run
 

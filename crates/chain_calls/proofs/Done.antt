@@ -27,7 +27,7 @@ use Rattle.machine.specs.declared.LoadedMachine.the-variants as loaded
 use Rattle.machine.specs.declared.RunAnswer.{RunAnswer}
 use Rattle.machine.specs.declared.RunAnswer.the-variants as many
 use Rattle.machine.specs.Saved.{loadOf}
-use Rattle.machine.specs.Step.{World}
+use Rattle.machine.specs.Step.{World, machineIn}
 use Rattle.machine.specs.Run.{Report, run, reasonNumber, Served, serves, refused, servedOf, worldOf}
 use Rattle.machine.specs.Run.{takenSince, returned, ranAs, runAnswer, runNumber, Runs}
 use Rattle.machine.proofs.Answers.{was-loaded}
@@ -53,7 +53,7 @@ worldBy x m = worldOf m (x .lent)
 -- the sizes are right, the image loads, and what is lent serves
 pub record Accepted (x : RunLent) : Type 0 where
   pub machine : Machine
-  pub size : length (x .image) ≡ 44
+  pub size : length (x .image) ≡ 85
   pub report-size : length (x .report) ≡ 18
   pub loads : loadOf (x .image) ≡ loaded.Good machine
   pub served : servedBy x machine ≡ serves
@@ -76,7 +76,7 @@ not-zero NoPort e = omega arith
 not-zero AddressTooLarge e = omega arith
 
 module _ (x : RunLent) where
-  by-lent : (m : Machine) → length (x .image) ≡ 44 → length (x .report) ≡ 18 → loadOf (x .image) ≡ loaded.Good m
+  by-lent : (m : Machine) → length (x .image) ≡ 85 → length (x .report) ≡ 18 → loadOf (x .image) ≡ loaded.Good m
       → (served : Served) → servedBy x m ≡ served → runNumber (runAnswer (x .lent) served (worldBy x m) (x .budget)) ≡ 0 → Accepted x
   by-lent m s r e serves f n = record { machine = m; size = s; report-size = r; loads = e; served = f }
   by-lent m s r e (refused why) f n = absurd (not-zero why n)
@@ -104,7 +104,7 @@ module _ {x : RunLent} (s : Accepted x) where
 
   pub record LeftBy (y : RunLeft) : Type 0 where
     pub number : y .number ≡ 0
-    pub image : y .image ≡ imageOf (ran .world .machine)
+    pub image : y .image ≡ imageOf (machineIn (ran .world))
     pub back : y .back ≡ returned (x .lent) serves (ran .world)
     pub reason : reasonTold (y .report) ≡ numberOf MostFirst (bytesOf MostFirst 2 (reasonNumber (ran .reason)))
     pub steps : stepsTold (y .report) ≡ ran .steps
@@ -142,7 +142,7 @@ module _ {x : RunLent} (s : Accepted x) where
     makes = subst (Makes (servedBy x (s .machine))) done (has-run x (s .size) (s .report-size) (s .loads) y p)
 
     -- the machine after it is met in use
-    pub met-after : AllBytes (x .lent .window) → AllBytes (x .lent .beats) → Met (ran .world .machine)
+    pub met-after : AllBytes (x .lent .window) → AllBytes (x .lent .beats) → Met (machineIn (ran .world))
     met-after g b = met.ran (met.loaded (was-loaded (sym (s .loads)))) g b makes
 
     pub left-by : x .lent .used < 2 ^ 32 → x .budget < 2 ^ 32 → LeftBy y

@@ -15,8 +15,9 @@ use Rattle.bus.specs.declared.Refusal.the-variants.{BadSize, BadImage}
 use Rattle.bus.specs.Window.{keepsLimits}
 use Rattle.regs.specs.Modes.{modeOf}
 use Rattle.image.specs.declared.Fields.{Fields}
+use Rattle.image.specs.declared.Tail.{Tail}
 use Rattle.image.specs.declared.ReadImage.the-variants as read
-use Rattle.image.specs.Layout.{fields}
+use Rattle.image.specs.Layout.{fields, tail}
 use Rattle.image.specs.Rules.{keepsRules}
 use Rattle.image.specs.Promise.{sized}
 use Rattle.image.specs.Promise as image
@@ -29,7 +30,7 @@ use Rattle.machine.specs.declared.RunAnswer.the-variants as many
 use Rattle.machine.specs.declared.registers.WroteRegister.{WroteRegister}
 use Rattle.machine.specs.declared.registers.WroteRegister.the-variants as wrote
 use Rattle.machine.specs.State.{fresh}
-use Rattle.machine.specs.Saved.{fieldsOf, loadedAs, loadOf}
+use Rattle.machine.specs.Saved.{fieldsOf, tailOf, loadedAs, loadOf}
 use Rattle.machine.specs.Registers.{writeOf}
 use Rattle.machine.specs.Run.{HasRun}
 use Rattle.machine.proofs.Answers.{was-loaded, was-written}
@@ -47,17 +48,17 @@ use Rattle.chain_calls.proofs.OfCalls.{loads-as, written-over, runAs, r
 -- ---- the image of a machine met in use
 
 -- bytes that load keep the rules
-rules-kept : (f : Fields) (size rules : Bool) (n : ℕ) {m : Machine}
-    → loadedAs (cond size (cond rules (read.Good f) (read.Refused (BadImage n))) (read.Refused BadSize)) ≡ Good m → not rules ≡ false
-rules-kept f true true n e = refl
-rules-kept f true false n e = absurd (let z : _≡_ {A = ℕ} 0 1 = cc in omega arith)
-rules-kept f false rules n e = absurd (let z : _≡_ {A = ℕ} 0 1 = cc in omega arith)
+rules-kept : (f : Fields) (t : Tail) (size rules : Bool) (n : ℕ) {m : Machine}
+    → loadedAs t (cond size (cond rules (read.Good f) (read.Refused (BadImage n))) (read.Refused BadSize)) ≡ Good m → not rules ≡ false
+rules-kept f t true true n e = refl
+rules-kept f t true false n e = absurd (let z : _≡_ {A = ℕ} 0 1 = cc in omega arith)
+rules-kept f t false rules n e = absurd (let z : _≡_ {A = ℕ} 0 1 = cc in omega arith)
 
 loads-back : {xs : List ℕ} {m : Machine} → Met m → xs ≡ imageOf m → LoadsBack xs
 unfolding loadOf image.readOf
 loads-back {xs} {m} h e =
     let l : loadOf xs ≡ Good m = ap loadOf e ∙ loads-as h in
-    record { machine = m; met = h; image = e; loads = l; not-8 = rules-kept (fields xs) (sized xs) (keepsRules (fields xs)) _ l }
+    record { machine = m; met = h; image = e; loads = l; not-8 = rules-kept (fields xs) (tail xs) (sized xs) (keepsRules (fields xs) (tail xs)) _ l }
 
 -- ---- each way to come by one
 
@@ -93,8 +94,8 @@ module _ {x : RunLent} {y : RunLeft} (b : LoadsBack (x .image)) (window : AllByt
   abbrev call : RunAnswer
   call = runCall (x .image) (x .lent) (x .budget) (x .report)
 
-  size : length (x .image) ≡ 44
-  size = ap length (b .image) ∙ length-image (fieldsOf (b .machine))
+  size : length (x .image) ≡ 85
+  size = ap length (b .image) ∙ length-image (fieldsOf (b .machine .core)) (tailOf (b .machine))
 
   refused-back : {why : Refusal} → call ≡ many.Refused why → LoadsBack (y .image)
   refused-back e = subst LoadsBack (sym (p .image-after ∙ ap (λ (a : RunAnswer). ranOver a (x .image)) e)) b

@@ -13,13 +13,14 @@ use Rattle.bus.specs.Window.{keepsLimits, inWindow, locatedOf}
 use Rattle.descriptor.specs.Layout.{bytesFor, descriptorAt}
 use Rattle.descriptor.specs.Looking.{spotOf, namedIn, rawAt, lookAt}
 use Rattle.regs.specs.Control.{counted}
+use Rattle.image.specs.Slot.{slotNumber}
 use Rattle.image.specs.Layout.{image}
 use Rattle.image.proofs.RoundTrip.{image-bytes}
 use Rattle.flow.specs.Beats.{beatBytes}
 use Rattle.flow.proofs.Streams.{length-beat-bytes}
-use Rattle.machine.specs.Saved.{fieldsOf}
+use Rattle.machine.specs.Saved.{fieldsOf, tailOf}
 use Rattle.machine.specs.Registers.{controlWritten}
-use Rattle.machine.specs.Step.{restStep, fetched, fetchStep, sourceOf, destinationOf, onward, copyStep, beatFor, sendStep, writtenControl, writtenBack, completed, writeBackStep, step}
+use Rattle.machine.specs.Step.{restStep, fetched, fetchStep, sourceOf, destinationOf, onward, copyStep, beatFor, sendStep, writtenControl, writtenBack, completed, writeBackStep, step, machineIn, seen}
 use Rattle.ledger.specs.Records.{capacity, isLedger}
 use Rattle.machine.specs.Run.{back, run, even}
 use Rattle.chain.specs.Chain.{Given, machineFor, worldFor, Premises}
@@ -67,7 +68,7 @@ well-lent g limits pointer control =
 pub in-bytes : (g : Given) → Premises g → g .used < 2 ^ 32 → InBytes (lentTo g)
 in-bytes g h u =
     record {
-      image = image-bytes (fieldsOf (machineFor g));
+      image = image-bytes (fieldsOf (machineFor g .core)) (tailOf (machineFor g));
       window = are-all-bytes (g .memory) (h .bytes);
       beats = beat-bytes (g .beats);
       out = zero-bytes (2 * g .room);
@@ -88,8 +89,8 @@ three-lent = well-lent three refl (omega arith) (omega arith)
 -- ---- known run 1
 
 -- by computation over the step rules
-known-ends : (imageOf (run 100 (worldFor known) .world .machine) ≡ knownLeft .image) × (run 100 (worldFor known) .world .memory ≡ knownLeft .back .window)
-unfolding image bytesFor inWindow locatedOf putAt descriptorAt spotOf namedIn rawAt lookAt controlWritten restStep fetched fetchStep sourceOf destinationOf onward copyStep beatFor sendStep writtenControl writtenBack counted completed writeBackStep step run
+known-ends : (imageOf (machineIn (run 100 (worldFor known) .world)) ≡ knownLeft .image) × (run 100 (worldFor known) .world .memory ≡ knownLeft .back .window)
+unfolding image slotNumber bytesFor inWindow locatedOf putAt descriptorAt spotOf namedIn rawAt lookAt controlWritten restStep fetched seen fetchStep sourceOf destinationOf onward copyStep beatFor sendStep writtenControl writtenBack counted completed writeBackStep step run
 known-ends = (refl, refl)
 
 -- Known run 1 through the C calls: each gives back 0, and these bytes are left.

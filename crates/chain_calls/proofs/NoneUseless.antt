@@ -12,7 +12,7 @@ use Rattle.descriptor.specs.Layout.{bytesFor, descriptorAt}
 use Rattle.image.proofs.RoundTrip.{length-image}
 use Rattle.machine.specs.declared.RunAnswer.{RunAnswer}
 use Rattle.machine.specs.declared.LoadedMachine.the-variants.{Good}
-use Rattle.machine.specs.Saved.{fieldsOf, WasLoaded}
+use Rattle.machine.specs.Saved.{fieldsOf, tailOf, WasLoaded}
 use Rattle.ledger.specs.Records.{capacity}
 use Rattle.machine.specs.Run.{Served, serves, run, worldOf, runAnswer}
 use Rattle.machine.proofs.Answers.{was-loaded}
@@ -92,8 +92,8 @@ made-up-fails f u k =
     let x = u .given in
     let w = worldOf (u .machine) (x .lent) in
     let l : WasLoaded (x .image) (Good (u .machine)) = was-loaded (sym (u .loads)) in
-    let size : length (x .image) ≡ 44 =
-    ap length (loads-exactly (x .image) (u .machine) (u .bytes .image) (loaded-typed l) .0 l .1) ∙ length-image (fieldsOf (u .machine)) in
+    let size : length (x .image) ≡ 85 =
+    ap length (loads-exactly (x .image) (u .machine) (u .bytes .image) (loaded-typed l) .0 l .1) ∙ length-image (fieldsOf (u .machine .core)) (tailOf (u .machine)) in
     let answer : runCall (x .image) (x .lent) (x .budget) (x .report) ≡ runAnswer (x .lent) serves w (x .budget) =
     runs-as x size (u .report-size) (u .loads) ∙ ap (λ (s : Served). runAnswer (x .lent) s w (x .budget)) (u .not-refused) in
     let told : stepsTold (f x .report) ≡ stepsTold (reportOver (runAnswer (x .lent) serves w (x .budget)) (x .report)) =

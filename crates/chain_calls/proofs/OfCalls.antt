@@ -19,9 +19,9 @@ use Rattle.machine.specs.declared.LoadedMachine.{LoadedMachine}
 use Rattle.machine.specs.declared.LoadedMachine.the-variants.{Good}
 use Rattle.machine.specs.declared.registers.WroteRegister.{WroteRegister}
 use Rattle.machine.specs.declared.registers.WroteRegister.the-variants as wrote
-use Rattle.machine.specs.State.{withPointer, fresh}
-use Rattle.machine.specs.Saved.{fieldsOf, loadOf}
-use Rattle.machine.specs.Registers.{controlWritten, writeOf, registerWroteNumber}
+use Rattle.machine.specs.State.{fresh}
+use Rattle.machine.specs.Saved.{fieldsOf, tailOf, loadOf}
+use Rattle.machine.specs.Registers.{writtenTo, writeOf, registerWroteNumber}
 use Rattle.machine.specs.Run.{Served, run, reasonNumber, servedOf, worldOf, ranAs, runAnswer, runNumber, HasRun}
 use Rattle.machine.proofs.Answers.{was-written, run-number}
 use Rattle.met.specs.Met.{Met}
@@ -58,7 +58,7 @@ written-over {xs} {ys} {m} {n} {offset} {v} e d w =
     (w .number ∙ ap registerWroteNumber a, w .image-after ∙ ap (λ (x : WroteRegister). writtenOver x xs) a)
 
 -- a run over an image that loads is the machine's run
-module _ (x : RunLent) {m : Machine} (size : length (x .image) ≡ 44) (report-size : length (x .report) ≡ 18) (e : loadOf (x .image) ≡ Good m) where
+module _ (x : RunLent) {m : Machine} (size : length (x .image) ≡ 85) (report-size : length (x .report) ≡ 18) (e : loadOf (x .image) ≡ Good m) where
   abbrev pub runAs : RunAnswer
   runAs = runAnswer (x .lent) (servedOf m (x .lent)) (worldOf m (x .lent)) (x .budget)
 
@@ -83,10 +83,10 @@ module _ {l : Lends} (w : WellLent l) where
   m0 = fresh StreamToMemory (l .window)
 
   abbrev m1 : Machine
-  m1 = withPointer (l .pointer) m0
+  m1 = writtenTo m0 8 (l .pointer)
 
   abbrev m2 : Machine
-  m2 = controlWritten (l .control) m1
+  m2 = writtenTo m1 4 (l .control)
 
   pointed-as : writeOf m0 8 (l .pointer) ≡ wrote.Done m1
   pointed-as = pointer-done (l .window) (w .limits) (l .pointer) (was-written refl)
@@ -105,7 +105,7 @@ module _ {l : Lends} (w : WellLent l) where
 
   module _ {created pointed started : ℕ} {left : RunLeft} (c : Called l created pointed started left) where
     creates : createNumber (l .image) 2 (l .window .base) (l .window .length) ≡ 0
-    creates = rw (eq-eqb (length (l .image)) 44 (w .image-size), w .limits)
+    creates = rw (eq-eqb (length (l .image)) 85 (w .image-size), w .limits)
 
     x1-is : c .x1 ≡ imageOf m0
     x1-is = c .create .image-after ∙ ap (λ (n : ℕ). ifDone n (imageOf m0) (l .image)) creates
@@ -144,7 +144,7 @@ module _ {l : Lends} {left : RunLeft} (k : ℕ) (w : WellLent l) (h : Premises (
         even-beats = w .even-beats;
         even-out = w .even-out;
         is-ledger = w .is-ledger;
-        ran = has-run (runLent l (imageOf (machineFor g))) (length-image (fieldsOf (machineFor g))) (w .report-size) loaded left p;
+        ran = has-run (runLent l (imageOf (machineFor g))) (length-image (fieldsOf (machineFor g .core)) (tailOf (machineFor g))) (w .report-size) loaded left p;
       }
 
   abbrev ran : Ran
@@ -155,7 +155,7 @@ module _ {l : Lends} {left : RunLeft} (k : ℕ) (w : WellLent l) (h : Premises (
   done = ap (λ (x : Served). runAnswer (l .lent) x (worldFor g) (l .budget)) (served k by-methods h)
 
   called : runCall (imageOf (machineFor g)) (l .lent) (l .budget) (l .report) ≡ many.Done ran
-  called = runs-as (runLent l (imageOf (machineFor g))) (length-image (fieldsOf (machineFor g))) (w .report-size) loaded ∙ done
+  called = runs-as (runLent l (imageOf (machineFor g))) (length-image (fieldsOf (machineFor g .core)) (tailOf (machineFor g))) (w .report-size) loaded ∙ done
 
   pub run-not-refused : left .number ≡ 0
   run-not-refused = p .number ∙ ap runNumber called

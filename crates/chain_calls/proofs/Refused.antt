@@ -15,7 +15,7 @@ use Rattle.descriptor.specs.Calls.{seatOf, seatNumber, descriptorNumber}
 use Rattle.descriptor.proofs.Seats.{by-tests, built-number, found-number}
 use Rattle.regs.specs.Offsets.{isRegister}
 use Rattle.image.specs.declared.ReadImage.the-variants as read
-use Rattle.image.specs.Layout.{fields}
+use Rattle.image.specs.Layout.{fields, tail}
 use Rattle.image.specs.Rules.{lowestBroken, keepsRules}
 use Rattle.image.specs.Promise.{sized}
 use Rattle.image.specs.Promise as image
@@ -53,44 +53,44 @@ if-so false x h = refl
 
 module _ (xs : List ℕ) where
   abbrev machine : Machine
-  machine = machineOf (fields xs)
+  machine = machineOf (fields xs) (tail xs)
 
-  loads : sized xs ≡ true → keepsRules (fields xs) ≡ true → loadOf xs ≡ loaded.Good machine
+  loads : sized xs ≡ true → keepsRules (fields xs) (tail xs) ≡ true → loadOf xs ≡ loaded.Good machine
   unfolding loadOf image.readOf
   loads s k = rw (s, k)
 
-  keeps-loaded : sized xs ≡ true → keepsRules (fields xs) ≡ true → keeps machine ≡ true
+  keeps-loaded : sized xs ≡ true → keepsRules (fields xs) (tail xs) ≡ true → keeps machine ≡ true
   keeps-loaded s k = loaded-keeps (was-loaded (sym (loads s k)))
 
   -- the number of a call that loads it: 7 and 8 come first
   module _ (body : LoadedMachine → ℕ) (passes : (why : Refusal) → body (loaded.Refused why) ≡ refusalNumber why) where
-    opened : body (loadOf xs) ≡ cond (sized xs) (cond (keepsRules (fields xs)) (body (loaded.Good machine)) (8 + 256 * lowestBroken (fields xs))) 7
+    opened : body (loadOf xs) ≡ cond (sized xs) (cond (keepsRules (fields xs) (tail xs)) (body (loaded.Good machine)) (8 + 256 * lowestBroken (fields xs) (tail xs))) 7
     unfolding loadOf image.readOf
-    opened = by (sized xs) (keepsRules (fields xs))
+    opened = by (sized xs) (keepsRules (fields xs) (tail xs))
       where
         by : (s k : Bool)
-            → body (loadedAs (cond s (cond k (read.Good (fields xs)) (read.Refused (BadImage (lowestBroken (fields xs))))) (read.Refused BadSize)))
-            ≡ cond s (cond k (body (loaded.Good machine)) (8 + 256 * lowestBroken (fields xs))) 7
+            → body (loadedAs (tail xs) (cond s (cond k (read.Good (fields xs)) (read.Refused (BadImage (lowestBroken (fields xs) (tail xs))))) (read.Refused BadSize)))
+            ≡ cond s (cond k (body (loaded.Good machine)) (8 + 256 * lowestBroken (fields xs) (tail xs))) 7
         by true true = refl
-        by true false = passes (BadImage (lowestBroken (fields xs)))
+        by true false = passes (BadImage (lowestBroken (fields xs) (tail xs)))
         by false k = passes BadSize
 
     -- and of one that looks at another size too
-    opened-with : (other : Bool) {n : ℕ} → (sized xs ≡ true → keepsRules (fields xs) ≡ true → body (loaded.Good machine) ≡ n)
-        → cond (sized xs && other) (body (loadOf xs)) 7 ≡ cond (not (sized xs && other)) 7 (cond (not (keepsRules (fields xs))) (8 + 256 * lowestBroken (fields xs)) n)
+    opened-with : (other : Bool) {n : ℕ} → (sized xs ≡ true → keepsRules (fields xs) (tail xs) ≡ true → body (loaded.Good machine) ≡ n)
+        → cond (sized xs && other) (body (loadOf xs)) 7 ≡ cond (not (sized xs && other)) 7 (cond (not (keepsRules (fields xs) (tail xs))) (8 + 256 * lowestBroken (fields xs) (tail xs)) n)
     opened-with other h =
         if-so (sized xs && other) 7
         (λ e. let s = and-left (sized xs) other e in
-        opened ∙ rw s (if-so (keepsRules (fields xs)) (8 + 256 * lowestBroken (fields xs)) (h s)))
+        opened ∙ rw s (if-so (keepsRules (fields xs) (tail xs)) (8 + 256 * lowestBroken (fields xs) (tail xs)) (h s)))
 
 -- ---- the registers and the line
 
 module _ (xs : List ℕ) (offset : ℕ) where
-  read-known : sized xs ≡ true → keepsRules (fields xs) ≡ true
+  read-known : sized xs ≡ true → keepsRules (fields xs) (tail xs) ≡ true
       → registerReadNumber (readingOf (machine xs) offset) ≡ cond (not (isRegister offset)) 1 0
   read-known s k = was-register refl .number ∙ rw (keeps-loaded xs s k) (unless (isRegister offset) 1 refl)
 
-  written-known : (v : ℕ) → sized xs ≡ true → keepsRules (fields xs) ≡ true
+  written-known : (v : ℕ) → sized xs ≡ true → keepsRules (fields xs) (tail xs) ≡ true
       → registerWroteNumber (writeOf (machine xs) offset v) ≡ cond (not (isRegister offset)) 1 0
   written-known v s k = was-written refl .number ∙ rw (keeps-loaded xs s k) (unless (isRegister offset) 1 refl)
 
@@ -111,7 +111,7 @@ pub write-in-order : WriteInOrder
 write-in-order xs offset v r xs' p =
     record {
       number = p .number ∙ opened xs (λ l. registerWroteNumber (writtenIn l offset v)) (λ why. refl)
-          ∙ if-so (sized xs) 7 (λ s. if-so (keepsRules (fields xs)) (8 + 256 * lowestBroken (fields xs)) (λ k. written-known xs offset v s k));
+          ∙ if-so (sized xs) 7 (λ s. if-so (keepsRules (fields xs) (tail xs)) (8 + 256 * lowestBroken (fields xs) (tail xs)) (λ k. written-known xs offset v s k));
       in-order = refl;
     }
 
@@ -144,7 +144,7 @@ run-in-order xs l budget report r xs' b report' p =
       in-order = refl;
     }
   where
-    known : sized xs ≡ true → keepsRules (fields xs) ≡ true → runNumber (runIn (loaded.Good (machine xs)) l budget)
+    known : sized xs ≡ true → keepsRules (fields xs) (tail xs) ≡ true → runNumber (runIn (loaded.Good (machine xs)) l budget)
         ≡ cond (not (even (l .beats) && even (l .out))) 9
         (cond (not (isLedger (length (l .ledger)) (l .used))) 19 (cond (not (eqb (length (l .window)) (fields xs .window))) 4 0))
     known s k =

@@ -22,15 +22,15 @@ use Rattle.ledger.proofs.Rows.{length-ledger, ledger-append, capacity-le}
 use Rattle.flow.specs.Beats.{beatsIn, beatBytes}
 use Rattle.flow.proofs.Streams.{length-beats, length-beat-bytes}
 use Rattle.machine.specs.declared.Machine.{Machine}
-use Rattle.machine.specs.Saved.{fieldsOf, keeps}
-use Rattle.machine.specs.Step.{World, laid, noted}
+use Rattle.machine.specs.Saved.{fieldsOf, tailOf, keeps}
+use Rattle.machine.specs.Step.{World, laid, noted, machineIn, holding}
 use Rattle.machine.specs.Run.{Report, run, reasonNumber, Lent, back, serves, even, servedOf, takenSince, outputOver, ledgerOver}
 use Rattle.machine.specs.Laws.{Passed, onTop}
 use Rattle.machine.proofs.Streams.{beat-bytes-append}
 use Rattle.machine.proofs.RunLaws.{run-add, run-tells, run-input}
 use Rattle.machine.proofs.Outcomes.{serves-good}
 use Rattle.met.specs.Met.{Met}
-use Rattle.met.proofs.InUse.{met-keeps}
+use Rattle.met.proofs.InUse.{met-keeps, met-sound, opened-same}
 use Rattle.sgdma.specs.Calls.{imageOf}
 use Rattle.chain_calls.specs.InC.{RunLent, RunLeft, Promised}
 use Rattle.chain_calls.specs.Useless.{InBytes}
@@ -60,7 +60,7 @@ even-from n xs h =
 -- what a call is lent serves as what another is, of machines that keep the rules
 serves-as : (l d : Lent) (m n : Machine) → keeps n ≡ true → keeps m ≡ true → even (d .beats) ≡ even (l .beats) → even (d .out) ≡ even (l .out)
     → isLedger (length (d .ledger)) (d .used) ≡ isLedger (length (l .ledger)) (l .used) → length (d .window) ≡ length (l .window)
-    → n .window .length ≡ m .window .length
+    → n .core .window .length ≡ m .core .window .length
     → servedOf n d ≡ servedOf m l
 unfolding servedOf
 serves-as l d m n k h b o e w s = rw (k, h, b, o, e, w, s)
@@ -101,7 +101,7 @@ module _ {x : RunLent} (s : Accepted x) (g : InBytes x) (first : RunLeft) (p : P
   abbrev next : RunLent
   next =
       record {
-        image = imageOf (v .machine);
+        image = imageOf (machineIn v);
         lent = record {
           window = v .memory;
           beats = drop (2 * took) (x .lent .beats);
@@ -144,7 +144,7 @@ module _ {x : RunLent} (s : Accepted x) (g : InBytes x) (first : RunLeft) (p : P
   took-le = omega (arith, length-beats (x .lent .beats))
 
   -- what serves the first is a machine that keeps the rules, its window, and no fewer records than are used
-  good : (keeps (s .machine) ≡ true) × (length (x .lent .window) ≡ s .machine .window .length) × (x .lent .used ≤ length (x .lent .ledger) / 12)
+  good : (keeps (s .machine) ≡ true) × (length (x .lent .window) ≡ s .machine .core .window .length) × (x .lent .used ≤ length (x .lent .ledger) / 12)
   unfolding servedOf
   good = serves-good (keeps (s .machine)) (s .machine) (x .lent) (s .served)
 
@@ -159,18 +159,18 @@ module _ {x : RunLent} (s : Accepted x) (g : InBytes x) (first : RunLeft) (p : P
       let fits : next .lent .used ≤ length (x .lent .ledger) / 12 = omega (arith, length-ledger (v .records), records-fit) in
       rw (length-next, le-leb (next .lent .used) (length (x .lent .ledger) / 12) fits, le-leb (x .lent .used) (length (x .lent .ledger) / 12) (good .2))
 
-  met-next : Met (v .machine)
+  met-next : Met (machineIn v)
   met-next = met-after s first p (g .window) (g .beats)
 
-  serves-next : servedBy next (v .machine) ≡ serves
+  serves-next : servedBy next (machineIn v) ≡ serves
   serves-next =
-      serves-as (x .lent) (next .lent) (s .machine) (v .machine) (met-keeps _ met-next) (good .0) (even-from took (x .lent .beats) took-le)
+      serves-as (x .lent) (next .lent) (s .machine) (machineIn v) (met-keeps _ met-next) (good .0) (even-from took (x .lent .beats) took-le)
       (even-from (length (v .output)) (x .lent .out) (omega (arith, room-left s))) is-ledger (passed .memory) (ap (λ (w : Window). w .length) (passed .window))
       ∙ s .served
 
   abbrev accepted-next : Accepted next
   accepted-next =
-      record { machine = v .machine; size = length-image (fieldsOf (v .machine)); report-size = size; loads = loads-as met-next; served = serves-next }
+      record { machine = machineIn v; size = length-image (fieldsOf (v .core)) (tailOf (machineIn v)); report-size = size; loads = loads-as met-next; served = serves-next }
 
   -- it opens the world where the first stopped, but for what was made before
   opens : v ≡ behind (v .output) (v .records) (world accepted-next)
@@ -180,7 +180,8 @@ module _ {x : RunLent} (s : Accepted x) (g : InBytes x) (first : RunLeft) (p : P
       let left : v .left ≡ capacity (length (next .lent .ledger)) - next .lent .used = rw length-next (omega (arith, records-left s)) in
       let output = sym (append-nil (v .output)) in
       let records = sym (append-nil (v .records)) in
-      λ i. noted (laid (world accepted-next) (v .machine) (v .memory) (input i) (output i) (room i)) (records i) (left i)
+      let slot = sym (ap (λ (m : Machine). m .slot) (opened-same (machineIn v) (met-keeps _ met-next) (met-sound met-next .typed))) in
+      λ i. noted (laid (holding (world accepted-next) (slot i)) (v .core) (v .memory) (input i) (output i) (room i)) (records i) (left i)
 
   -- so the one run makes what the second does, behind that
   one-run : run (x .budget + b) (world s) ≡ onTop (ran s .steps) (reportBehind (v .output) (v .records) (ran accepted-next))
@@ -212,7 +213,7 @@ two-runs-add x b report first second one g bits size p n q o =
     record {
       second-done = after .number;
       one-done = all .number;
-      image = all .image ∙ ap (λ (r : Report). imageOf (r .world .machine)) made ∙ sym (after .image);
+      image = all .image ∙ ap (λ (r : Report). imageOf (machineIn (r .world))) made ∙ sym (after .image);
       window = (λ i. all .back i .window) ∙ ap (λ (r : Report). r .world .memory) made ∙ (λ i. sym (after .back) i .window);
       ledger = (λ i. all .back i .ledger) ∙ ap (λ (r : Report). ledgerOver (r .world) (x .lent .ledger) (x .lent .used)) made
           ∙ ledger-join (x .lent .ledger) (x .lent .used) (v .records) (u .records) (records-fit s g first p b report size)

@@ -16,6 +16,7 @@ use Rattle.bus.specs.Window.{keepsLimits}
 use Rattle.machine.specs.declared.Ran.{Ran}
 use Rattle.machine.specs.declared.LoadedMachine.the-variants.{Good}
 use Rattle.machine.specs.Saved.{loadOf}
+use Rattle.machine.specs.Step.{machineIn}
 use Rattle.machine.specs.Run.{run, Lent, Returned, even, ranAs}
 use Rattle.chain.specs.Chain.{Given, worldFor, shares, recordsOf, cost, given, FirstFew, Outcome}
 use Rattle.chain.specs.Calls.{givenBy}
@@ -56,8 +57,8 @@ pub record Lends : Type 0 where
 
 -- lent as it should be, whatever the bytes for the image hold
 pub record WellLent (l : Lends) : Type 0 where
-  -- the sizes that the header asks for: 44 bytes for the image, 18 for the report, whole beats in and out, whole records
-  pub image-size : length (l .image) ≡ 44
+  -- the sizes that the header asks for: 85 bytes for the image, 18 for the report, whole beats in and out, whole records
+  pub image-size : length (l .image) ≡ 85
   pub report-size : length (l .report) ≡ 18
   pub even-beats : even (l .lent .beats) ≡ true
   pub even-out : even (l .lent .out) ≡ true
@@ -120,7 +121,7 @@ pub record Found (g : Given) (l : Lends) (left : RunLeft) : Type 0 where
 pub record FoundAtEveryStep (g : Given) (l : Lends) (left : RunLeft) : Type 0 where
   pub first-few : FirstFew (l .window) (l .lent .window) (shares g) (left .back .window)
   -- the image is that of the machine after so many steps of the run, and loads back as it
-  pub image : left .image ≡ imageOf (run (l .budget) (worldFor g) .world .machine)
-  pub loads : loadOf (left .image) ≡ Good (run (l .budget) (worldFor g) .world .machine)
+  pub image : left .image ≡ imageOf (machineIn (run (l .budget) (worldFor g) .world))
+  pub loads : loadOf (left .image) ≡ Good (machineIn (run (l .budget) (worldFor g) .world))
   -- one that is not enough is spent: the report begins with reason 6, Budget, and as many steps
   pub spent : l .budget < 2 + cost (shares g) → take 6 (left .report) ≡ rowBytes MostFirst (take 2 reportWidths) (6 ∷ l .budget ∷ [])

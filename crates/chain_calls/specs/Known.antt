@@ -15,7 +15,7 @@ use Rattle.chain_calls.specs.InC.{RunLent, RunLeft, Lends, runLent}
 abbrev pub lends : Given → Lends
 lends g =
     record {
-      image = replicate 44 0;
+      image = replicate 85 0;
       window = g .window;
       pointer = g .pointer;
       control = g .control;
@@ -36,13 +36,15 @@ knownLeft =
     record {
       number = 0;
       image =
-          0x1A ∷ 0x00 ∷  -- edition 1, mode 2, phase 4, Ended
+          0x2A ∷ 0x00 ∷  -- edition 2, mode 2, phase 4, Ended
           0x1C ∷ 0x00 ∷  -- status, count
           0x00 ∷ 0x00 ∷ 0x00 ∷ 0x20 ∷  -- control
           0x00 ∷ 0x00 ∷ 0x10 ∷ 0x20 ∷  -- pointer 4128
           0x00 ∷ 0x00 ∷ 0x10 ∷ 0x00 ∷  -- base 4096
           0x00 ∷ 0x00 ∷ 0x01 ∷ 0x00 ∷  -- window length 256
-          replicate 24 0;
+          replicate 24 0
+          ++ (replicate 37 0  -- an empty slot
+          ++ 0x00 ∷ 0x00 ∷ 0x00 ∷ 0x01 ∷ []);  -- run number
       back = record {
         window = take 28 (known .memory) ++ 0x04 ∷ 0x00 ∷ 0x00 ∷ 0x00 ∷ replicate 96 0 ++ 0x11 ∷ 0x22 ∷ 0x33 ∷ 0x44 ∷ replicate 124 0;
         out = [];

@@ -11,7 +11,7 @@ use lib.Dec.{eqb, leb, ltb}
 use lib.ListN.{length}
 use Rattle.bus.specs.Window.{keepsLimits, inWindow}
 use Rattle.regs.specs.Offsets.{isRegister}
-use Rattle.image.specs.Layout.{fields}
+use Rattle.image.specs.Layout.{fields, tail}
 use Rattle.image.specs.Rules.{lowestBroken, keepsRules}
 use Rattle.image.specs.Promise.{sized}
 use Rattle.ledger.specs.Records.{isLedger}
@@ -98,7 +98,7 @@ badSize right = 7 when not right
 
 -- 8, BadImage: an image read breaks a rule; with the lowest field that does
 abbrev pub badImage : List ℕ → Test
-badImage xs = record { number = 8; field = lowestBroken (fields xs); applies = not (keepsRules (fields xs)) }
+badImage xs = record { number = 8; field = lowestBroken (fields xs) (tail xs); applies = not (keepsRules (fields xs) (tail xs)) }
 
 -- 9, OddStream: odd number of beat bytes, in or out
 abbrev pub oddStream : (beats out : List ℕ) → Test

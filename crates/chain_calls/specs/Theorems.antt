@@ -167,7 +167,7 @@ abbrev pub ChainOfCallsAtEveryStep : Type 0
 ChainOfCallsAtEveryStep = (l : Lends) (created pointed started : ℕ) (left : RunLeft) (k : ℕ)
     → Called l created pointed started left → WellLent l → Premises (givenIn l k) → FoundAtEveryStep (givenIn l k) l left
 
--- Known run 1 through the C calls: the numbers, all 44 bytes of the image, the window's 256, the report's 18, the ledger's 12.
+-- Known run 1 through the C calls: the numbers, all 85 bytes of the image, the window's 256, the report's 18, the ledger's 12.
 abbrev pub KnownRun1InC : Type 0
 KnownRun1InC = (created pointed started : ℕ) (left : RunLeft) → Called (lends known) created pointed started left
     → AllDone created pointed started left × (left ≡ knownLeft)

@@ -1,4 +1,5 @@
 pub mod Looks
+pub mod Halves
 pub mod Seats
 pub mod Reading
 pub mod Writing

@@ -1,19 +1,23 @@
 -- The look at an address, by the tests that led there; and its bytes, as the fields that they name.
 -- Assumes nothing.
 use Prim.Native.Nat.{ℕ, _+_, _*_, _/_, _%_, _^_, _≤_, _<_}
-use mathlib.Core.Path.{_≡_, refl, sym, ap, _∙_}
-use mathlib.Core.Bool.{Bool, true, false, cond}
+use mathlib.Core.Path.{_≡_, refl, sym, ap, subst, _∙_}
+use mathlib.Core.Bool.{Bool, true, false, cond, _&&_, true≢false}
 use mathlib.Core.List.{List, [], _∷_}
-use native.Mathlib.Nat.{mod-eq-of-lt, add-zero}
+use native.Mathlib.Nat.{add-zero}
 use native.Mathlib.Omega.{arith}
 use lib.Dec.{eqb, leb}
 use lib.ListN.{length, drop, length-drop}
 use lib.Seq.{length-take-le}
-use borrow.Author.Tests.{leb-true, le-leb, lt-leb}
+use borrow.Author.Needs.{needs}
+use borrow.Author.Tests.{eqb-true, leb-true, le-leb, lt-leb}
 use Rattle.words.specs.declared.Order.the-variants.{LeastFirst}
-use Rattle.words.specs.Orders.{bytesOf, numberOf}
+use Rattle.words.specs.Numbers.{join, bytes, Fit}
+use Rattle.words.specs.Orders.{inOrder, numberOf}
 use Rattle.words.specs.Slices.{part, numberAt, AllBytes}
-use Rattle.words.proofs.Orders.{row-there, number-bytes}
+use Rattle.words.proofs.Recode.{join-lt}
+use Rattle.words.proofs.Bytes.{bytes-fit, take-bytes, drop-bytes, order-bytes}
+use Rattle.words.proofs.Orders.{length-order, row-bytes, row-back, row-there, number-bytes}
 use Rattle.words.proofs.Slices.{row-from, number-in-part}
 use Rattle.bus.specs.declared.Window.{Window}
 use Rattle.bus.specs.declared.Place.{Place}
@@ -28,7 +32,7 @@ use Rattle.descriptor.specs.declared.Raw.{Raw}
 use Rattle.descriptor.specs.declared.Look.{Look}
 use Rattle.descriptor.specs.declared.Look.the-variants as look
 use Rattle.descriptor.specs.Layout.{descriptorOf, descriptorAt}
-use Rattle.descriptor.specs.Looking.{placed, spotOf, eightWords, rawFrom, rawOf, rawBytes, namedIn, rawAt, lookIn, lookAt}
+use Rattle.descriptor.specs.Looking.{placed, spotOf, fourWords, rawFrom, rawOf, rawWords, rawBytes, isZero, WordsFit, namedIn, rawAt, lookIn, lookAt}
 
 -- ---- where its bytes stand
 
@@ -97,9 +101,62 @@ look-by w xs a e = ap (lookIn xs) e
 
 -- ---- the bytes
 
--- 32 bytes come back from their eight words
+-- 32 bytes come back from their four words
 pub raw-back : (ys : List ℕ) → length ys ≡ 32 → AllBytes ys → rawBytes (rawOf ys) ≡ ys
-raw-back ys l g = row-there LeastFirst eightWords ys l g
+raw-back ys l g = row-there LeastFirst fourWords ys l g
+
+-- and four words from their bytes
+pub raw-there : (r : Raw) → WordsFit r → rawOf (rawBytes r) ≡ r
+raw-there r f =
+    ap rawFrom (row-back LeastFirst fourWords (rawWords r) (f .f0, (f .f1, (f .f2, (f .f3, tt)))))
+
+-- each of them is a byte
+pub raw-bytes : (r : Raw) → AllBytes (rawBytes r)
+raw-bytes r = row-bytes LeastFirst fourWords (rawWords r)
+
+-- the four words of 32 bytes fit
+pub words-fit : (ys : List ℕ) → length ys ≡ 32 → AllBytes ys → WordsFit (rawOf ys)
+words-fit ys l g =
+    subst WordsFit (sym (ap rawFrom (row-from LeastFirst 0 fourWords ys)))
+    (record {
+      f0 = word 0 (omega arith);
+      f1 = word 8 (omega arith);
+      f2 = word 16 (omega arith);
+      f3 = word 24 (omega arith);
+    })
+  where
+    word : (k : ℕ) → k + 8 ≤ 32 → numberOf LeastFirst (part ys k 8) < 2 ^ 64
+    word k h =
+        let zs = part ys k 8 in
+        let m : length zs ≡ 8 = length-take-le 8 (drop k ys) (simp length-drop (omega arith)) in
+        let fit = bytes-fit (inOrder LeastFirst zs) (order-bytes LeastFirst zs (take-bytes 8 (drop k ys) (drop-bytes k ys g))) in
+        let n : length (inOrder LeastFirst zs) ≡ 8 = length-order LeastFirst zs ∙ m in
+        subst (λ (i : ℕ). join (bytes i) (inOrder LeastFirst zs) < 2 ^ 64) (sym m)
+        (join-lt (bytes 8) (inOrder LeastFirst zs) (subst (λ (i : ℕ). Fit (bytes i) (inOrder LeastFirst zs)) n fit))
+
+pub no-words-fit : WordsFit (rawOf [])
+no-words-fit = search needs
+
+-- a number that is zero beside other tests
+and-zero : (b : Bool) (n : ℕ) → (b && eqb n 0) ≡ true → (b ≡ true) × (n ≡ 0)
+and-zero true n e = (refl, eqb-true n 0 e)
+and-zero false n e = absurd (true≢false (sym e))
+
+no-words : {a b c d : ℕ} → a ≡ 0 → b ≡ 0 → c ≡ 0 → d ≡ 0 → _≡_ {A = Raw} (record { q0 = a; q1 = b; q2 = c; q3 = d }) (rawOf [])
+no-words p0 p1 p2 p3 = rw (p0, p1, p2, p3)
+
+-- bytes that are all zero are those of nothing
+pub zero-is : (r : Raw) → isZero r ≡ true → r ≡ rawOf []
+unfolding isZero
+zero-is r e =
+    let z3 = and-zero _ (r .q3) e in
+    let z2 = and-zero _ (r .q2) (z3 .0) in
+    let z1 = and-zero _ (r .q1) (z2 .0) in
+    no-words (eqb-true (r .q0) 0 (z1 .0)) (z1 .1) (z2 .1) (z3 .1)
+
+pub zero-none : isZero (rawOf []) ≡ true
+unfolding isZero
+zero-none = refl
 
 module _ (xs : List ℕ) (at : ℕ) where
   pub raw-in : at + 32 ≤ length xs → rawAt xs at ≡ rawOf (part xs at 32)
@@ -109,6 +166,18 @@ module _ (xs : List ℕ) (at : ℕ) where
   pub raw-out : length xs < at + 32 → rawAt xs at ≡ rawOf []
   unfolding rawAt
   raw-out h = rw (lt-leb (at + 32) (length xs) h)
+
+  -- the words of bytes fit
+  pub raw-fits : AllBytes xs → WordsFit (rawAt xs at)
+  unfolding rawAt
+  raw-fits g = by (leb (at + 32) (length xs)) refl
+    where
+      by : (t : Bool) → leb (at + 32) (length xs) ≡ t → WordsFit (cond t (rawOf (part xs at 32)) (rawOf []))
+      by true e =
+          let h : at + 32 ≤ length xs = leb-true _ _ e in
+          words-fit (part xs at 32) (length-take-le 32 (drop at xs) (simp length-drop (omega arith)))
+          (take-bytes 32 (drop at xs) (drop-bytes at xs g))
+      by false e = no-words-fit
 
   -- the fields that they name are those of the descriptor there
   pub named-at : AllBytes (part xs at 32) → namedIn (rawAt xs at) ≡ descriptorAt xs at
@@ -123,37 +192,24 @@ module _ (xs : List ℕ) (at : ℕ) where
       by false e = refl
 
   -- what was read word by word is the bytes there
-  pub read-words : at + 32 ≤ length xs → (w0 w1 w2 w3 w4 w5 w6 w7 : ℕ)
-      → w0 ≡ numberAt LeastFirst 4 xs at → w1 ≡ numberAt LeastFirst 4 xs (at + 4)
-      → w2 ≡ numberAt LeastFirst 4 xs (at + 8) → w3 ≡ numberAt LeastFirst 4 xs (at + 12)
-      → w4 ≡ numberAt LeastFirst 4 xs (at + 16) → w5 ≡ numberAt LeastFirst 4 xs (at + 20)
-      → w6 ≡ numberAt LeastFirst 4 xs (at + 24) → w7 ≡ numberAt LeastFirst 4 xs (at + 28)
-      → record { w0 = w0; w1 = w1; w2 = w2; w3 = w3; w4 = w4; w5 = w5; w6 = w6; w7 = w7 } ≡ rawOf (part xs at 32)
-  read-words h w0 w1 w2 w3 w4 w5 w6 w7 e0 e1 e2 e3 e4 e5 e6 e7 =
-      let s0 : w0 ≡ numberOf LeastFirst (part (part xs at 32) 0 4) =
-      e0 ∙ ap (numberAt LeastFirst 4 xs) (sym (add-zero at)) ∙ number-in-part LeastFirst xs at 32 0 4 h (omega arith) in
-      let s1 = e1 ∙ number-in-part LeastFirst xs at 32 4 4 h (omega arith) in
-      let s2 = e2 ∙ number-in-part LeastFirst xs at 32 8 4 h (omega arith) in
-      let s3 = e3 ∙ number-in-part LeastFirst xs at 32 12 4 h (omega arith) in
-      let s4 = e4 ∙ number-in-part LeastFirst xs at 32 16 4 h (omega arith) in
-      let s5 = e5 ∙ number-in-part LeastFirst xs at 32 20 4 h (omega arith) in
-      let s6 = e6 ∙ number-in-part LeastFirst xs at 32 24 4 h (omega arith) in
-      let s7 = e7 ∙ number-in-part LeastFirst xs at 32 28 4 h (omega arith) in
-      sym (ap rawFrom (row-from LeastFirst 0 eightWords (part xs at 32)) ∙ rw (s0, s1, s2, s3, s4, s5, s6, s7))
+  pub read-words : at + 32 ≤ length xs → (q0 q1 q2 q3 : ℕ)
+      → q0 ≡ numberAt LeastFirst 8 xs at → q1 ≡ numberAt LeastFirst 8 xs (at + 8)
+      → q2 ≡ numberAt LeastFirst 8 xs (at + 16) → q3 ≡ numberAt LeastFirst 8 xs (at + 24)
+      → record { q0 = q0; q1 = q1; q2 = q2; q3 = q3 } ≡ rawOf (part xs at 32)
+  read-words h q0 q1 q2 q3 e0 e1 e2 e3 =
+      let s0 : q0 ≡ numberOf LeastFirst (part (part xs at 32) 0 8) =
+      e0 ∙ ap (numberAt LeastFirst 8 xs) (sym (add-zero at)) ∙ number-in-part LeastFirst xs at 32 0 8 h (omega arith) in
+      let s1 = e1 ∙ number-in-part LeastFirst xs at 32 8 8 h (omega arith) in
+      let s2 = e2 ∙ number-in-part LeastFirst xs at 32 16 8 h (omega arith) in
+      let s3 = e3 ∙ number-in-part LeastFirst xs at 32 24 8 h (omega arith) in
+      sym (ap rawFrom (row-from LeastFirst 0 fourWords (part xs at 32)) ∙ rw (s0, s1, s2, s3))
 
--- the words fit, as those of every value in the code do
-pub record Fits (r : Raw) : Type 0 where
-  pub f0 : r .w0 < 2 ^ 32
-  pub f2 : r .w2 < 2 ^ 32
-  pub f4 : r .w4 < 2 ^ 32
-  pub f6 : r .w6 < 2 ^ 32
-  pub f7 : r .w7 < 2 ^ 32
+-- two bytes of a word, at its start and behind its low half
+two-first : (v : ℕ) → numberOf LeastFirst (v / 2 ^ 0 % 256 ∷ v / 2 ^ 8 % 256 ∷ []) ≡ v % 0x1_0000
+two-first v = omega arith
 
-whole : (v : ℕ) → v < 2 ^ 32 → numberOf LeastFirst (bytesOf LeastFirst 4 v) ≡ v
-whole v h = number-bytes LeastFirst 4 v ∙ mod-eq-of-lt h
-
-half : (v : ℕ) → numberOf LeastFirst (v / 2 ^ 0 % 256 ∷ v / 2 ^ 8 % 256 ∷ []) ≡ v % 0x1_0000
-half v = omega arith
+two-behind : (v : ℕ) → numberOf LeastFirst (v / 2 ^ 32 % 256 ∷ v / 2 ^ 40 % 256 ∷ []) ≡ v / 0x1_0000_0000 % 0x1_0000
+two-behind v = omega arith
 
 byte : (n v : ℕ) → numberOf LeastFirst (v / 2 ^ (8 * n) % 256 ∷ []) ≡ v / 2 ^ (8 * n) % 256
 byte n v = omega arith
@@ -165,16 +221,17 @@ same : {s d n l a t c s' d' n' l' a' t' c' : ℕ} → s ≡ s' → d ≡ d' → 
 same e0 e1 e2 e3 e4 e5 e6 = cc
 
 -- each field out of its word
-pub named-words : (r : Raw) → Fits r → namedIn r
+pub named-words : (r : Raw) → namedIn r
     ≡ record {
-      source = r .w0;
-      destination = r .w2;
-      next = r .w4;
-      length = r .w6 % 0x1_0000;
-      actual = r .w7 % 0x1_0000;
-      status = r .w7 / 0x1_0000 % 0x100;
-      control = record { 0 = r .w7 / 0x100_0000 % 0x100 };
+      source = r .q0 % 0x1_0000_0000;
+      destination = r .q1 % 0x1_0000_0000;
+      next = r .q2 % 0x1_0000_0000;
+      length = r .q3 % 0x1_0000;
+      actual = r .q3 / 0x1_0000_0000 % 0x1_0000;
+      status = r .q3 / 0x1_0000_0000_0000 % 0x100;
+      control = record { 0 = r .q3 / 0x100_0000_0000_0000 % 0x100 };
     }
 unfolding namedIn
-named-words r f =
-    same (whole (r .w0) (f .f0)) (whole (r .w2) (f .f2)) (whole (r .w4) (f .f4)) (half (r .w6)) (half (r .w7)) (byte 2 (r .w7)) (byte 3 (r .w7))
+named-words r =
+    same (number-bytes LeastFirst 4 (r .q0)) (number-bytes LeastFirst 4 (r .q1)) (number-bytes LeastFirst 4 (r .q2))
+    (two-first (r .q3)) (two-behind (r .q3)) (byte 6 (r .q3)) (byte 7 (r .q3))

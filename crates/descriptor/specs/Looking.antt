@@ -1,7 +1,7 @@
 -- One look at a descriptor's address, and what it finds. Fetch, the builder, the reader and the image's rule go by it.
 -- Assumes nothing.
-use Prim.Native.Nat.{ℕ, _+_, _%_}
-use mathlib.Core.Bool.{Bool, true, false, cond}
+use Prim.Native.Nat.{ℕ, _+_, _%_, _^_, _<_}
+use mathlib.Core.Bool.{Bool, true, false, cond, _&&_}
 use mathlib.Core.List.{List, [], _∷_}
 use lib.ListN.{length, getD, replicate}
 use lib.Dec.{eqb, leb}
@@ -38,24 +38,35 @@ stands (At p) = true
 
 -- ---- what stands there
 
--- eight words of four bytes, the least significant first
-abbrev pub eightWords : List ℕ
-eightWords = replicate 8 4
+-- four words of eight bytes, the least significant first
+abbrev pub fourWords : List ℕ
+fourWords = replicate 4 8
 
 abbrev pub rawFrom : (words : List ℕ) → Raw
 rawFrom words =
     let word : ℕ → ℕ = λ n. getD words n 0 in
-    record { w0 = word 0; w1 = word 1; w2 = word 2; w3 = word 3; w4 = word 4; w5 = word 5; w6 = word 6; w7 = word 7 }
+    record { q0 = word 0; q1 = word 1; q2 = word 2; q3 = word 3 }
 
 abbrev pub rawOf : List ℕ → Raw
-rawOf ys = rawFrom (rowNumbers LeastFirst eightWords ys)
+rawOf ys = rawFrom (rowNumbers LeastFirst fourWords ys)
 
 -- its words, and its bytes as they stand in memory
 abbrev pub rawWords : Raw → List ℕ
-rawWords r = r .w0 ∷ r .w1 ∷ r .w2 ∷ r .w3 ∷ r .w4 ∷ r .w5 ∷ r .w6 ∷ r .w7 ∷ []
+rawWords r = r .q0 ∷ r .q1 ∷ r .q2 ∷ r .q3 ∷ []
 
 abbrev pub rawBytes : Raw → List ℕ
-rawBytes r = rowBytes LeastFirst eightWords (rawWords r)
+rawBytes r = rowBytes LeastFirst fourWords (rawWords r)
+
+-- all of them zero
+unfoldable pub isZero : Raw → Bool
+isZero r = eqb (r .q0) 0 && eqb (r .q1) 0 && eqb (r .q2) 0 && eqb (r .q3) 0
+
+-- the words fit, as those of every value in the code do
+pub record WordsFit (r : Raw) : Type 0 where
+  pub f0 : r .q0 < 2 ^ 64
+  pub f1 : r .q1 < 2 ^ 64
+  pub f2 : r .q2 < 2 ^ 64
+  pub f3 : r .q3 < 2 ^ 64
 
 -- every field that they name
 unfoldable pub namedIn : Raw → Descriptor

@@ -5,9 +5,10 @@ ghost use Prim.Native.Nat.{_+_, _≤_};
 ghost use lib.ListN.{length};
 ghost use Rattle.words.specs.Bits.{hasBit};
 ghost use Rattle.words.specs.Promise.{Gives, Leaves};
-ghost use Rattle.words.specs.Slices.{part, putAt};
+ghost use Rattle.words.specs.Slices.{part, putAt, numberAt};
+ghost use Rattle.words.specs.declared.Order.the-variants.{LeastFirst};
 ghost use Rattle.descriptor.specs.Layout.{bytesFor, lastFour};
-ghost use Rattle.descriptor.specs.Looking.{spotOf, rawOf, rawAt, namedIn, lookAt};
+ghost use Rattle.descriptor.specs.Looking.{spotOf, rawOf, rawBytes, isZero, rawAt, namedIn, lookAt};
 ghost use Rattle.descriptor.specs.Calls.{seatOf, DescriptorWasRead, WasBuilt};
 use bus::BusAddress;
 use bus::CheckedWindow;
@@ -82,44 +83,70 @@ pub fn spot_of(window: Window, address: BusAddress) -> Spot
     }
 }
 
-// The 32 bytes of a descriptor as they stand in memory: eight words, the least significant byte of each first.
+// The 32 bytes of a descriptor as they stand in memory: four words of eight bytes, the least significant byte of each first.
 pub struct Raw {
-    w0: u32,
-    w1: u32,
-    w2: u32,
-    w3: u32,
-    w4: u32,
-    w5: u32,
-    w6: u32,
-    w7: u32,
+    q0: u64,
+    q1: u64,
+    q2: u64,
+    q3: u64,
 }
 
-const ZEROS: Raw = Raw {
-    w0: 0,
-    w1: 0,
-    w2: 0,
-    w3: 0,
-    w4: 0,
-    w5: 0,
-    w6: 0,
-    w7: 0,
-};
-
 impl Raw {
+    pub const ZERO: Raw = Raw {
+        q0: 0,
+        q1: 0,
+        q2: 0,
+        q3: 0,
+    };
+
+    // Whether all 32 bytes are zero.
+    pub fn is_zero(self) -> bool
+        ensures { λ r. ⌜ Gives (isZero self) r ⌝ }
+    {
+        (self.q0 == 0) & (self.q1 == 0) & (self.q2 == 0) & (self.q3 == 0)
+    }
+
+    // Writes the 32 bytes at a place, as they stand in memory; nothing where there is no room for them.
+    pub fn put(self, to: &mut [u8], at: usize)
+        ensures { λ _. ⌜ Leaves (putAt (now (to .entry)) at (rawBytes self)) (now (to .exit)) ⌝ }
+    {
+        let words = [
+            (self.q0 % 0x1_0000_0000) as u32,
+            (self.q0 / 0x1_0000_0000) as u32,
+            (self.q1 % 0x1_0000_0000) as u32,
+            (self.q1 / 0x1_0000_0000) as u32,
+            (self.q2 % 0x1_0000_0000) as u32,
+            (self.q2 / 0x1_0000_0000) as u32,
+            (self.q3 % 0x1_0000_0000) as u32,
+            (self.q3 / 0x1_0000_0000) as u32,
+        ];
+        put_words(Order::LeastFirst, to, at, &words);
+    }
+
     // Every named field; reserved bytes are ignored.
     pub fn named(self) -> Descriptor
         ensures { λ r. ⌜ Gives (namedIn self) r ⌝ }
     {
         Descriptor {
-            source: self.w0,
-            destination: self.w2,
-            next: self.w4,
-            length: (self.w6 % 0x1_0000) as u16,
-            actual: (self.w7 % 0x1_0000) as u16,
-            status: (self.w7 / 0x1_0000 % 0x100) as u8,
-            control: DescControl((self.w7 / 0x100_0000 % 0x100) as u8),
+            source: (self.q0 % 0x1_0000_0000) as u32,
+            destination: (self.q1 % 0x1_0000_0000) as u32,
+            next: (self.q2 % 0x1_0000_0000) as u32,
+            length: (self.q3 % 0x1_0000) as u16,
+            actual: (self.q3 / 0x1_0000_0000 % 0x1_0000) as u16,
+            status: (self.q3 / 0x1_0000_0000_0000 % 0x100) as u8,
+            control: DescControl((self.q3 / 0x100_0000_0000_0000 % 0x100) as u8),
         }
     }
+}
+
+// Two words of memory as one number, the first one its low half. The place has eight bytes behind it.
+fn two_words(window: &[u8], at: usize) -> u64
+    requires { ⌜ at + 8 ≤ length (now window) ⌝ }
+    ensures { λ r. ⌜ r ≡ numberAt LeastFirst 8 (now (window .entry)) at ⌝ }
+{
+    let low = get_u32(Order::LeastFirst, window, at);
+    let high = get_u32(Order::LeastFirst, window, at + 4);
+    low as u64 + high as u64 * 0x1_0000_0000
 }
 
 // The words that stand at a place, which has 32 bytes behind it.
@@ -128,29 +155,31 @@ fn words_at(window: &[u8], at: usize) -> Raw
     ensures { λ r. ⌜ r ≡ rawOf (part (now (window .entry)) at 32) ⌝ }
 {
     Raw {
-        w0: get_u32(Order::LeastFirst, window, at),
-        w1: get_u32(Order::LeastFirst, window, at + 4),
-        w2: get_u32(Order::LeastFirst, window, at + 8),
-        w3: get_u32(Order::LeastFirst, window, at + 12),
-        w4: get_u32(Order::LeastFirst, window, at + 16),
-        w5: get_u32(Order::LeastFirst, window, at + 20),
-        w6: get_u32(Order::LeastFirst, window, at + 24),
-        w7: get_u32(Order::LeastFirst, window, at + 28),
+        q0: two_words(window, at),
+        q1: two_words(window, at + 8),
+        q2: two_words(window, at + 16),
+        q3: two_words(window, at + 24),
     }
 }
 
-// The bytes at a place; zeros where 32 do not stand there.
+// The 32 bytes at a place of lent bytes; zeros where 32 do not stand there.
+pub fn raw_in(from: &[u8], at: usize) -> Raw
+    ensures { λ r. ⌜ Gives (rawAt (now (from .entry)) at) r ⌝ }
+{
+    if from.len() < 32 {
+        return Raw::ZERO;
+    }
+    if from.len() - 32 < at {
+        return Raw::ZERO;
+    }
+    words_at(from, at)
+}
+
+// Those at a place of the window.
 fn raw_at(window: &[u8], place: Place) -> Raw
     ensures { λ r. ⌜ Gives (rawAt (now (window .entry)) (place .0)) r ⌝ }
 {
-    let index = place.index();
-    if window.len() < 32 {
-        return ZEROS;
-    }
-    if window.len() - 32 < index {
-        return ZEROS;
-    }
-    words_at(window, index)
+    raw_in(window, place.index())
 }
 
 // What stands at a descriptor's address.

@@ -1,5 +1,7 @@
 pub mod Foremost
 pub mod Windows
+pub mod Slots
+pub mod SlotBytes
 pub mod RoundTrip
 pub mod WordByWord
 pub mod Tests

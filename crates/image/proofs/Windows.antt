@@ -14,6 +14,7 @@ use Rattle.bus.specs.Window.{keepsLimits, checkedOf, inWindow, placeOf, located
 use Rattle.descriptor.specs.declared.Spot.the-variants as spot
 use Rattle.descriptor.specs.Looking.{placed, spotOf, stands}
 use Rattle.image.specs.Tests.{standsIn}
+use Rattle.image.specs.Slot.{kindAt, kindIn}
 
 good-true : (t : Bool) (v w : Window) (r : Refusal) → cond t (Good v) (Refused r) ≡ Good w → t ≡ true
 good-true true v w r e = refl
@@ -41,7 +42,7 @@ module _ (base length : ℕ) where
   refused-breaks r e = refused-false (keepsLimits base length) _ _ r e
 
 -- an address in a window that keeps the limits, by its two tests
-stands-by : (w : Window) (a : ℕ) → stands (spotOf w a) ≡ (eqb (a % 4) 0 && inWindow w a 32)
+pub stands-by : (w : Window) (a : ℕ) → stands (spotOf w a) ≡ (eqb (a % 4) 0 && inWindow w a 32)
 unfolding spotOf locatedOf
 stands-by w a = by (eqb (a % 4) 0) (inWindow w a 32)
   where
@@ -54,6 +55,12 @@ pub stands-in : (base length a : ℕ) → keepsLimits base length ≡ true
     → standsIn (checkedOf base length) a ≡ (eqb (a % 4) 0 && inWindow (record { base = base; length = length }) a 32)
 unfolding checkedOf
 stands-in base length a e = rw e (stands-by (record { base = base; length = length }) a)
+
+-- the kind of a slot there
+pub kind-in : (base length a : ℕ) → keepsLimits base length ≡ true
+    → kindIn (checkedOf base length) a ≡ kindAt (record { base = base; length = length }) a
+unfolding checkedOf
+kind-in base length a e = rw e
 
 module _ (w : Window) (a n : ℕ) where
   pub at-in : (p : Place) → locatedOf w a n ≡ At p → inWindow w a n ≡ true

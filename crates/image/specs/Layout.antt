@@ -3,13 +3,17 @@
 -- their places in the table, from 1.
 -- Assumes nothing.
 use Prim.Native.Nat.{ℕ, _/_, _<_}
+use mathlib.Core.Bool.{cond}
 use mathlib.Core.List.{List, [], _∷_, map}
 use lib.ListN.{length, getD}
 use lib.Dec.{eqb}
 use Rattle.words.specs.Bits.{flag}
 use Rattle.words.specs.Numbers.{total, recode, bytes}
+use Rattle.descriptor.specs.Looking.{WordsFit}
 use Rattle.image.specs.declared.Fields.{Fields}
+use Rattle.image.specs.declared.Tail.{Tail}
 use Rattle.image.specs.Lines.{Field, _bits_, firstParts}
+use Rattle.image.specs.Slot.{slotLines, tailFrom}
 
 -- the first part: each field's width and value
 abbrev pub coreLines : Fields → List Field
@@ -39,8 +43,8 @@ coreLines f =
     []
 
 -- the parts, in the order in which the editions added them
-abbrev pub parts : Fields → List (List Field)
-parts f = coreLines f ∷ []
+abbrev pub parts : Fields → Tail → List (List Field)
+parts f t = coreLines f ∷ slotLines t ∷ []
 
 -- the fields that numbers are, each by its place in the table; a field past their end is zero
 abbrev pub fromNumbers : List ℕ → Fields
@@ -74,51 +78,60 @@ fromNumbers vs =
 -- ---- an edition
 
 -- its lines
-abbrev pub layoutOf : (edition : ℕ) → Fields → List Field
-layoutOf edition f = firstParts edition (parts f)
+abbrev pub layoutOf : (edition : ℕ) → Fields → Tail → List Field
+layoutOf edition f t = firstParts edition (parts f t)
 
 -- their numbers, and their widths, which are the same whatever the fields
-abbrev pub valuesOf : (edition : ℕ) → Fields → List ℕ
-valuesOf edition f = map (λ x. x .value) (layoutOf edition f)
+abbrev pub valuesOf : (edition : ℕ) → Fields → Tail → List ℕ
+valuesOf edition f t = map (λ x. x .value) (layoutOf edition f t)
 
 abbrev pub widthsOf : (edition : ℕ) → List ℕ
-widthsOf edition = map (λ x. x .width) (layoutOf edition (fromNumbers []))
+widthsOf edition = map (λ x. x .width) (layoutOf edition (fromNumbers []) (tailFrom []))
 
 -- how many bytes they fill
 abbrev pub sizeOf : (edition : ℕ) → ℕ
 sizeOf edition = total (widthsOf edition) / 8
 
--- its image of the fields, and the fields of such an image
-unfoldable pub imageOf : (edition : ℕ) → Fields → List ℕ
-imageOf edition f = recode (widthsOf edition) (bytes (sizeOf edition)) (valuesOf edition f)
+-- its image of the fields
+unfoldable pub imageOf : (edition : ℕ) → Fields → Tail → List ℕ
+imageOf edition f t = recode (widthsOf edition) (bytes (sizeOf edition)) (valuesOf edition f t)
 
+-- the fields of such an image; those that the edition lacks are zero
 unfoldable pub fieldsIn : (edition : ℕ) → List ℕ → Fields
 fieldsIn edition xs = fromNumbers (recode (bytes (sizeOf edition)) (widthsOf edition) xs)
+
+unfoldable pub tailIn : (edition : ℕ) → List ℕ → Tail
+tailIn edition xs = tailFrom (recode (bytes (sizeOf edition)) (widthsOf edition) xs)
 
 -- ---- the edition that is read and written: all parts
 
 abbrev pub latest : ℕ
-latest = length (parts (fromNumbers []))
+latest = length (parts (fromNumbers []) (tailFrom []))
 
-abbrev pub layout : Fields → List Field
+abbrev pub layout : Fields → Tail → List Field
 layout = layoutOf latest
 
-abbrev pub values : Fields → List ℕ
+abbrev pub values : Fields → Tail → List ℕ
 values = valuesOf latest
 
 abbrev pub widths : List ℕ
 widths = widthsOf latest
 
-unfoldable pub image : Fields → List ℕ
+unfoldable pub image : Fields → Tail → List ℕ
 unfolding imageOf
-image f = imageOf latest f
+image f t = imageOf latest f t
 
 unfoldable pub fields : List ℕ → Fields
 unfolding fieldsIn
 fields xs = fieldsIn latest xs
 
+-- that of bytes of another size is all zero
+unfoldable pub tail : List ℕ → Tail
+unfolding tailIn
+tail xs = cond (eqb (length xs) (sizeOf latest)) (tailIn latest xs) (tailFrom [])
+
 -- the numbers that no image rule bounds fit their widths in the table; their types in the code see to that
-pub record Typed (f : Fields) : Type 0 where
+pub record Typed (f : Fields) (t : Tail) : Type 0 where
   pub pointer : f .pointer < 4294967296
   pub address : f .address < 4294967296
   pub source : f .source < 4294967296
@@ -127,3 +140,6 @@ pub record Typed (f : Fields) : Type 0 where
   pub dcontrol : f .dcontrol < 256
   pub moved : f .moved < 65536
   pub faultat : f .faultat < 4294967296
+  pub at : t .at < 4294967296
+  pub raw : WordsFit (t .raw)
+  pub run : t .run < 4294967296

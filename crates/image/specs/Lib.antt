@@ -1,6 +1,7 @@
 pub mod Lines
-pub mod Layout
 pub mod Tests
+pub mod Slot
+pub mod Layout
 pub mod Rules
 pub mod Promise
 pub mod Helpers

@@ -1,5 +1,6 @@
 -- The paper's "Image rules": a test for each field, in layout order. A rule over several fields stands at the last of them,
--- one that makes several zero at each of them. The rules are a list of parts, as the table is.
+-- one that makes several zero at each of them. The rules are a list of parts, as the table is: the first part stands here, the
+-- one of edition 2 in Slot.
 -- Assumes nothing.
 use Prim.Native.Nat.{ℕ}
 use mathlib.Core.Bool.{Bool, true, not, cond, _&&_, _||_}
@@ -9,7 +10,9 @@ use lib.Dec.{eqb, leb, ltb}
 use Rattle.bus.specs.Window.{keepsLimits, checkedOf}
 use Rattle.descriptor.specs.Layout.{owned}
 use Rattle.image.specs.declared.Fields.{Fields}
+use Rattle.image.specs.declared.Tail.{Tail}
 use Rattle.image.specs.Lines.{firstParts}
+use Rattle.image.specs.Slot.{slotRules}
 use Rattle.image.specs.Layout.{latest}
 pub use Rattle.words.specs.Fields.{firstFalse}
 pub use Rattle.image.specs.Tests.{_⇒_, _exactly_, _outside_, either, between, zeroFrom, standsIn, inMove, inWriteBack, inEnded, inHalted, inFaulted, working, zeroOutside, error, eopEncountered, busy, run, swReset}
@@ -110,24 +113,24 @@ coreRules edition f =
     []
 
 -- a part for each part of the table
-abbrev pub ruleParts : (edition : ℕ) → Fields → List (List Bool)
-ruleParts edition f = coreRules edition f ∷ []
+abbrev pub ruleParts : (edition : ℕ) → Fields → Tail → List (List Bool)
+ruleParts edition f t = coreRules edition f ∷ slotRules f t ∷ []
 
 -- the rules of an edition
-abbrev pub rulesOf : (edition : ℕ) → Fields → List Bool
-rulesOf edition f = firstParts edition (ruleParts edition f)
+abbrev pub rulesOf : (edition : ℕ) → Fields → Tail → List Bool
+rulesOf edition f t = firstParts edition (ruleParts edition f t)
 
 -- those of the latest
-unfoldable pub rules : Fields → List Bool
-rules f = rulesOf latest f
+unfoldable pub rules : Fields → Tail → List Bool
+rules f t = rulesOf latest f t
 
 -- whether the field with this number keeps its rule
-abbrev pub ruleAt : Fields → (field : ℕ) → Bool
-ruleAt f field = getD (true ∷ rules f) field true
+abbrev pub ruleAt : Fields → Tail → (field : ℕ) → Bool
+ruleAt f t field = getD (true ∷ rules f t) field true
 
 -- the lowest field that breaks a rule, counted from 1, or 0
-unfoldable pub lowestBroken : Fields → ℕ
-lowestBroken f = firstFalse 1 (rules f)
+unfoldable pub lowestBroken : Fields → Tail → ℕ
+lowestBroken f t = firstFalse 1 (rules f t)
 
-unfoldable pub keepsRules : Fields → Bool
-keepsRules f = eqb (lowestBroken f) 0
+unfoldable pub keepsRules : Fields → Tail → Bool
+keepsRules f t = eqb (lowestBroken f t) 0

@@ -1,4 +1,4 @@
-// The saved image of a machine: 44 bytes, its fields as numbers, and the rule that each field keeps.
+// The saved image of a machine: 85 bytes, its fields as numbers, and the rule that each field keeps.
 ghost use mathlib.Core.Bool.{true, false};
 ghost use mathlib.Core.Path.{_≡_};
 ghost use lib.ListN.{length};
@@ -6,10 +6,11 @@ ghost use Rattle.words.specs.Numbers.{Fit};
 ghost use Rattle.words.specs.Promise.{Gives, Leaves};
 ghost use Rattle.words.specs.Slices.{numberAt};
 ghost use Rattle.words.specs.declared.Order.the-variants.{MostFirst};
-ghost use Rattle.bus.specs.Window.{keepsLimits};
-ghost use Rattle.descriptor.specs.Looking.{spotOf, stands};
-ghost use Rattle.image.specs.Layout.{values, widths, image, fields};
-ghost use Rattle.image.specs.Helpers.ByPhase.{keptAt, always, byPhase};
+ghost use Rattle.bus.specs.Window.{keepsLimits, checkedOf};
+ghost use Rattle.descriptor.specs.Looking.{spotOf, stands, isZero, rawAt};
+ghost use Rattle.image.specs.Slot.{kindIn, heldKept, slotAtKept, slotBytesKept};
+ghost use Rattle.image.specs.Layout.{values, widths, image, fields, tail};
+ghost use Rattle.image.specs.Helpers.ByPhase.{keptAt, always, byPhase, coreKept, slotKept, slotKeptOf};
 ghost use Rattle.image.specs.Helpers.InWords.{ofWords};
 ghost use Rattle.image.specs.Rules.{working, zeroOutside, phaseKept, faultKept, statusKept, controlKept, addressKept, sizeKept, dcontrolKept, errorsKept, asked, movedKept, eopKept, rules, firstFalse, lowestBroken, keepsRules};
 ghost use Rattle.image.specs.Helpers.WasPut.{fits, ImageWasPut};
@@ -19,15 +20,18 @@ use bus::CheckedWindow;
 use bus::Refusal;
 use bus::Window;
 use descriptor::DescControl;
+use descriptor::Raw;
 use descriptor::Spot;
+use descriptor::raw_in;
 use descriptor::spot_of;
 use regs::Control;
 use regs::Status;
 use words::Order;
 use words::has;
 use words::packer::Packer;
+use words::put_u32;
 
-// The image's fields in layout order. A field of one bit is a bool, so that it fits by its type.
+// The fields of the table's first part, in layout order. A field of one bit is a bool, so that it fits by its type.
 pub struct Fields {
     pub edition: u8,
     pub mode: u8,
@@ -53,7 +57,16 @@ pub struct Fields {
     pub faultat: u32,
 }
 
-// The fields of an image that keeps the rules, or why it is refused.
+// What edition 2 adds, in layout order: the slot, with its 32 bytes as they stand in memory, and the run number.
+pub struct Tail {
+    pub kind: u8,
+    pub zero6: u8,
+    pub at: u32,
+    pub raw: Raw,
+    pub run: u32,
+}
+
+// The fields of an image that keeps the rules, or why it is refused. What edition 2 adds is read by itself: `tail_in`.
 pub enum ReadImage {
     Good(Fields),
     Refused(Refusal),
@@ -66,7 +79,18 @@ pub enum WroteImage {
 }
 
 // The edition that is read and written.
-const EDITION: u8 = 1;
+const EDITION: u8 = 2;
+
+// The bytes of an image, and where what edition 2 adds stands in it: the slot's kind, its address and its bytes, and the run number.
+const SIZE: usize = 85;
+
+const TAIL: usize = 44;
+
+const SLOT_AT: usize = 45;
+
+const SLOT_BYTES: usize = 49;
+
+const RUN_NUMBER: usize = 81;
 
 // The phases that the rules speak of.
 const FETCH: u8 = 1;
@@ -80,6 +104,15 @@ const ENDED: u8 = 4;
 const HALTED: u8 = 5;
 
 const FAULTED: u8 = 6;
+
+// The kinds of a slot.
+const EMPTY: u8 = 0;
+
+const DESCRIPTOR: u8 = 1;
+
+const FAULT_10: u8 = 2;
+
+const FAULT_11: u8 = 3;
 
 // A function for each rule of several parts. The definition that it ensures has the paper's sentence. `hand` is true in Move and
 // WriteBack, where a descriptor is in hand; `reads` in the modes 0 and 1, which read memory; `writes` in 0 and 2. Where a phase
@@ -213,9 +246,44 @@ fn eop_kept(mode: u8, phase: u8, whole: u16, moved: u16, eop: bool) -> bool
     (!reads | !eop) & ((moved == whole) | eop)
 }
 
+// What rules 10 and 11 give at an address. Where the window keeps no limits it is no kind of a held slot.
+fn kind_at(base: u32, window: u32, address: u32) -> u8
+    ensures { λ r. ⌜ r ≡ kindIn (checkedOf base window) address ⌝ }
+{
+    match Window::checked(base as u64, window as u64) {
+        CheckedWindow::Good(place) => match spot_of(place, BusAddress(address as u64)) {
+            Spot::Misaligned => FAULT_10,
+            Spot::Outside => FAULT_11,
+            Spot::At(_) => DESCRIPTOR,
+        },
+        CheckedWindow::Refused(_) => EMPTY,
+    }
+}
+
+fn held_kept(phase: u8, kind: u8) -> bool
+    ensures { λ r. ⌜ r ≡ heldKept phase kind ⌝ }
+{
+    (kind == EMPTY) | ((FETCH <= phase) & (phase <= WRITE_BACK))
+}
+
+fn slot_at_kept(base: u32, window: u32, pointer: u32, kind: u8, at: u32) -> bool
+    ensures { λ r. ⌜ r ≡ slotAtKept base window pointer kind at ⌝ }
+{
+    if kind == EMPTY {
+        return at == 0;
+    }
+    (at == pointer) & (kind == kind_at(base, window, at))
+}
+
+fn slot_bytes_kept(kind: u8, raw: Raw) -> bool
+    ensures { λ r. ⌜ r ≡ slotBytesKept kind (isZero raw) ⌝ }
+{
+    (kind == DESCRIPTOR) | raw.is_zero()
+}
+
 // Whether each field keeps its rule, in layout order.
-fn kept(f: Fields) -> [bool; 22]
-    ensures { λ r. ⌜ r ≡ rules f ⌝ }
+fn kept(f: Fields, t: Tail) -> [bool; 27]
+    ensures { λ r. ⌜ r ≡ rules f t ⌝ }
 {
     let hand = (f.phase == MOVE) | (f.phase == WRITE_BACK);
     let whole = whole(f.mode, f.size);
@@ -242,15 +310,20 @@ fn kept(f: Fields) -> [bool; 22]
         eop_kept(f.mode, f.phase, whole, f.moved, f.eop),
         f.zero15 == 0,
         (f.phase == FAULTED) | (f.faultat == 0),
+        held_kept(f.phase, t.kind),
+        t.zero6 == 0,
+        slot_at_kept(f.base, f.window, f.pointer, t.kind, t.at),
+        slot_bytes_kept(t.kind, t.raw),
+        true, // run number
     ]
 }
 
 // The place of the first that is false, counted from 1, or 0.
-fn first_false(kept: [bool; 22]) -> u8
+fn first_false(kept: [bool; 27]) -> u8
     ensures { λ r. ⌜ r ≡ firstFalse 1 kept ⌝ }
 {
     let mut i: usize = 0;
-    while i < 22 {
+    while i < 27 {
         if !kept[i] {
             return i as u8 + 1;
         }
@@ -260,14 +333,15 @@ fn first_false(kept: [bool; 22]) -> u8
 }
 
 // The lowest field that breaks a rule, counted from 1, or 0.
-pub fn broken(f: Fields) -> u8
-    ensures { λ r. ⌜ Gives (lowestBroken f) r ⌝ }
+pub fn broken(f: Fields, t: Tail) -> u8
+    ensures { λ r. ⌜ Gives (lowestBroken f t) r ⌝ }
 {
-    first_false(kept(f))
+    first_false(kept(f, t))
 }
 
-// The same rules for `keeps`, which every call that is given an image or a machine asks: whether each is kept, and not which is not. It
-// looks at the phase once; in a function to which a phase is given as a constant, what the other phases ask falls away.
+// The same rules for `keeps` and `read`, which every call that is given an image or a machine asks: whether each is kept, and not which
+// is not. Those of the first part look at the phase once; in a function to which a phase is given as a constant, what the other phases
+// ask falls away.
 
 // Those that do not look at the phase.
 fn always_kept(f: Fields) -> bool
@@ -320,9 +394,9 @@ fn idle_kept(f: Fields) -> bool
         & ((f.phase == FAULTED) | (f.faultat == 0))
 }
 
-// Whether the fields keep the rules.
-pub fn keeps(f: Fields) -> bool
-    ensures { λ r. ⌜ Gives (keepsRules f) r ⌝ }
+// Whether the fields of the first part keep theirs.
+fn core_kept(f: Fields) -> bool
+    ensures { λ r. ⌜ r ≡ coreKept f ⌝ }
 {
     if !always_kept(f) {
         return false;
@@ -336,11 +410,44 @@ pub fn keeps(f: Fields) -> bool
     idle_kept(f)
 }
 
-// Writes the fields of an image: the layout's table, line by line.
-fn pack(f: Fields, to: &mut [u8])
-    requires { ⌜ length (now to) ≡ 44 ⌝ }
-    requires { ⌜ Fit widths (values f) ⌝ }
-    ensures { λ _. ⌜ Leaves (image f) (now (to .exit)) ⌝ }
+// Those of the slot, the last test made already: of a descriptor's bytes nothing is asked.
+fn slot_kept(
+    phase: u8,
+    base: u32,
+    window: u32,
+    pointer: u32,
+    kind: u8,
+    zero6: u8,
+    at: u32,
+    bytes: bool,
+) -> bool
+    ensures { λ r. ⌜ r ≡ slotKept phase base window pointer kind zero6 at bytes ⌝ }
+{
+    held_kept(phase, kind) & (zero6 == 0) & slot_at_kept(base, window, pointer, kind, at) & bytes
+}
+
+// Whether all fields keep the rules.
+pub fn keeps(f: Fields, t: Tail) -> bool
+    ensures { λ r. ⌜ Gives (keepsRules f t) r ⌝ }
+{
+    core_kept(f)
+        & slot_kept(
+            f.phase,
+            f.base,
+            f.window,
+            f.pointer,
+            t.kind,
+            t.zero6,
+            t.at,
+            slot_bytes_kept(t.kind, t.raw),
+        )
+}
+
+// Writes the fields of an image: the layout's table, line by line. The slot's bytes stand as in memory.
+fn pack(f: Fields, t: Tail, to: &mut [u8])
+    requires { ⌜ length (now to) ≡ 85 ⌝ }
+    requires { ⌜ Fit widths (values f t) ⌝ }
+    ensures { λ _. ⌜ Leaves (image f t) (now (to .exit)) ⌝ }
 {
     Packer::new()
         .put8(4, f.edition)
@@ -365,7 +472,12 @@ fn pack(f: Fields, to: &mut [u8])
         .put1(1, f.eop)
         .put16(15, f.zero15)
         .put32(32, f.faultat)
-        .write(to);
+        .put8(2, t.kind)
+        .put8(6, t.zero6)
+        .put32(32, t.at)
+        .write(&mut to[..SLOT_BYTES]);
+    t.raw.put(to, SLOT_BYTES);
+    put_u32(Order::MostFirst, to, RUN_NUMBER, t.run);
 }
 
 // The fields that eleven words hold, each on its line, in order.
@@ -417,7 +529,7 @@ fn word(from: &[u8], at: usize) -> u32
 }
 
 fn unpack(from: &[u8]) -> Fields
-    requires { ⌜ length (now from) ≡ 44 ⌝ }
+    requires { ⌜ length (now from) ≡ 85 ⌝ }
     ensures { λ r. ⌜ Gives (fields (now (from .entry))) r ⌝ }
 {
     from_words(
@@ -435,11 +547,61 @@ fn unpack(from: &[u8]) -> Fields
     )
 }
 
-// The bytes of an image.
-const SIZE: usize = 44;
+// What edition 2 adds, of the bytes of an image; all zero where they are not of its size.
+pub fn tail_in(from: &[u8]) -> Tail
+    ensures { λ r. ⌜ Gives (tail (now (from .entry))) r ⌝ }
+{
+    if from.len() == SIZE {
+        let first = from[TAIL];
+        return Tail {
+            kind: first / 64,
+            zero6: first % 64,
+            at: word(from, SLOT_AT),
+            raw: raw_in(from, SLOT_BYTES),
+            run: word(from, RUN_NUMBER),
+        };
+    }
+    Tail {
+        kind: 0,
+        zero6: 0,
+        at: 0,
+        raw: Raw::ZERO,
+        run: 0,
+    }
+}
 
-// Reads an image: its fields, where it has the right size and they keep the rules. Where they do not, a copy is looked at: that the
-// fields themselves are handed to `broken` would cost every good image their way through memory.
+// The slot's last rule, over the bytes of an image: those of a descriptor are not looked at.
+fn bytes_kept_in(from: &[u8], kind: u8) -> bool
+    ensures { λ r. ⌜ r ≡ slotBytesKept kind (isZero (rawAt (now (from .entry)) 49)) ⌝ }
+{
+    if kind == DESCRIPTOR {
+        return true;
+    }
+    raw_in(from, SLOT_BYTES).is_zero()
+}
+
+// The slot's rules over the bytes of an image. Phase, window and pointer are read again here: taken from the fields, the compiler would
+// keep all of these at hand.
+fn slot_kept_in(from: &[u8]) -> bool
+    requires { ⌜ length (now from) ≡ 85 ⌝ }
+    ensures { λ r. ⌜ r ≡ slotKeptOf (fields (now (from .entry))) (tail (now (from .entry))) ⌝ }
+{
+    let first = from[TAIL];
+    let kind = first / 64;
+    slot_kept(
+        (word(from, 0) / 0x80_0000 % 8) as u8,
+        word(from, 12),
+        word(from, 16),
+        word(from, 8),
+        kind,
+        first % 64,
+        word(from, SLOT_AT),
+        bytes_kept_in(from, kind),
+    )
+}
+
+// Reads an image: its fields, where it has the right size and all of them keep the rules. Where they do not, a copy is looked at: that
+// the fields themselves are handed to `broken` would cost every good image their way through memory.
 pub fn read(from: &[u8]) -> ReadImage
     ensures { λ r. ⌜ ImageWasRead (now (from .entry)) r ⌝ }
 {
@@ -447,45 +609,52 @@ pub fn read(from: &[u8]) -> ReadImage
         return ReadImage::Refused(Refusal::BadSize);
     }
     let f = unpack(from);
-    if !keeps(f) {
+    let kept = core_kept(f) & slot_kept_in(from);
+    if !kept {
         let spoiled = f;
-        return ReadImage::Refused(Refusal::BadImage(broken(spoiled)));
+        return ReadImage::Refused(Refusal::BadImage(broken(spoiled, tail_in(from))));
     }
     ReadImage::Good(f)
 }
 
 // Writes the image of fields that keep the rules. Where it is refused nothing is written.
-pub fn write(f: Fields, to: &mut [u8]) -> WroteImage
-    ensures { λ r. ⌜ Wrote f (now (to .entry)) r (now (to .exit)) ⌝ }
+pub fn write(f: Fields, t: Tail, to: &mut [u8]) -> WroteImage
+    ensures { λ r. ⌜ Wrote f t (now (to .entry)) r (now (to .exit)) ⌝ }
 {
     if to.len() != SIZE {
         return WroteImage::Refused(Refusal::BadSize);
     }
-    if !keeps(f) {
-        return WroteImage::Refused(Refusal::BadImage(broken(f)));
+    if !keeps(f, t) {
+        return WroteImage::Refused(Refusal::BadImage(broken(f, t)));
     }
-    pack(f, to);
+    pack(f, t, to);
     WroteImage::Done
 }
 
 // Whether each number fits its width. Where the type has no more bits than the width it does.
-fn fit(f: Fields) -> bool
-    ensures { λ r. ⌜ r ≡ fits f ⌝ }
+fn fit(f: Fields, t: Tail) -> bool
+    ensures { λ r. ⌜ r ≡ fits f t ⌝ }
 {
-    (f.edition < 16) & (f.mode < 4) & (f.phase < 8) & (f.fault < 32) & (f.zero15 < 0x8000)
+    (f.edition < 16)
+        & (f.mode < 4)
+        & (f.phase < 8)
+        & (f.fault < 32)
+        & (f.zero15 < 0x8000)
+        & (t.kind < 4)
+        & (t.zero6 < 64)
 }
 
 // Writes the image of fields, whether they keep the rules or not: for a caller that knows that they do. Where the size is wrong or
 // a number does not fit its width it is refused, and nothing is written.
-pub fn put(f: Fields, to: &mut [u8]) -> WroteImage
-    ensures { λ r. ⌜ ImageWasPut f (now (to .entry)) r (now (to .exit)) ⌝ }
+pub fn put(f: Fields, t: Tail, to: &mut [u8]) -> WroteImage
+    ensures { λ r. ⌜ ImageWasPut f t (now (to .entry)) r (now (to .exit)) ⌝ }
 {
     if to.len() == SIZE {
-        if fit(f) {
-            pack(f, to);
+        if fit(f, t) {
+            pack(f, t, to);
             WroteImage::Done
         } else {
-            WroteImage::Refused(Refusal::BadImage(broken(f)))
+            WroteImage::Refused(Refusal::BadImage(broken(f, t)))
         }
     } else {
         WroteImage::Refused(Refusal::BadSize)

@@ -1,26 +1,29 @@
--- The image's rules held against the paper: for each sentence of "Image rules" fields that break it, in each of its parts, the
--- numbers of the fields that this counts against, and a twin with the break mended. Where a part speaks of many bits or phases some
--- of them stand for all. The rows were worked out from the paper by hand.
+-- The image's rules held against the paper and order 4: for each sentence of "Image rules", and of the order's on the slot, fields that
+-- break it, in each of its parts, the numbers of the fields that this counts against, and a twin with the break mended. Where a part
+-- speaks of many bits or phases some of them stand for all. The rows were worked out from the texts by hand.
 -- Assumes nothing.
-use Prim.Native.Nat.{ℕ, suc, _+_, _-_, _*_}
+use Prim.Native.Nat.{ℕ, suc, _+_, _-_, _*_, _^_}
 use mathlib.Core.Path.{_≡_, refl}
 use mathlib.Core.Bool.{Bool, true, false}
 use mathlib.Core.List.{List, [], _∷_, map}
-use lib.ListN.{getD, set}
+use lib.ListN.{getD, set, replicate}
 use Rattle.bus.specs.Window.{keepsLimits, checkedOf, inWindow, locatedOf}
-use Rattle.descriptor.specs.Looking.{spotOf}
+use Rattle.descriptor.specs.Looking.{spotOf, isZero, namedIn}
 use Rattle.image.specs.declared.Fields.{Fields}
+use Rattle.image.specs.declared.Tail.{Tail}
 use Rattle.image.specs.declared.ReadImage.{ReadImage}
 use Rattle.image.specs.declared.ReadImage.the-variants.{Good}
-use Rattle.image.specs.Layout.{values, fromNumbers, image, fields}
+use Rattle.image.specs.Slot.{slotNumber, slotRaw, tailFrom}
+use Rattle.image.specs.Layout.{fromNumbers, image, fields, tail}
 use Rattle.image.specs.Rules.{rules, lowestBroken, keepsRules}
 use Rattle.image.specs.Promise.{readOf, imageReadNumber}
 
--- ---- fields with one of them changed
+-- ---- the numbers of all fields, with one of them changed
 
 pub data Name : Type 0 where
   edition mode phase armed pending fault status count control pointer base window : Name
   address source destination size dcontrol errors moved eop zero15 faultat : Name
+  kind zero6 at raw run : Name
 
 abbrev pub place : Name → ℕ
 place edition = 1
@@ -45,57 +48,80 @@ place moved = 19
 place eop = 20
 place zero15 = 21
 place faultat = 22
+place kind = 23
+place zero6 = 24
+place at = 25
+place raw = 26
+place run = 27
 
 infixl 30 _but_is_
-abbrev pub _but_is_ : Fields → Name → ℕ → Fields
-f but name is v = fromNumbers (set (values f) (place name - 1) v)
+abbrev pub _but_is_ : List ℕ → Name → ℕ → List ℕ
+ns but name is v = set ns (place name - 1) v
+
+-- their image
+abbrev pub imageIs : List ℕ → List ℕ
+imageIs ns = image (fromNumbers ns) (tailFrom ns)
 
 -- ---- the machines that the rows change: a window of 256 bytes at 4096, the descriptor at its start; BUSY is 16, RUN 32
 
-abbrev pub rest : Fields
-rest = fromNumbers [] but edition is 1 but mode is 2 but base is 4096 but window is 256
+abbrev pub rest : List ℕ
+rest = replicate 27 0 but edition is 2 but mode is 2 but base is 4096 but window is 256
 
-abbrev pub fetch : Fields
+abbrev pub fetch : List ℕ
 fetch = rest but phase is 1 but status is 16 but control is 32
 
 -- stream to memory, 4 bytes, one moved
-abbrev pub move : Fields
+abbrev pub move : List ℕ
 move = fetch but phase is 2 but address is 4096 but destination is 4224 but size is 4 but dcontrol is 128 but moved is 1
 
-abbrev pub writeBack : Fields
+abbrev pub writeBack : List ℕ
 writeBack = move but phase is 3 but moved is 4
 
 -- memory to memory, and memory to stream
-abbrev pub copy : Fields
+abbrev pub copy : List ℕ
 copy = move but mode is 0 but source is 4160
 
-abbrev pub send : Fields
+abbrev pub send : List ℕ
 send = copy but mode is 1
 
-abbrev pub ended : Fields
+abbrev pub ended : List ℕ
 ended = fetch but phase is 4 but status is 24
 
-abbrev pub halted : Fields
+abbrev pub halted : List ℕ
 halted = rest but phase is 5 but status is 4 but control is 96
 
-abbrev pub faulted : Fields
+abbrev pub faulted : List ℕ
 faulted = rest but phase is 6 but control is 32 but fault is 10 but faultat is 4098
+
+-- with a descriptor read ahead, the next 32 bytes; with a fault kept, at an odd multiple of 2 and past the window
+infixl 30 _ahead
+infixl 30 _misaligned
+infixl 30 _outside
+abbrev pub _ahead : List ℕ → List ℕ
+ns ahead = ns but pointer is 4128 but kind is 1 but at is 4128
+
+abbrev pub _misaligned : List ℕ → List ℕ
+ns misaligned = ns but pointer is 4130 but kind is 2 but at is 4130
+
+abbrev pub _outside : List ℕ → List ℕ
+ns outside = ns but pointer is 8192 but kind is 3 but at is 8192
 
 -- ---- the rows
 
 pub record Row : Type 0 where
-  pub broken : Fields
+  pub broken : List ℕ
   pub places : List ℕ
-  pub twin : Fields
+  pub twin : List ℕ
 
-abbrev pub row : Fields → List ℕ → Fields → Row
+abbrev pub row : List ℕ → List ℕ → List ℕ → Row
 row broken places twin = record { broken = broken; places = places; twin = twin }
 
 abbrev pub rows : List Row
 rows =
-    -- edition 1; mode at most 2, phase at most 6
+    -- edition 2; mode at most 2, phase at most 6
     row (rest but edition is 0) (1 ∷ []) rest ∷
-    row (rest but edition is 2) (1 ∷ []) rest ∷
+    row (rest but edition is 1) (1 ∷ []) rest ∷
+    row (rest but edition is 3) (1 ∷ []) rest ∷
     row (rest but mode is 3) (2 ∷ []) (rest but mode is 2) ∷
     row (rest but phase is 7) (3 ∷ []) rest ∷
     -- window as above
@@ -195,6 +221,43 @@ rows =
     -- zero bits are zero
     row (rest but zero15 is 1) (21 ∷ []) rest ∷
     row (faulted but zero15 is 16384) (21 ∷ []) faulted ∷
+    row (rest but zero6 is 1) (24 ∷ []) rest ∷
+    row (move ahead but zero6 is 32) (24 ∷ []) (move ahead) ∷
+    -- a held slot stands only in Fetch, Move and WriteBack
+    row (rest ahead) (23 ∷ []) (fetch ahead) ∷
+    row (ended ahead) (23 ∷ []) (move ahead) ∷
+    row (halted misaligned) (23 ∷ []) (writeBack misaligned) ∷
+    row (faulted outside) (23 ∷ []) (fetch outside) ∷
+    -- an empty slot is all zero, and may stand in any phase
+    row (move but at is 4128) (25 ∷ []) move ∷
+    row (rest but at is 1) (25 ∷ []) (rest but run is 4294967295) ∷
+    row (fetch but pointer is 4128 but at is 4128) (25 ∷ []) (fetch but pointer is 4128) ∷
+    row (writeBack but raw is 1) (26 ∷ []) writeBack ∷
+    row (rest but raw is 2 ^ 255) (26 ∷ []) (fetch ahead but raw is 2 ^ 255) ∷
+    -- a fault slot's bytes are zero; those of a descriptor are free
+    row (fetch misaligned but raw is 1) (26 ∷ []) (fetch misaligned) ∷
+    row (move outside but raw is 2 ^ 248) (26 ∷ []) (move ahead but raw is 2 ^ 256 - 1) ∷
+    -- the address of a held slot is the pointer
+    row (move ahead but at is 4132) (25 ∷ []) (move ahead but at is 4132 but pointer is 4132) ∷
+    row (writeBack ahead but at is 0) (25 ∷ []) (writeBack ahead) ∷
+    row (fetch misaligned but pointer is 4134) (25 ∷ []) (fetch misaligned but pointer is 4134 but at is 4134) ∷
+    row (fetch outside but at is 0) (25 ∷ []) (fetch outside but at is 0 but pointer is 0) ∷
+    -- its kind is what rules 10 and 11 give there: not a multiple of 4, then not wholly in the window
+    row (fetch misaligned but kind is 1) (25 ∷ []) (fetch misaligned but kind is 2) ∷
+    row (fetch misaligned but kind is 3) (25 ∷ []) (fetch misaligned but kind is 2) ∷
+    row (fetch outside but kind is 1) (25 ∷ []) (fetch outside but kind is 3) ∷
+    row (fetch outside but kind is 2) (25 ∷ []) (fetch outside but kind is 3) ∷
+    row (fetch ahead but kind is 2) (25 ∷ []) (fetch ahead but kind is 1) ∷
+    row (fetch ahead but kind is 3) (25 ∷ []) (fetch ahead but kind is 1) ∷
+    row (fetch outside but pointer is 8193 but at is 8193) (25 ∷ []) (fetch outside but pointer is 8193 but at is 8193 but kind is 2) ∷
+    row (move ahead but pointer is 4324 but at is 4324) (25 ∷ []) (move ahead but pointer is 4320 but at is 4320) ∷
+    row (fetch ahead but window is 63) (25 ∷ []) (fetch ahead but window is 64) ∷
+    -- two and more at once: the lowest is told
+    row (rest ahead but zero6 is 1) (23 ∷ 24 ∷ []) rest ∷
+    row (ended but kind is 2) (23 ∷ 25 ∷ []) ended ∷
+    row (move but zero6 is 63 but at is 4 but raw is 1) (24 ∷ 25 ∷ 26 ∷ []) move ∷
+    row (rest but count is 255 but raw is 1) (8 ∷ 26 ∷ []) rest ∷
+    row (rest outside but faultat is 1) (22 ∷ 23 ∷ []) rest ∷
     []
 
 -- ---- the claim
@@ -205,47 +268,58 @@ falses k [] = []
 falses k (true ∷ bs) = falses (suc k) bs
 falses k (false ∷ bs) = k ∷ falses (suc k) bs
 
--- a broken one read from its 44 bytes: the number, the lowest field that breaks a rule, and all that do; its twin read from its own
+-- a broken one read from its 85 bytes: the number, the lowest field that breaks a rule, and all that do; its twin read from its own
 pub record Outcome : Type 0 where
   pub number : ℕ
   pub lowest : ℕ
   pub all : List ℕ
   pub again : ReadImage
+  pub behind : Tail
 
 abbrev pub found : Row → Outcome
 found r =
-    let xs = image (r .broken) in
+    let xs = imageIs (r .broken) in
+    let f = fields xs in
+    let t = tail xs in
     record {
       number = imageReadNumber (readOf xs);
-      lowest = lowestBroken (fields xs);
-      all = falses 1 (rules (fields xs));
-      again = readOf (image (r .twin));
+      lowest = lowestBroken f t;
+      all = falses 1 (rules f t);
+      again = readOf (imageIs (r .twin));
+      behind = tail (imageIs (r .twin));
     }
 
 abbrev pub wanted : Row → Outcome
 wanted r =
     let lowest = getD (r .places) 0 0 in
-    record { number = 8 + 256 * lowest; lowest = lowest; all = r .places; again = Good (r .twin) }
+    record {
+      number = 8 + 256 * lowest;
+      lowest = lowest;
+      all = r .places;
+      again = Good (fromNumbers (r .twin));
+      behind = tailFrom (r .twin);
+    }
 
 -- Each image rule, broken alone, is refused with 8 and its field, and the repaired twin is read.
 abbrev pub RowsHold : Type 0
 RowsHold = map found rows ≡ map wanted rows
 
 pub rows-hold : RowsHold
-unfolding image fields rules lowestBroken keepsRules readOf keepsLimits checkedOf inWindow locatedOf spotOf
+unfolding slotNumber slotRaw isZero image fields tail rules lowestBroken keepsRules readOf keepsLimits checkedOf inWindow locatedOf spotOf
 rows-hold = refl
 
 -- ---- one image byte by byte, written out by hand from the layout
 
-abbrev pub sample : Fields
+abbrev pub sample : List ℕ
 sample =
-    writeBack but armed is 1 but pending is 1 but status is 0x15 but count is 7 but control is 0x1_0020 but pointer is 0x1020
+    writeBack ahead but armed is 1 but pending is 1 but status is 0x15 but count is 7 but control is 0x1_0020
     but source is 0x0102_0304 but dcontrol is 0x85 but errors is 3 but eop is 1
+    but raw is 0x0102_0304_0506_0708_090a_0b0c_0d0e_0f10_1112_1314_1516_1718_191a_1b1c_1d1e_1f20 but run is 0xa1b2_c3d4
 
 abbrev pub sampleBytes : List ℕ
 sampleBytes =
-    -- edition 0001, mode 10, phase 011, armed 1, pending 1, fault 00000; status; count
-    0x19 ∷ 0xe0 ∷ 0x15 ∷ 0x07 ∷
+    -- edition 0010, mode 10, phase 011, armed 1, pending 1, fault 00000; status; count
+    0x29 ∷ 0xe0 ∷ 0x15 ∷ 0x07 ∷
     -- control; pointer; base; window length
     0x00 ∷ 0x01 ∷ 0x00 ∷ 0x20 ∷
     0x00 ∷ 0x00 ∷ 0x10 ∷ 0x20 ∷
@@ -260,20 +334,32 @@ sampleBytes =
     0x00 ∷ 0x04 ∷ 0x80 ∷ 0x00 ∷
     -- fault address
     0x00 ∷ 0x00 ∷ 0x00 ∷ 0x00 ∷
+    -- slot kind 01, zero 000000; slot address
+    0x40 ∷
+    0x00 ∷ 0x00 ∷ 0x10 ∷ 0x20 ∷
+    -- slot bytes, as they stand in memory
+    0x01 ∷ 0x02 ∷ 0x03 ∷ 0x04 ∷ 0x05 ∷ 0x06 ∷ 0x07 ∷ 0x08 ∷
+    0x09 ∷ 0x0a ∷ 0x0b ∷ 0x0c ∷ 0x0d ∷ 0x0e ∷ 0x0f ∷ 0x10 ∷
+    0x11 ∷ 0x12 ∷ 0x13 ∷ 0x14 ∷ 0x15 ∷ 0x16 ∷ 0x17 ∷ 0x18 ∷
+    0x19 ∷ 0x1a ∷ 0x1b ∷ 0x1c ∷ 0x1d ∷ 0x1e ∷ 0x1f ∷ 0x20 ∷
+    -- run number
+    0xa1 ∷ 0xb2 ∷ 0xc3 ∷ 0xd4 ∷
     []
 
 -- The fields' image is these bytes.
 abbrev pub SampleWritten : Type 0
-SampleWritten = image sample ≡ sampleBytes
+SampleWritten = imageIs sample ≡ sampleBytes
 
--- The bytes are read as these fields.
+-- The bytes are read as these fields, and the slot's as memory had them: the link to the next descriptor stands at its place, least
+-- significant byte first.
 abbrev pub SampleRead : Type 0
-SampleRead = readOf sampleBytes ≡ Good sample
+SampleRead = (readOf sampleBytes ≡ Good (fromNumbers sample)) × (tail sampleBytes ≡ tailFrom sample)
+    × (namedIn (tail sampleBytes .raw) .next ≡ 0x1413_1211)
 
 pub sample-written : SampleWritten
-unfolding image
+unfolding slotNumber slotRaw image
 sample-written = refl
 
 pub sample-read : SampleRead
-unfolding fields rules lowestBroken keepsRules readOf keepsLimits checkedOf inWindow locatedOf spotOf
-sample-read = refl
+unfolding slotNumber slotRaw isZero namedIn fields tail rules lowestBroken keepsRules readOf keepsLimits checkedOf inWindow locatedOf spotOf
+sample-read = (refl, refl, refl)

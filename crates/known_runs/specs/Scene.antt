@@ -9,25 +9,32 @@ use Rattle.words.specs.Slices.{part, put}
 use Rattle.regs.specs.Status.{statusNumber}
 use Rattle.regs.specs.Control.{ieGlobal}
 use Rattle.regs.specs.Modes.{modeOf}
+use Rattle.descriptor.specs.declared.Look.the-variants.{Misaligned, Outside, There}
 use Rattle.ledger.specs.Records.{ledgerBytes}
+use Rattle.machine.specs.declared.Slot.{Slot}
+use Rattle.machine.specs.declared.Slot.the-variants.{Empty, Ahead}
 use Rattle.machine.specs.declared.Machine.{Machine}
 use Rattle.machine.specs.declared.Fault.{Fault}
 use Rattle.machine.specs.declared.Reason.the-variants.{Rest}
 use Rattle.machine.specs.declared.registers.WroteRegister.{WroteRegister}
 use Rattle.machine.specs.declared.registers.WroteRegister.the-variants.{Done, Refused}
-use Rattle.machine.specs.State.{fresh, phaseNumber}
-use Rattle.machine.specs.Saved.{keeps, faultIn}
+use Rattle.machine.specs.State.{fresh, phaseNumber, machineWith}
+use Rattle.machine.specs.Saved.{faultIn, keeps}
 use Rattle.machine.specs.Registers.{writeOf}
-use Rattle.machine.specs.Step.{became, noted, opened}
+use Rattle.machine.specs.Step.{World, stored, noted, opened, machineIn}
 use Rattle.machine.specs.Run.{Report, run, reasonNumber}
 
--- what is done: a register is written, a run is made with a budget, or the ledger gets room for so many records more
+-- what is done: a register is written, a run is made with a budget, the ledger gets room for so many records more, the host writes bytes
+-- into the window at a place, or the run number is one that an image tells
 pub data Act : Type 0 where
   write : (offset value : ℕ) → Act
   go : (budget : ℕ) → Act
   lend : (records : ℕ) → Act
+  poke : (place : ℕ) → List ℕ → Act
+  numbered : (run : ℕ) → Act
 
--- what is found at the end; steps and reason are those of the last run, taken, out and the ledger's bytes of all
+-- what is found at the end; steps and reason are those of the last run, taken, out and the ledger's bytes of all. The slot is told by its
+-- kind: 0 empty, 1 a descriptor, 2 fault 10, 3 fault 11
 pub data Fact : Type 0 where
   reason : ℕ → Fact
   steps : ℕ → Fact
@@ -43,6 +50,8 @@ pub data Fact : Type 0 where
   fault : (code address : ℕ) → Fact
   bytes : (place : ℕ) → List ℕ → Fact
   ledger : List ℕ → Fact
+  slot : (kind : ℕ) → Fact
+  runNumber : ℕ → Fact
 
 pub record Scene : Type 0 where
   pub mode : ℕ
@@ -76,15 +85,33 @@ abbrev pub written : Machine → WroteRegister → Machine
 written m (Done n) = n
 written m (Refused why) = m
 
+-- the machine alone changes, all of it
+abbrev pub withMachine : World → Machine → World
+withMachine w m =
+    record {
+      core = m .core;
+      slot = m .slot;
+      run = m .run;
+      memory = w .memory;
+      input = w .input;
+      output = w .output;
+      room = w .room;
+      records = w .records;
+      left = w .left;
+    }
+
+-- between runs the world changes, and what the last run told stays
+abbrev pub meanwhile : Report → World → Report
+meanwhile r w = record { reason = r .reason; steps = r .steps; world = w }
+
 abbrev pub done : Report → Act → Report
 done r (write offset value) =
-    record {
-      reason = r .reason;
-      steps = r .steps;
-      world = became (r .world) (written (r .world .machine) (writeOf (r .world .machine) offset value));
-    }
+    let m = machineIn (r .world) in
+    meanwhile r (withMachine (r .world) (written m (writeOf m offset value)))
 done r (go budget) = run budget (r .world)
-done r (lend n) = record { reason = r .reason; steps = r .steps; world = noted (r .world) (r .world .records) n }
+done r (lend n) = meanwhile r (noted (r .world) (r .world .records) n)
+done r (poke place xs) = meanwhile r (stored (r .world) (r .world .core) (put (r .world .memory) place xs))
+done r (numbered n) = meanwhile r (withMachine (r .world) (machineWith (r .world .core) (r .world .slot) n))
 
 abbrev pub played : Report → List Act → Report
 played r [] = r
@@ -118,21 +145,29 @@ alike false false = true
 abbrev pub faultIs : Fault → (code address : ℕ) → Bool
 faultIs f code address = eqb (f .code) code && eqb (f .address) address
 
+abbrev pub kindOf : Slot → ℕ
+kindOf Empty = 0
+kindOf (Ahead (There r)) = 1
+kindOf (Ahead Misaligned) = 2
+kindOf (Ahead Outside) = 3
+
 abbrev pub holds : Scene → Report → Fact → Bool
 holds s r (reason n) = eqb (reasonNumber (r .reason)) n
 holds s r (steps n) = eqb (r .steps) n
 holds s r (taken n) = eqb (length (r .world .input) + n) (length (s .beats))
 holds s r (out bs) = same (r .world .output) bs
-holds s r (status n) = eqb (statusNumber (r .world .machine .status)) n
-holds s r (control n) = eqb (r .world .machine .control .0) n
-holds s r (pointer n) = eqb (r .world .machine .pointer .0) n
-holds s r (phase n) = eqb (phaseNumber (r .world .machine .phase)) n
-holds s r (pending b) = alike (r .world .machine .pending) b
-holds s r (line b) = alike (r .world .machine .pending && ieGlobal (r .world .machine .control)) b
-holds s r (count n) = eqb (r .world .machine .count) n
-holds s r (fault code address) = faultIs (faultIn (r .world .machine .phase)) code address
+holds s r (status n) = eqb (statusNumber (r .world .core .status)) n
+holds s r (control n) = eqb (r .world .core .control .0) n
+holds s r (pointer n) = eqb (r .world .core .pointer .0) n
+holds s r (phase n) = eqb (phaseNumber (r .world .core .phase)) n
+holds s r (pending b) = alike (r .world .core .pending) b
+holds s r (line b) = alike (r .world .core .pending && ieGlobal (r .world .core .control)) b
+holds s r (count n) = eqb (r .world .core .count) n
+holds s r (fault code address) = faultIs (faultIn (r .world .core .phase)) code address
 holds s r (bytes place xs) = same (part (r .world .memory) place (length xs)) xs
 holds s r (ledger bs) = same (ledgerBytes (r .world .records)) bs
+holds s r (slot kind) = eqb (kindOf (r .world .slot)) kind
+holds s r (runNumber n) = eqb (r .world .run) n
 
 abbrev pub allHold : Scene → Report → List Fact → Bool
 allHold s r [] = true
@@ -140,7 +175,7 @@ allHold s r (f ∷ fs) = holds s r f && allHold s r fs
 
 -- every fact holds, and the machine keeps the image rules
 abbrev pub right : Scene → Bool
-right s = let r = played (opening s) (s .acts) in keeps (r .world .machine) && allHold s r (s .facts)
+right s = let r = played (opening s) (s .acts) in keeps (machineIn (r .world)) && allHold s r (s .facts)
 
 -- the numbers, from k on, of the scenes that are not right
 abbrev pub wrong : ℕ → List Scene → List ℕ

@@ -11,6 +11,8 @@ use Rattle.regs.specs.declared.ReadRegister.the-variants as reg
 use Rattle.regs.specs.Control.{lineUp}
 use Rattle.regs.specs.Offsets.{isRegister, registerAt}
 use Rattle.image.specs.declared.Fields.{Fields}
+use Rattle.image.specs.declared.Tail.{Tail}
+use Rattle.image.specs.Layout.{tail}
 use Rattle.image.specs.declared.ReadImage.{ReadImage}
 use Rattle.image.specs.declared.ReadImage.the-variants as read
 use Rattle.image.specs.declared.WroteImage.{WroteImage}
@@ -25,7 +27,7 @@ use Rattle.machine.specs.declared.registers.WroteRegister.{WroteRegister
 use Rattle.machine.specs.declared.registers.WroteRegister.the-variants as done
 use Rattle.machine.specs.declared.registers.Line.{Line}
 use Rattle.machine.specs.declared.registers.Line.the-variants as line
-use Rattle.machine.specs.Saved.{fieldsOf, keeps, spoiled, loadedAs, loadOf, savedAs, saveOf, loadNumber, saveNumber, WasLoaded, WasSaved}
+use Rattle.machine.specs.Saved.{fieldsOf, tailOf, keeps, spoiled, loadedAs, loadOf, savedAs, saveOf, loadNumber, saveNumber, WasLoaded, WasSaved}
 use Rattle.machine.specs.Helpers.Put.{putOf, MachineWasPut}
 use Rattle.machine.specs.Registers.{writtenTo, writeOf, lineOf, lineNumber, registerNumber, WasWritten, WasLine}
 use Rattle.machine.specs.Registers as registers
@@ -38,37 +40,37 @@ both p q e = cc
 
 -- ---- load and save
 
-loaded-number : (a : ReadImage) → loadNumber (loadedAs a) ≡ imageReadNumber a
-loaded-number (read.Good f) = refl
-loaded-number (read.Refused why) = refl
+loaded-number : (t : Tail) (a : ReadImage) → loadNumber (loadedAs t a) ≡ imageReadNumber a
+loaded-number t (read.Good f) = refl
+loaded-number t (read.Refused why) = refl
 
 pub was-loaded : {xs : List ℕ} {r : LoadedMachine} → r ≡ loadOf xs → WasLoaded xs r
 unfolding loadOf
-was-loaded {xs} e = record { answer = e; number = ap loadNumber e ∙ loaded-number (readOf xs) }
+was-loaded {xs} e = record { answer = e; number = ap loadNumber e ∙ loaded-number (tail xs) (readOf xs) }
 
 saved-number : (a : WroteImage) → saveNumber (savedAs a) ≡ imageWroteNumber a
 saved-number wrote.Done = refl
 saved-number (wrote.Refused why) = refl
 
 -- an image written of fields, whichever test of them the call makes
-as-wrote : {f g : Fields} {xs ys : List ℕ} {w : WroteImage} {r : SavedMachine} (good : Fields → Bool) → f ≡ g
-    → WroteIf (good f) f xs w ys → r ≡ savedAs w
-    → (r ≡ savedAs (wroteIf (good g) g xs)) × (saveNumber r ≡ imageWroteNumber (wroteIf (good g) g xs)) × (ys ≡ imageIf (good g) g xs)
-as-wrote {xs = xs} {w = w} good e p q =
-    let is = p .answer ∙ ap (λ (h : Fields). wroteIf (good h) h xs) e in (
+as-wrote : {f g : Fields} {t u : Tail} {xs ys : List ℕ} {w : WroteImage} {r : SavedMachine} (good : Fields → Tail → Bool) → f ≡ g → t ≡ u
+    → WroteIf (good f t) f t xs w ys → r ≡ savedAs w
+    → (r ≡ savedAs (wroteIf (good g u) g u xs)) × (saveNumber r ≡ imageWroteNumber (wroteIf (good g u) g u xs)) × (ys ≡ imageIf (good g u) g u xs)
+as-wrote {xs = xs} {w = w} good e h p q =
+    let is = p .answer ∙ (λ x. wroteIf (good (e x) (h x)) (e x) (h x) xs) in (
       q ∙ ap savedAs is,
       ap saveNumber q ∙ saved-number w ∙ ap imageWroteNumber is,
-      p .lent ∙ ap (λ (h : Fields). imageIf (good h) h xs) e,
+      p .lent ∙ (λ x. imageIf (good (e x) (h x)) (e x) (h x) xs),
     )
 
-module _ {m : Machine} {xs ys : List ℕ} {f : Fields} {w : WroteImage} {r : SavedMachine} (e : f ≡ fieldsOf m) where
-  pub was-saved : Wrote f xs w ys → r ≡ savedAs w → WasSaved m xs r ys
+module _ {m : Machine} {xs ys : List ℕ} {f : Fields} {t : Tail} {w : WroteImage} {r : SavedMachine} (e : f ≡ fieldsOf (m .core)) (h : t ≡ tailOf m) where
+  pub was-saved : Wrote f t xs w ys → r ≡ savedAs w → WasSaved m xs r ys
   unfolding saveOf
-  was-saved p q = let s = as-wrote keepsRules e p q in record { answer = s .0; number = s .1; lent = s .2 }
+  was-saved p q = let s = as-wrote keepsRules e h p q in record { answer = s .0; number = s .1; lent = s .2 }
 
-  pub was-put : ImageWasPut f xs w ys → r ≡ savedAs w → MachineWasPut m xs r ys
+  pub was-put : ImageWasPut f t xs w ys → r ≡ savedAs w → MachineWasPut m xs r ys
   unfolding putOf
-  was-put p q = let s = as-wrote fits e p q in record { answer = s .0; number = s .1; lent = s .2 }
+  was-put p q = let s = as-wrote fits e h p q in record { answer = s .0; number = s .1; lent = s .2 }
 
 -- ---- the registers and the line
 
@@ -84,8 +86,8 @@ module _ {m : Machine} {offset : ℕ} where
   unfolding registers.readingOf
   was-register e = record { answer = e; number = ap registers.registerReadNumber e ∙ number (keeps m) }
     where
-      number : (k : Bool) → registers.registerReadNumber (cond k (registerAt (m .status) (m .control) (m .pointer) offset) (reg.Refused (spoiled m)))
-          ≡ cond k (cond (isRegister offset) 0 1) (8 + 256 * lowestBroken (fieldsOf m))
+      number : (k : Bool) → registers.registerReadNumber (cond k (registerAt (m .core .status) (m .core .control) (m .core .pointer) offset) (reg.Refused (spoiled m)))
+          ≡ cond k (cond (isRegister offset) 0 1) (8 + 256 * lowestBroken (fieldsOf (m .core)) (tailOf m))
       number true = known (eqb offset 0) (eqb offset 4) (eqb offset 8) _ _ _
       number false = refl
 
@@ -95,16 +97,16 @@ module _ {m : Machine} {offset : ℕ} where
     where
       number : (k known : Bool)
           → registers.registerWroteNumber (cond k (cond known (done.Done (writtenTo m offset v)) (done.Refused NoRegister)) (done.Refused (spoiled m)))
-          ≡ cond k (cond known 0 1) (8 + 256 * lowestBroken (fieldsOf m))
+          ≡ cond k (cond known 0 1) (8 + 256 * lowestBroken (fieldsOf (m .core)) (tailOf m))
       number true true = refl
       number true false = refl
       number false known = refl
 
 pub was-line : {m : Machine} {r : Line} → r ≡ lineOf m → WasLine m r
 unfolding lineOf
-was-line {m} e = record { answer = e; number = ap lineNumber e ∙ number (keeps m) (lineUp (m .control) (m .pending)) }
+was-line {m} e = record { answer = e; number = ap lineNumber e ∙ number (keeps m) (lineUp (m .core .control) (m .core .pending)) }
   where
-    number : (k up : Bool) → lineNumber (cond k (cond up line.Up line.Down) (line.Refused (spoiled m))) ≡ cond k 0 (8 + 256 * lowestBroken (fieldsOf m))
+    number : (k up : Bool) → lineNumber (cond k (cond up line.Up line.Down) (line.Refused (spoiled m))) ≡ cond k 0 (8 + 256 * lowestBroken (fieldsOf (m .core)) (tailOf m))
     number true true = refl
     number true false = refl
     number false up = refl

@@ -14,7 +14,7 @@ use Rattle.bus.specs.Window.{inWindow, placeOf}
 use Rattle.flow.specs.declared.Beat.{Beat}
 use Rattle.flow.specs.Beats.{beatOf}
 use Rattle.flow.proofs.Streams.{beatAt, next-beat}
-use Rattle.machine.specs.declared.Machine.{Machine}
+use Rattle.machine.specs.declared.Core.{Core}
 use Rattle.machine.specs.declared.Work.{Work}
 use Rattle.machine.specs.declared.Phase.{Phase}
 use Rattle.machine.specs.declared.Phase.the-variants.{Move, WriteBack}
@@ -27,19 +27,19 @@ use Rattle.machine.proofs.Streams.{beat-made}
 use Rattle.machine.proofs.Turning.{went-none}
 
 -- when L bytes are moved or a taken beat had EOP
-pub onward-by : (m : Machine) (k : Work) {l : ℕ} {p : Phase} → l ≡ whole m k → p ≡ cond (k .eop || eqb (k .moved) l) (WriteBack k) (Move k)
+pub onward-by : (m : Core) (k : Work) {l : ℕ} {p : Phase} → l ≡ whole m k → p ≡ cond (k .eop || eqb (k .moved) l) (WriteBack k) (Move k)
     → withPhase p m ≡ onward m k
 unfolding onward
 onward-by m k f g =
     ap (λ (x : Phase). withPhase x m) (g ∙ ap (λ (x : ℕ). cond (k .eop || eqb (k .moved) x) (WriteBack k) (Move k)) f)
 
 -- a fault keeps the address modulo 2^32
-pub fault-at : (m : Machine) (code : ℕ) {m' : Machine} {a b : ℕ} → m' ≡ inFault m code (a % 2 ^ 32) → a ≡ b
+pub fault-at : (m : Core) (code : ℕ) {m' : Core} {a b : ℕ} → m' ≡ inFault m code (a % 2 ^ 32) → a ≡ b
     → m' ≡ inFault m code (b % 2 ^ 32)
 fault-at m code e f = e ∙ ap (λ (x : ℕ). inFault m code (x % 2 ^ 32)) f
 
 -- mode 0
-module _ (m : Machine) {m' : Machine} (k : Work) (window : List ℕ) where
+module _ (m : Core) {m' : Core} (k : Work) (window : List ℕ) where
   pub no-source : inWindow (m .window) (sourceOf k) 1 ≡ false → m' ≡ inFault m sourceOutside (sourceOf k % 2 ^ 32)
       → Still (λ (w : World). copyStep w k) m window m' window
   unfolding copyStep
@@ -58,7 +58,7 @@ module _ (m : Machine) {m' : Machine} (k : Work) (window : List ℕ) where
     copies f g p q = λ w. rw (e, f, g, p, q)
 
 -- mode 1
-module _ (m : Machine) (k : Work) (window beats : List ℕ) (took : ℕ) (out : List ℕ) (made : ℕ) {m' : Machine} {r : Reached} where
+module _ (m : Core) (k : Work) (window beats : List ℕ) (took : ℕ) (out : List ℕ) (made : ℕ) {m' : Core} {r : Reached} where
   pub send-out : inWindow (m .window) (sourceOf k) 1 ≡ false → m' ≡ inFault m sourceOutside (sourceOf k % 2 ^ 32) → r ≡ reachedAs m' took made
       → Went (λ (w : World). sendStep w k) m window beats took out made r window out
   unfolding sendStep
@@ -81,7 +81,7 @@ module _ (m : Machine) (k : Work) (window beats : List ℕ) (took : ℕ) (out : 
       })
 
 -- mode 2
-module _ (m : Machine) (k : Work) (window beats : List ℕ) (took : ℕ) (out : List ℕ) (made : ℕ) (h : took < length beats / 2) {m' : Machine} {r : Reached} where
+module _ (m : Core) (k : Work) (window beats : List ℕ) (took : ℕ) (out : List ℕ) (made : ℕ) (h : took < length beats / 2) {m' : Core} {r : Reached} where
   pub receive-out : inWindow (m .window) (destinationOf k) 1 ≡ false → m' ≡ inFault m destinationOutside (destinationOf k % 2 ^ 32)
       → r ≡ reachedAs m' took made → Went (λ (w : World). receiveFrom w k (w .input)) m window beats took out made r window out
   receive-out e f g =

@@ -11,33 +11,35 @@ use Rattle.words.specs.Slices.{put}
 use Rattle.ledger.specs.declared.Entry.{Entry}
 use Rattle.ledger.specs.Records.{entryBytes, ledgerBytes, capacity, hasRoom, Appended}
 use Rattle.ledger.proofs.Rows.{capacity-le}
-use Rattle.machine.specs.declared.Machine.{Machine}
+use Rattle.machine.specs.declared.Core.{Core}
 use Rattle.machine.specs.declared.Work.{Work}
 use Rattle.machine.specs.declared.Phase.the-variants.{WriteBack}
 use Rattle.machine.specs.declared.steps.Wait.the-variants.{Go}
-use Rattle.machine.specs.Step.{World, taken, stored, noted, entryFor, backTo, writeBackStep, step}
+use Rattle.machine.specs.Step.{World, taken, stored, noted, holding, entryFor, backTo, writeBackStep, settle, step}
+use Rattle.machine.specs.State.{settled}
 use Rattle.machine.specs.Helpers.Waiting.{waitOf}
 use Rattle.machine.specs.Helpers.Turns.{Backs}
-use Rattle.machine.proofs.Waiting.{at-phase, never-goes}
+use Rattle.machine.proofs.Waiting.{at-phase, settle-waits, never-goes}
 
-is-back : (w : World) (k : Work) → w .machine .phase ≡ WriteBack k → step w ≡ backTo w k (w .left)
+is-back : (w : World) (k : Work) → w .core .phase ≡ WriteBack k → step w ≡ settle (backTo w k (w .left))
 unfolding writeBackStep
 is-back w k e = at-phase w e
 
-module _ (w : World) (k : Work) {m' : Machine} {window' : List ℕ} (b : Backs (w .machine) k (w .memory) m' window') where
+module _ (w : World) (k : Work) {m' : Core} {window' : List ℕ} (b : Backs (w .core) k (w .memory) m' window') where
   back-by : (left : ℕ) → waitOf (backTo w k left) ≡ Go
-      → (0 < left) × (backTo w k left ≡ taken (noted (stored w m' window') (w .records ++ entryFor (w .machine) k ∷ []) (left - 1)))
+      → (0 < left) × (backTo w k left ≡ taken (noted (stored w m' window') (w .records ++ entryFor (w .core) k ∷ []) (left - 1)))
   back-by zero can = absurd (never-goes can)
   back-by (suc n) can =
       let one : n ≡ suc n - 1 = omega arith in
-      (omega arith, b w n ∙ ap (λ (i : ℕ). taken (noted (stored w m' window') (w .records ++ entryFor (w .machine) k ∷ []) i)) one)
+      (omega arith, b w n ∙ ap (λ (i : ℕ). taken (noted (stored w m' window') (w .records ++ entryFor (w .core) k ∷ []) i)) one)
 
   -- where it can be taken there is room for its record
-  pub back-goes : w .machine .phase ≡ WriteBack k → waitOf (step w) ≡ Go
-      → (0 < w .left) × (step w ≡ taken (noted (stored w m' window') (w .records ++ entryFor (w .machine) k ∷ []) (w .left - 1)))
+  pub back-goes : w .core .phase ≡ WriteBack k → waitOf (step w) ≡ Go
+      → (0 < w .left)
+      × (step w ≡ taken (holding (noted (stored w m' window') (w .records ++ entryFor (w .core) k ∷ []) (w .left - 1)) (settled (m' .phase) (w .slot))))
   back-goes e can =
-      let by = back-by (w .left) (sym (ap waitOf (is-back w k e)) ∙ can) in
-      (by .0, is-back w k e ∙ by .1)
+      let by = back-by (w .left) (sym (ap waitOf (is-back w k e) ∙ settle-waits (backTo w k (w .left))) ∙ can) in
+      (by .0, is-back w k e ∙ ap settle (by .1))
 
 -- there it is put behind those used
 pub appended-one : (ledger : List ℕ) (used : ℕ) {used' : ℕ} (e : Entry) {ledger' : List ℕ} → 0 < capacity (length ledger) - used

@@ -26,13 +26,15 @@ use Rattle.flow.specs.Beats.{beatEop, beatsIn, beatBytes}
 use Rattle.flow.specs.Rows.{extent, fit, calm, gathered, spread, copied, plain, absorbedCount, Absorbs, copiedOver, sentOver}
 use Rattle.flow.proofs.Fitting.{both-fit}
 use Rattle.flow.proofs.Longer.{calm-most, calm-before, length-plain}
-use Rattle.machine.specs.declared.Machine.{Machine}
+use Rattle.machine.specs.declared.Core.{Core}
 use Rattle.machine.specs.declared.Work.{Work}
 use Rattle.machine.specs.declared.Phase.the-variants.{Move}
+use Rattle.machine.specs.declared.Slot.the-variants.{Empty}
 use Rattle.machine.specs.declared.steps.Reached.{Reached}
+use Rattle.machine.specs.State.{settled, machineWith}
 use Rattle.machine.specs.declared.bursts.Reach.{Reach}
 use Rattle.machine.specs.declared.runs.Advanced.{Advanced}
-use Rattle.machine.specs.Step.{World, taken, became, received, step, whole, sourceOf, destinationOf, onward, beatFor}
+use Rattle.machine.specs.Step.{World, taken, became, received, holding, settle, moveStep, whole, sourceOf, destinationOf, onward, beatFor}
 use Rattle.machine.specs.Run.{lent, worldOf}
 use Rattle.machine.specs.Helpers.Worlds.{worldAt, midway, reachedAs, Within}
 use Rattle.machine.specs.Helpers.Turns.{steps, Went, Advances}
@@ -40,7 +42,8 @@ use Rattle.machine.specs.Helpers.AtOnce.{movedBy, Moving, Bursts, Reache
 use Rattle.machine.proofs.Places.{inside, place, fits}
 use Rattle.machine.proofs.Streams.{none-made}
 use Rattle.machine.proofs.Turning.{went-none}
-use Rattle.machine.proofs.InRows.{at-first, copy-steps, send-steps, receive-steps}
+use Rattle.machine.proofs.Waiting.{at-phase}
+use Rattle.machine.proofs.InRows.{at-first, kept-onward, copy-steps, send-steps, receive-steps}
 
 -- ---- what is in reach
 
@@ -99,10 +102,10 @@ module _ (k : Work) {fixed generate : Bool} (f : fixed ≡ writeFixed (k .contro
 -- ---- bursts
 
 -- no byte, no step
-no-steps : {mode : Mode} {window : Window} {k : Work} {most : ℕ} {m : Machine} → Moving mode window k most m
+no-steps : {mode : Mode} {window : Window} {k : Work} {most : ℕ} {m : Core} → Moving mode window k most m
     → (w : World) → steps 0 (became w m) ≡ taken (became w (onward m (movedBy k 0 (k .errors))))
 unfolding steps
-no-steps g w = ap (λ (x : Machine). taken (became w x)) (sym (at-first g))
+no-steps g w = ap (λ (x : Core). taken (became w x)) (sym (at-first g))
 
 either : {A : Type 0} (b : Bool) (x : A) → cond b x x ≡ x
 either true x = refl
@@ -228,7 +231,7 @@ module _ {place : Window} {k : Work} {most : ℕ} where
             ∙ (λ x. taken (received (midway w m memory beats took out made) (onward m (movedBy k (r .count) (sym errors x))) (sym bytes x) (drop-drop (r .count) took (beatsIn beats) x)))),
       )
     where
-      by : (m : Machine) → Moving StreamToMemory place k most m → (n : ℕ) → n ≤ most → n ≤ to .bytes → n ≤ length (drop took (beatsIn beats))
+      by : (m : Core) → Moving StreamToMemory place k most m → (n : ℕ) → n ≤ most → n ≤ to .bytes → n ≤ length (drop took (beatsIn beats))
           → ((i : ℕ) → i < n → beatEop (getD (drop took (beatsIn beats)) i 0) ≡ false) → (w : World)
           → steps n (received w m memory (drop took (beatsIn beats)))
           ≡ taken (received w (onward m (movedBy k n (gathered (k .errors) (take n (drop took (beatsIn beats))))))
@@ -240,31 +243,44 @@ module _ {place : Window} {k : Work} {most : ℕ} where
 -- ---- what the run does with a burst
 
 -- the machine is in Move; `bytes` is L, and `most` at most what is left of it
-pub moving : {mode : Mode} {m : Machine} {k : Work} {most bytes : ℕ} → m .mode ≡ mode → m .phase ≡ Move k
+pub moving : {mode : Mode} {m : Core} {k : Work} {most bytes : ℕ} → m .mode ≡ mode → m .phase ≡ Move k
     → (k .moved < whole m k) × (k .eop ≡ false) → bytes ≡ whole m k → most ≤ bytes - k .moved → Moving mode (m .window) k most m
 moving o p l e h =
     record { mode-is = o; window-is = refl; phase-is = p; no-eop = l .1; some = l .0; left = omega (arith, l .0) }
 
 -- a burst of it is told
-pub burst-told : (errors : ℕ) {mode : Mode} {m : Machine} {k : Work} {most n : ℕ} {window beats : List ℕ} {took : ℕ} {out : List ℕ} {made took' made' : ℕ}
+pub burst-told : (errors : ℕ) {mode : Mode} {m : Core} {k : Work} {most n : ℕ} {window beats : List ℕ} {took : ℕ} {out : List ℕ} {made took' made' : ℕ}
     {window' out' : List ℕ} {left : ℕ} {r : Advanced} → Moving mode (m .window) k most m
     → Bursts mode (m .window) k most n errors window beats took out made took' made' window' out'
-    → r ≡ record { machine = onward m (movedBy k n errors); taken = took'; made = made'; steps = n } → n ≤ left → Within beats out took' made'
+    → r ≡ record { core = onward m (movedBy k n errors); taken = took'; made = made'; steps = n } → n ≤ left → Within beats out took' made'
     → (r .steps ≤ left) × Advances m window beats took out made r window' out'
-burst-told errors {m = m} {window = window} {beats = beats} {took = took} {out = out} {made = made} {window' = window'} {out' = out'} {left = left} g b e l h =
-    subst⁻¹ (λ (r : Advanced). (r .steps ≤ left) × Advances m window beats took out made r window' out') e (l, (h, b m g))
+burst-told errors {m = m} {k = k} {n = n} {window = window} {beats = beats} {took = took} {out = out} {made = made} {took' = took'} {made' = made'} {window' = window'} {out' = out'} {left = left} g b e l h =
+    let went = b m g in
+    subst⁻¹ (λ (r : Advanced). (r .steps ≤ left) × Advances m window beats took out made r window' out') e (
+      l,
+      record {
+        within = h;
+        new = went .new;
+        counted = went .counted;
+        wrote = went .wrote;
+        goes = λ w. went .goes w
+            ∙ (λ x. taken (worldAt (holding w (sym (kept-onward m (movedBy k n errors) (w .slot)) x)) (onward m (movedBy k n errors)) window' beats took'
+            (w .output ++ went .new) (length out / 2 - made')));
+      },
+    )
 
 taken-same : (w v : World) → taken w ≡ taken v → w ≡ v
 taken-same w v e = cc
 
 -- no step leaves window and output as they were
-module _ {m : Machine} {window beats : List ℕ} {took : ℕ} {out : List ℕ} {made n : ℕ} {r : Reached} {window' out' : List ℕ}
-    (g : Went (λ (w : World). steps n w) m window beats took out made r window' out') (none : n ≡ 0) where
+module _ {m : Core} {window beats : List ℕ} {took : ℕ} {out : List ℕ} {made : ℕ} {r : Advanced} {window' out' : List ℕ}
+    (g : Advances m window beats took out made r window' out') (none : r .steps ≡ 0) where
   -- whatever world stands around it
   abbrev around : World
-  around = worldOf m (lent window beats out [] 0)
+  around = worldOf (machineWith m Empty 0) (lent window beats out [] 0)
 
-  same-world : midway around m window beats took out made ≡ worldAt around (r .machine) window' beats (r .taken) (g .new) (length out / 2 - r .made)
+  same-world : midway around m window beats took out made
+      ≡ worldAt (holding around (settled (r .core .phase) (around .slot))) (r .core) window' beats (r .taken) (g .new) (length out / 2 - r .made)
   unfolding steps
   same-world =
       taken-same _ _ (ap (λ (i : ℕ). steps i (midway around m window beats took out made)) (sym none) ∙ g .goes around)
@@ -275,13 +291,21 @@ module _ {m : Machine} {window beats : List ℕ} {took : ℕ} {out : List ℕ} {
       (subst (λ (x : List ℕ). P window x)
       (none-made out (2 * made) ∙ ap (λ (bs : List ℕ). put out (2 * made) (beatBytes bs)) (ap (λ (w : World). w .output) same-world) ∙ sym (g .wrote)) p)
 
-  -- so that one step after it is one step
-  pub then-step : {s : Reached} {window'' out'' : List ℕ} → Within beats out' (s .taken) (s .made)
-      → Went step m window' beats took out' made s window'' out''
-      → Within beats out (s .taken) (s .made) × Went (λ (w : World). steps 1 w) m window beats took out made s window'' out''
+  -- so that one step of Move after it is one step
+  pub then-step : {k : Work} {s : Reached} {window'' out'' : List ℕ} → m .phase ≡ Move k → Within beats out' (s .taken) (s .made)
+      → Went (λ (w : World). moveStep (m .mode) w k) m window' beats took out' made s window'' out''
+      → Advances m window beats took out made (record { core = s .core; taken = s .taken; made = s .made; steps = 1 }) window'' out''
   unfolding steps
-  then-step {s} {window''} {out''} h w =
+  then-step {k} {s} {window''} {out''} e h w =
       as-before (λ window' out'.
-      Within beats out' (s .taken) (s .made) → Went step m window' beats took out' made s window'' out''
-      → Within beats out (s .taken) (s .made) × Went (λ (w : World). steps 1 w) m window beats took out made s window'' out'')
-      (λ h t. (h, record { new = t .new; counted = t .counted; wrote = t .wrote; goes = λ w. t .goes w })) h w
+      Within beats out' (s .taken) (s .made) → Went (λ (w : World). moveStep (m .mode) w k) m window' beats took out' made s window'' out''
+      → Advances m window beats took out made (record { core = s .core; taken = s .taken; made = s .made; steps = 1 }) window'' out'')
+      (λ h t.
+      record {
+        within = h;
+        new = t .new;
+        counted = t .counted;
+        wrote = t .wrote;
+        goes = λ w. at-phase (midway w m window beats took out made) e ∙ ap settle (t .goes w);
+      })
+      h w

@@ -3,7 +3,7 @@
 -- Assumes nothing.
 use Prim.Native.Nat.{ℕ, zero, suc, _+_, _-_, _≤_, _<_}
 use mathlib.Core.Path.{_≡_, refl, sym, ap, _∙_}
-use mathlib.Core.Bool.{Bool, true, false}
+use mathlib.Core.Bool.{Bool, true, false, cond, _||_}
 use mathlib.Core.List.{List, [], _∷_, _++_, append-assoc, append-nil}
 use native.Mathlib.Nat.{add-zero, sub-zero}
 use native.Mathlib.Numerals.{add-one}
@@ -11,6 +11,7 @@ use native.Mathlib.Omega.{arith}
 use lib.Bits.{bitOr, or-zero-r}
 use lib.ListN.{length, take, drop, getD, set}
 use lib.Seq.{drop-cons}
+use lib.Dec.{eqb}
 use borrow.Author.Tests.{ne-eqb}
 use Rattle.bus.specs.declared.Window.{Window}
 use Rattle.bus.specs.Window.{inWindow, placeOf}
@@ -20,12 +21,13 @@ use Rattle.regs.specs.declared.Mode.the-variants.{MemoryToMemory, MemoryToStrea
 use Rattle.flow.specs.Beats.{beatError, beatEop, beatData}
 use Rattle.flow.specs.Rows.{landing, gathered, spread, copied, plain}
 use Rattle.flow.proofs.Longer.{gathered-next}
-use Rattle.machine.specs.declared.Machine.{Machine}
+use Rattle.machine.specs.declared.Core.{Core}
 use Rattle.machine.specs.declared.Work.{Work}
 use Rattle.machine.specs.declared.Phase.{Phase}
-use Rattle.machine.specs.declared.Phase.the-variants.{Move}
-use Rattle.machine.specs.State.{withPhase}
-use Rattle.machine.specs.Step.{World, taken, became, stored, received, sent, step, whole, byteAddress, sourceOf, destinationOf, withByte, onward, copyStep, sendStep, receiveFrom, moveStep, beatFor}
+use Rattle.machine.specs.declared.Phase.the-variants.{Move, WriteBack}
+use Rattle.machine.specs.declared.Slot.{Slot}
+use Rattle.machine.specs.State.{withPhase, settled}
+use Rattle.machine.specs.Step.{World, taken, laid, became, stored, received, sent, holding, settle, step, whole, byteAddress, sourceOf, destinationOf, withByte, onward, copyStep, sendStep, receiveFrom, moveStep, beatFor}
 use Rattle.machine.specs.Helpers.Turns.{stepsOn, steps}
 use Rattle.machine.specs.Helpers.AtOnce.{movedBy, Moving, Row, Unmarked}
 use Rattle.machine.specs.Theorems.{RowSteps, CopySteps, SendSteps, ReceiveSteps}
@@ -41,16 +43,30 @@ row-steps row (suc n) h =
 
 -- ---- the machine along the row
 
-on-move : (m : Machine) (p : Phase) (k : Work) → onward (withPhase p m) k ≡ onward m k
+on-move : (m : Core) (p : Phase) (k : Work) → onward (withPhase p m) k ≡ onward m k
 unfolding onward
 on-move m p k = refl
 
+-- which keeps what was read ahead
+pub kept-onward : (m : Core) (k : Work) (slot : Slot) → settled (onward m k .phase) slot ≡ slot
+unfolding onward
+kept-onward m k slot = by (k .eop || eqb (k .moved) (whole m k))
+  where
+    by : (done : Bool) → settled (cond done (WriteBack k) (Move k)) slot ≡ slot
+    by true = refl
+    by false = refl
+
+settle-onward : (w : World) (m : Core) (k : Work) (memory input output : List ℕ) (room : ℕ)
+    → settle (taken (laid w (onward m k) memory input output room)) ≡ taken (laid w (onward m k) memory input output room)
+settle-onward w m k memory input output room =
+    ap (λ (s : Slot). taken (holding (laid w (onward m k) memory input output room) s)) (kept-onward m k (w .slot))
+
 -- a byte that is not the last leaves it in Move
-pub stays-moving : (m : Machine) (k : Work) → k .eop ≡ false → k .moved < whole m k → onward m k ≡ withPhase (Move k) m
+pub stays-moving : (m : Core) (k : Work) → k .eop ≡ false → k .moved < whole m k → onward m k ≡ withPhase (Move k) m
 unfolding onward
 stays-moving m k e l = rw (e, ne-eqb (k .moved) (whole m k) (λ (x : k .moved ≡ whole m k). omega arith))
 
-module _ {mode : Mode} {window : Window} {k : Work} {most : ℕ} {m : Machine} (g : Moving mode window k most m) where
+module _ {mode : Mode} {window : Window} {k : Work} {most : ℕ} {m : Core} (g : Moving mode window k most m) where
   -- no byte yet
   none-moved : movedBy k 0 (k .errors) ≡ k
   none-moved = ap (λ (n : ℕ). record { at = k .at; source = k .source; destination = k .destination; length = k .length; control = k .control; errors = k .errors; moved = n; eop = k .eop }) (add-zero (k .moved))
@@ -77,13 +93,13 @@ module _ {mode : Mode} {window : Window} {k : Work} {most : ℕ} {m : Machine} (
   -- the step there is the mode's
   step-there : (i errors : ℕ) → i < most → (w : World)
       → step (became w (onward m (movedBy k i errors)))
-      ≡ moveStep mode (became w (withPhase (Move (movedBy k i errors)) m)) (movedBy k i errors)
+      ≡ settle (moveStep mode (became w (withPhase (Move (movedBy k i errors)) m)) (movedBy k i errors))
   unfolding step
   step-there i errors l w =
       let j = movedBy k i errors in
       let h = g .left in
-      ap (λ (x : Machine). step (became w x)) (stays-moving m j (g .no-eop) (omega arith))
-      ∙ ap (λ (o : Mode). moveStep o (became w (withPhase (Move j) m)) j) (g .mode-is)
+      ap (λ (x : Core). step (became w x)) (stays-moving m j (g .no-eop) (omega arith))
+      ∙ ap (λ (o : Mode). settle (moveStep o (became w (withPhase (Move j) m)) j)) (g .mode-is)
 
   machine-there : (i errors more : ℕ) (p : Phase) → onward (withPhase p m) (withByte more false (movedBy k i errors)) ≡ onward m (movedBy k (suc i) (bitOr errors more))
   machine-there i errors more p = on-move m p _ ∙ ap (onward m) (byte-more i errors more)
@@ -110,7 +126,7 @@ there window false {a} {at} r i l =
     let f = further window a i (r .inside) (omega (arith, r .place, r .fits)) in
     (f .0, f .1 ∙ ap (λ (x : ℕ). x + i) (sym (r .place)))
 
-module _ {window : Window} {fixed : Bool} {a at n : ℕ} (r : Row window fixed a at n) (m : Machine) (w : m .window ≡ window) (i : ℕ) (l : i < n) where
+module _ {window : Window} {fixed : Bool} {a at n : ℕ} (r : Row window fixed a at n) (m : Core) (w : m .window ≡ window) (i : ℕ) (l : i < n) where
   in-row : (b : ℕ) → b ≡ landing fixed a i → inWindow (m .window) b 1 ≡ true
   in-row b e = ap (λ (v : Window). inWindow v b 1) w ∙ ap (λ (x : ℕ). inWindow window x 1) e ∙ there window fixed r i l .0
 
@@ -119,7 +135,7 @@ module _ {window : Window} {fixed : Bool} {a at n : ℕ} (r : Row window fixed a
 
 -- ---- mode 0
 
-module _ {window : Window} {k : Work} {most : ℕ} {m : Machine} (g : Moving MemoryToMemory window k most m) (from to n : ℕ)
+module _ {window : Window} {k : Work} {most : ℕ} {m : Core} (g : Moving MemoryToMemory window k most m) (from to n : ℕ)
     (r : Row window (readFixed (k .control .0)) (sourceOf k) from n) (s : Row window (writeFixed (k .control .0)) (destinationOf k) to n) (l : n ≤ most)
     (w : World) (memory : List ℕ) where
   abbrev bytes-copied : ℕ → List ℕ
@@ -136,31 +152,32 @@ module _ {window : Window} {k : Work} {most : ℕ} {m : Machine} (g : Moving Mem
       let b = destination-there k i (k .errors) in
       let here : onward (withPhase (Move j) m) (withByte 0 false j) ≡ onward m (movedBy k (suc i) (k .errors)) =
       machine-there g i (k .errors) 0 (Move j) ∙ ap (λ (e : ℕ). onward m (movedBy k (suc i) e)) (or-zero-r (k .errors)) in
-      step-there g i (k .errors) (omega arith) (copy-row i)
-      ∙ rw (
+      let goes : copyStep (became (copy-row i) (withPhase (Move j) m)) j ≡ taken (copy-row (suc i)) =
+      rw (
         in-row r m (g .window-is) i h (sourceOf j) a,
         in-row s m (g .window-is) i h (destinationOf j) b,
         place-in-row r m (g .window-is) i h (sourceOf j) a,
         place-in-row s m (g .window-is) i h (destinationOf j) b,
         here,
-      )
+      ) in
+      step-there g i (k .errors) (omega arith) (copy-row i) ∙ ap settle goes ∙ settle-onward w m _ (bytes-copied (suc i)) (w .input) (w .output) (w .room)
 
   copies : steps n (stored w m memory) ≡ taken (copy-row n)
   unfolding copied
-  copies = ap (λ (x : Machine). steps n (stored w x memory)) (sym (at-first g)) ∙ row-steps copy-row n copy-next
+  copies = ap (λ (x : Core). steps n (stored w x memory)) (sym (at-first g)) ∙ row-steps copy-row n copy-next
 
 pub copy-steps : CopySteps
 copy-steps window k most m g from to n r s l w memory = copies g from to n r s l w memory
 
 -- ---- mode 1
 
-send-one : (w : World) (j : Work) (left : ℕ) → inWindow (w .machine .window) (sourceOf j) 1 ≡ true → w .room ≡ suc left
-    → sendStep w j ≡ taken (sent w (onward (w .machine) (withByte 0 false j))
-    (w .output ++ beatFor j (getD (w .memory) (placeOf (w .machine .window) (sourceOf j)) 0) ∷ []) left)
+send-one : (w : World) (j : Work) (left : ℕ) → inWindow (w .core .window) (sourceOf j) 1 ≡ true → w .room ≡ suc left
+    → sendStep w j ≡ taken (sent w (onward (w .core) (withByte 0 false j))
+    (w .output ++ beatFor j (getD (w .memory) (placeOf (w .core .window) (sourceOf j)) 0) ∷ []) left)
 unfolding sendStep
 send-one w j left e f = rw (e, f)
 
-module _ {window : Window} {k : Work} {most : ℕ} {m : Machine} (g : Moving MemoryToStream window k most m) (from n : ℕ)
+module _ {window : Window} {k : Work} {most : ℕ} {m : Core} (g : Moving MemoryToStream window k most m) (from n : ℕ)
     (r : Row window (readFixed (k .control .0)) (sourceOf k) from n) (l : n ≤ most) (unmarked : Unmarked k n)
     (w : World) (some : n ≤ w .room) where
   abbrev beats-sent : ℕ → List ℕ
@@ -182,8 +199,9 @@ module _ {window : Window} {k : Work} {most : ℕ} {m : Machine} (g : Moving Mem
       let made : (w .output ++ beats-sent i) ++ beatFor j (getD (w .memory) (placeOf (m .window) (sourceOf j)) 0) ∷ [] ≡ w .output ++ beats-sent (suc i) =
       append-assoc (w .output) (beats-sent i) _ ∙ ap (λ (x : ℕ). w .output ++ (beats-sent i ++ x ∷ [])) byte in
       step-there g i (k .errors) (omega arith) (send-row i)
-      ∙ send-one here-is j (w .room - suc i) (in-row r m (g .window-is) i h (sourceOf j) a) (omega arith)
-      ∙ λ x. taken (sent w (here x) (made x) (w .room - suc i))
+      ∙ ap settle (send-one here-is j (w .room - suc i) (in-row r m (g .window-is) i h (sourceOf j) a) (omega arith))
+      ∙ (λ x. settle (taken (sent w (here x) (made x) (w .room - suc i))))
+      ∙ settle-onward w m _ (w .memory) (w .input) (w .output ++ beats-sent (suc i)) (w .room - suc i)
 
   sends : steps n (became w m) ≡ taken (send-row n)
   unfolding plain
@@ -198,12 +216,12 @@ send-steps window k most m g from n r l unmarked w some = sends g from n r l unm
 
 -- ---- mode 2
 
-pub receive-one : (w : World) (j : Work) (b : ℕ) (bs : List ℕ) → w .input ≡ b ∷ bs → inWindow (w .machine .window) (destinationOf j) 1 ≡ true
-    → receiveFrom w j (w .input) ≡ taken (received w (onward (w .machine) (withByte (beatError b) (beatEop b) j))
-    (set (w .memory) (placeOf (w .machine .window) (destinationOf j)) (beatData b)) bs)
+pub receive-one : (w : World) (j : Work) (b : ℕ) (bs : List ℕ) → w .input ≡ b ∷ bs → inWindow (w .core .window) (destinationOf j) 1 ≡ true
+    → receiveFrom w j (w .input) ≡ taken (received w (onward (w .core) (withByte (beatError b) (beatEop b) j))
+    (set (w .memory) (placeOf (w .core .window) (destinationOf j)) (beatData b)) bs)
 receive-one w j b bs e f = ap (receiveFrom w j) e ∙ rw f
 
-module _ {window : Window} {k : Work} {most : ℕ} {m : Machine} (g : Moving StreamToMemory window k most m) (to n : ℕ)
+module _ {window : Window} {k : Work} {most : ℕ} {m : Core} (g : Moving StreamToMemory window k most m) (to n : ℕ)
     (r : Row window (writeFixed (k .control .0)) (destinationOf k) to n) (l : n ≤ most)
     (w : World) (memory beats : List ℕ) (some : n ≤ length beats) (calm : (i : ℕ) → i < n → beatEop (getD beats i 0) ≡ false) where
   abbrev errors-row : ℕ → ℕ
@@ -231,12 +249,13 @@ module _ {window : Window} {k : Work} {most : ℕ} {m : Machine} (g : Moving Str
       let bytes : set (bytes-received i) (placeOf (m .window) (destinationOf j)) (beatData b) ≡ bytes-received (suc i) =
       ap (λ (p : ℕ). set (bytes-received i) p (beatData b)) (place-in-row r m (g .window-is) i h (destinationOf j) a) in
       step-there g i e (omega arith) (receive-row i)
-      ∙ receive-one here-is j b (drop (suc i) beats) (drop-cons beats i 0 (omega arith)) (in-row r m (g .window-is) i h (destinationOf j) a)
-      ∙ λ x. taken (received w (here x) (bytes x) (drop (suc i) beats))
+      ∙ ap settle (receive-one here-is j b (drop (suc i) beats) (drop-cons beats i 0 (omega arith)) (in-row r m (g .window-is) i h (destinationOf j) a))
+      ∙ (λ x. settle (taken (received w (here x) (bytes x) (drop (suc i) beats))))
+      ∙ settle-onward w m _ (bytes-received (suc i)) (drop (suc i) beats) (w .output) (w .room)
 
   receives : steps n (received w m memory beats) ≡ taken (receive-row n)
   unfolding spread
-  receives = ap (λ (x : Machine). steps n (received w x memory beats)) (sym (at-first g)) ∙ row-steps receive-row n receive-next
+  receives = ap (λ (x : Core). steps n (received w x memory beats)) (sym (at-first g)) ∙ row-steps receive-row n receive-next
 
 pub receive-steps : ReceiveSteps
 receive-steps window k most m g to n r l w memory beats some calm = receives g to n r l w memory beats some calm

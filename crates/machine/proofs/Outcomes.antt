@@ -43,17 +43,17 @@ serves-by false b l c why e = absurd (let z : _≡_ {A = ℕ} 0 1 = cc in omega 
 
 -- what serves is a good machine and its window
 pub serves-good : (good : Bool) (m : Machine) (l : Lent) → servedIf good m l ≡ serves
-    → (good ≡ true) × (length (l .window) ≡ m .window .length) × (l .used ≤ length (l .ledger) / 12)
+    → (good ≡ true) × (length (l .window) ≡ m .core .window .length) × (l .used ≤ length (l .ledger) / 12)
 serves-good good m l e =
-    let all = serves-by good (even (l .beats) && even (l .out)) (isLedger (length (l .ledger)) (l .used)) (eqb (length (l .window)) (m .window .length)) _ e in
+    let all = serves-by good (even (l .beats) && even (l .out)) (isLedger (length (l .ledger)) (l .used)) (eqb (length (l .window)) (m .core .window .length)) _ e in
     (all .0, eqb-true _ _ (all .1), leb-true _ _ (and-right (eqb (length (l .ledger) % 12) 0) _ (all .2)))
 
 -- a good machine that is served is ready, if the good ones are
-pub good-ready : (good : Bool) (m : Machine) (l : Lent) → (good ≡ true → Ready m (m .window .length))
-    → servedIf good m l ≡ serves → Ready m (length (l .window))
+pub good-ready : (good : Bool) (m : Machine) (l : Lent) → (good ≡ true → Ready (m .core) (m .core .window .length))
+    → servedIf good m l ≡ serves → Ready (m .core) (length (l .window))
 good-ready good m l h e =
     let s = serves-good good m l e in
-    subst⁻¹ (λ (n : ℕ). Ready m n) (s .1) (h (s .0))
+    subst⁻¹ (λ (n : ℕ). Ready (m .core) n) (s .1) (h (s .0))
 
 -- ---- where it stands
 

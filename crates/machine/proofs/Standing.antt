@@ -14,37 +14,44 @@ use Rattle.ledger.specs.Records.{ledgerBytes, capacity, Appended}
 use Rattle.ledger.proofs.Rows.{length-ledger, ledger-append}
 use Rattle.flow.specs.Beats.{beatsIn, beatBytes}
 use Rattle.flow.proofs.Streams.{length-beat-bytes}
-use Rattle.machine.specs.declared.Machine.{Machine}
+use Rattle.machine.specs.declared.Core.{Core}
 use Rattle.machine.specs.declared.Work.{Work}
-use Rattle.machine.specs.declared.Phase.the-variants.{WriteBack}
+use Rattle.machine.specs.declared.Phase.{Phase}
+use Rattle.machine.specs.declared.Phase.the-variants.{Rest, Fetch, Move, WriteBack, Ended, Halted, Faulted}
+use Rattle.machine.specs.declared.Slot.{Slot}
+use Rattle.machine.specs.declared.Machine.{Machine}
+use Rattle.machine.specs.declared.runs.Advanced.{Advanced}
+use Rattle.machine.specs.declared.fetch.Fetched.{Fetched}
+use Rattle.machine.specs.State.{settled, machineWith}
 use Rattle.machine.specs.declared.Ran.{Ran}
 use Rattle.machine.specs.declared.Reason.{Reason}
 use Rattle.machine.specs.declared.Reason.the-variants as reason
 use Rattle.machine.specs.declared.RunAnswer.{RunAnswer}
 use Rattle.machine.specs.declared.RunAnswer.the-variants as many
 use Rattle.machine.specs.declared.steps.Wait.the-variants.{Go, Stop}
-use Rattle.machine.specs.Step.{World, taken, noted, entryFor, step}
+use Rattle.machine.specs.Step.{World, taken, noted, holding, entryFor, step}
 use Rattle.machine.specs.Run.{Report, run, Lent, Returned, back, asLent, Served, serves, refused, worldOf, outputOver, returned}
 use Rattle.machine.specs.Run.{ranAs, runAnswer, servedNumber, Runs}
-use Rattle.machine.specs.Helpers.Worlds.{worldAt, reachedAs, Within}
+use Rattle.machine.specs.Helpers.Worlds.{worldAt, Within}
 use Rattle.machine.specs.Helpers.Waiting.{waitOf}
-use Rattle.machine.specs.Helpers.Turns.{steps, Still, Went, Backs}
-use Rattle.machine.specs.Helpers.Resume.{Ready}
+use Rattle.machine.specs.Helpers.Turns.{steps, Advances, Begun, Backs}
+use Rattle.machine.specs.Helpers.Resume.{Seated, Ready}
 use Rattle.machine.proofs.Streams.{beat-bytes-append, none-made}
 use Rattle.machine.proofs.Readiness.{steps-ready}
-use Rattle.machine.proofs.Turning.{went-still}
 use Rattle.machine.proofs.AtWriteBack.{back-goes, appended-one}
 use Rattle.machine.proofs.Loop.{report, moreBy, run-stops, run-out, run-steps, more-none, more-more}
 use Rattle.machine.proofs.Outcomes.{took-since, over}
 
 -- so many steps led here, with what stands in the lent bytes now, and the run goes on from here as it would have gone on
-pub record Stands (m₀ : Machine) (l : Lent) (budget : ℕ) (b : Returned) (m : Machine) (took made used count : ℕ) : Type 0 where
+-- `slot` is what the loop has beside the core: what the phase leaves of it is the slot of the world
+pub record Stands (m₀ : Machine) (l : Lent) (budget : ℕ) (b : Returned) (m : Core) (slot : Slot) (took made used count : ℕ) : Type 0 where
   pub window-length : length (b .window) ≡ length (l .window)
   pub out-length : length (b .out) ≡ length (l .out)
   pub ledger-length : length (b .ledger) ≡ length (l .ledger)
   pub spent : count ≤ budget
   pub within : Within (l .beats) (b .out) took made
   pub ready : Ready m (length (b .window))
+  pub seated : Seated m (settled (m .phase) slot)
   pub output : List ℕ
   pub counted : made ≡ length output
   pub wrote : b .out ≡ put (l .out) 0 (beatBytes output)
@@ -54,12 +61,23 @@ pub record Stands (m₀ : Machine) (l : Lent) (budget : ℕ) (b : Returned) (m :
   pub used-in : used ≤ length (b .ledger) / 12
   pub same : run budget (worldOf m₀ l)
       ≡ moreBy count (run (budget - count)
-      (worldAt (noted (worldOf m₀ l) records (capacity (length (b .ledger)) - used)) m (b .window) (l .beats) took output (length (b .out) / 2 - made)))
+      (worldAt (holding (noted (worldOf m₀ l) records (capacity (length (b .ledger)) - used)) (settled (m .phase) slot)) m (b .window) (l .beats) took output
+      (length (b .out) / 2 - made)))
+
+-- what a phase leaves of a slot in place is in place
+settled-seated : (m : Core) (p : Phase) (slot : Slot) → Seated m slot → Seated m (settled p slot)
+settled-seated m Rest slot h = tt
+settled-seated m Fetch slot h = h
+settled-seated m (Move k) slot h = h
+settled-seated m (WriteBack k) slot h = h
+settled-seated m Ended slot h = tt
+settled-seated m Halted slot h = tt
+settled-seated m (Faulted f) slot h = tt
 
 module _ (m₀ : Machine) (l : Lent) (budget : ℕ) where
-  pub stands-first : Ready m₀ (length (l .window)) → l .used ≤ length (l .ledger) / 12
-      → Stands m₀ l budget (asLent l) m₀ 0 0 (l .used) 0
-  stands-first r u =
+  pub stands-first : Ready (m₀ .core) (length (l .window)) → Seated (m₀ .core) (m₀ .slot) → l .used ≤ length (l .ledger) / 12
+      → Stands m₀ l budget (asLent l) (m₀ .core) (m₀ .slot) 0 0 (l .used) 0
+  stands-first r t u =
       record {
         window-length = refl;
         out-length = refl;
@@ -67,6 +85,7 @@ module _ (m₀ : Machine) (l : Lent) (budget : ℕ) where
         spent = omega arith;
         within = record { taken-in = omega arith; made-in = omega arith };
         ready = r;
+        seated = settled-seated (m₀ .core) (m₀ .core .phase) (m₀ .slot) t;
         output = [];
         counted = refl;
         wrote = none-made (l .out) 0;
@@ -77,11 +96,11 @@ module _ (m₀ : Machine) (l : Lent) (budget : ℕ) where
         same = rw (sub-zero budget, sub-zero (length (l .out) / 2)) (sym (more-none (run budget (worldOf m₀ l))));
       }
 
-  module _ (b : Returned) (m : Machine) (took made used count : ℕ) (s : Stands m₀ l budget b m took made used count) where
+  module _ (b : Returned) (m : Core) (slot : Slot) (took made used count : ℕ) (s : Stands m₀ l budget b m slot took made used count) where
     abbrev pub here : World
     here =
-        worldAt (noted (worldOf m₀ l) (s .records) (capacity (length (b .ledger)) - used)) m (b .window) (l .beats) took (s .output)
-        (length (b .out) / 2 - made)
+        worldAt (holding (noted (worldOf m₀ l) (s .records) (capacity (length (b .ledger)) - used)) (settled (m .phase) slot)) m (b .window) (l .beats) took
+        (s .output) (length (b .out) / 2 - made)
 
     -- the records put down, and those after them
     notes : (new : List Entry) {ledger' : List ℕ} → ledger' ≡ put (b .ledger) (12 * used) (ledgerBytes new)
@@ -95,18 +114,19 @@ module _ (m₀ : Machine) (l : Lent) (budget : ℕ) where
         ∙ ap (put (l .ledger) (12 * l .used)) (sym (ledger-append (s .records) new))
 
     -- after n steps more, which made these beats and these records
-    stands-on : (n : ℕ) (b' : Returned) (m' : Machine) (took' made' used' : ℕ) (new : List ℕ) (more : List Entry) → n ≤ budget - count
+    stands-on : (n : ℕ) (b' : Returned) (m' : Core) (slot' : Slot) (took' made' used' : ℕ) (new : List ℕ) (more : List Entry) → n ≤ budget - count
         → length (b' .window) ≡ length (b .window) → length (b' .out) ≡ length (b .out) → length (b' .ledger) ≡ length (b .ledger)
         → Within (l .beats) (b .out) took' made' → made' ≡ made + length new → b' .out ≡ put (b .out) (2 * made) (beatBytes new)
         → used' ≡ used + length more → b' .ledger ≡ put (b .ledger) (12 * used) (ledgerBytes more) → used' ≤ length (b .ledger) / 12
         → steps n here
-        ≡ taken (worldAt (noted (worldOf m₀ l) (s .records ++ more) (capacity (length (b .ledger)) - used')) m' (b' .window) (l .beats) took'
-        (s .output ++ new) (length (b .out) / 2 - made'))
-        → Stands m₀ l budget b' m' took' made' used' (count + n)
-    stands-on n b' m' took' made' used' new more h wl ol ll i counted wrote kept put-down inside goes =
+        ≡ taken (worldAt (holding (noted (worldOf m₀ l) (s .records ++ more) (capacity (length (b .ledger)) - used')) (settled (m' .phase) slot')) m'
+        (b' .window) (l .beats) took' (s .output ++ new) (length (b .out) / 2 - made'))
+        → Stands m₀ l budget b' m' slot' took' made' used' (count + n)
+    stands-on n b' m' slot' took' made' used' new more h wl ol ll i counted wrote kept put-down inside goes =
         let w₀ = worldOf m₀ l in
-        let there = worldAt (noted w₀ (s .records ++ more) (capacity (length (b .ledger)) - used')) m' (b' .window) (l .beats) took' (s .output ++ new)
-        (length (b .out) / 2 - made') in
+        let there = worldAt (holding (noted w₀ (s .records ++ more) (capacity (length (b .ledger)) - used')) (settled (m' .phase) slot')) m' (b' .window)
+        (l .beats) took' (s .output ++ new) (length (b .out) / 2 - made') in
+        let on = steps-ready (length (b .window)) n here there goes (s .ready) (s .seated) in
         let left : budget - count ≡ n + (budget - (count + n)) = omega arith in
         let front : 2 * made ≡ 0 + length (beatBytes (s .output)) = omega (arith, length-beat-bytes (s .output)) in
         let fits : 0 + length (beatBytes (s .output)) ≤ length (l .out) = omega arith in
@@ -116,7 +136,8 @@ module _ (m₀ : Machine) (l : Lent) (budget : ℕ) where
           ledger-length = ll ∙ s .ledger-length;
           spent = omega arith;
           within = record { taken-in = i .taken-in; made-in = omega arith };
-          ready = rw wl (steps-ready (length (b .window)) n here there goes (s .ready));
+          ready = rw wl (on .0);
+          seated = on .1;
           output = s .output ++ new;
           counted = simp length-append (omega arith);
           wrote = wrote ∙ rw (front, s .wrote, beat-bytes-append) (put-put (l .out) 0 (beatBytes (s .output)) (beatBytes new) fits);
@@ -128,49 +149,52 @@ module _ (m₀ : Machine) (l : Lent) (budget : ℕ) where
               ∙ ap (moreBy count) (ap (λ (k : ℕ). run k here) left ∙ run-steps n (budget - (count + n)) here there goes)
               ∙ more-more count n _
               ∙ (λ x. moreBy (count + n) (run (budget - (count + n))
-              (worldAt (noted w₀ (s .records ++ more) (capacity (sym ll x) - used')) m' (b' .window) (l .beats) took' (s .output ++ new)
+              (worldAt (holding (noted w₀ (s .records ++ more) (capacity (sym ll x) - used')) (settled (m' .phase) slot')) m' (b' .window) (l .beats) took' (s .output ++ new)
               (sym ol x / 2 - made'))));
         }
 
-    -- in Move: no record
-    pub stands-moved : (n : ℕ) (window' out' : List ℕ) (m' : Machine) (took' made' : ℕ) → n ≤ budget - count
-        → length window' ≡ length (b .window) → length out' ≡ length (b .out) → Within (l .beats) (b .out) took' made'
-        → Went (λ (w : World). steps n w) m (b .window) (l .beats) took (b .out) made (reachedAs m' took' made') window' out'
-        → Stands m₀ l budget (back window' out' (b .ledger)) m' took' made' used (count + n)
-    stands-moved n window' out' m' took' made' h wl ol i g =
-        stands-on n (back window' out' (b .ledger)) m' took' made' used (g .new) [] h wl ol refl i (g .counted) (g .wrote)
+    -- in Move: no record, and what was read ahead stays beside it
+    pub stands-moved : (k : Work) (window' out' : List ℕ) (r : Advanced) → m .phase ≡ Move k → r .steps ≤ budget - count
+        → length window' ≡ length (b .window) → length out' ≡ length (b .out)
+        → Advances m (b .window) (l .beats) took (b .out) made r window' out'
+        → Stands m₀ l budget (back window' out' (b .ledger)) (r .core) slot (r .taken) (r .made) used (count + r .steps)
+    stands-moved k window' out' r e h wl ol g =
+        stands-on (r .steps) (back window' out' (b .ledger)) (r .core) slot (r .taken) (r .made) used (g .new) [] h wl ol refl (g .within) (g .counted) (g .wrote)
         (sym (add-zero used)) (none-made (b .ledger) (12 * used)) (s .used-in)
         (g .goes here
-        ∙ ap (λ (es : List Entry). taken (worldAt (noted (worldOf m₀ l) es (capacity (length (b .ledger)) - used)) m' window' (l .beats) took'
-        (s .output ++ g .new) (length (b .out) / 2 - made'))) (sym (append-nil (s .records))))
+        ∙ (λ x. taken (worldAt (holding (noted (worldOf m₀ l) (sym (append-nil (s .records)) x) (capacity (length (b .ledger)) - used))
+        (settled (r .core .phase) (settled (e x) slot))) (r .core) window' (l .beats) (r .taken) (s .output ++ g .new) (length (b .out) / 2 - r .made))))
 
-    -- out of Rest or Fetch: the machine alone changes
-    pub stands-begun : (m' : Machine) → 1 ≤ budget - count → Still step m (b .window) m' (b .window)
-        → Stands m₀ l budget b m' took made used (count + 1)
+    -- out of Rest or Fetch: the core and what is read ahead change
+    pub stands-begun : (r : Fetched) → 1 ≤ budget - count → Begun m slot (b .window) r
+        → Stands m₀ l budget b (r .core) (r .slot) took made used (count + 1)
     unfolding steps
-    stands-begun m' h g =
-        stands-moved 1 (b .window) (b .out) m' took made h refl refl (s .within)
-        (went-still (λ (w : World). steps 1 w) m m' (b .window) (b .window) (l .beats) took (b .out) made (λ w. g w))
+    stands-begun r h g =
+        stands-on 1 b (r .core) (r .slot) took made used [] [] h refl refl refl (s .within)
+        (sym (add-zero made)) (none-made (b .out) (2 * made)) (sym (add-zero used)) (none-made (b .ledger) (12 * used)) (s .used-in)
+        (g here
+        ∙ (λ x. taken (worldAt (holding (noted (worldOf m₀ l) (sym (append-nil (s .records)) x) (capacity (length (b .ledger)) - used))
+        (settled (r .core .phase) (r .slot))) (r .core) (b .window) (l .beats) took (sym (append-nil (s .output)) x) (length (b .out) / 2 - made))))
 
     -- in WriteBack: one record
-    pub stands-back : (k : Work) (window' ledger' : List ℕ) (m' : Machine) (used' : ℕ) → 1 ≤ budget - count
+    pub stands-back : (k : Work) (window' ledger' : List ℕ) (m' : Core) (used' : ℕ) → 1 ≤ budget - count
         → length window' ≡ length (b .window) → length ledger' ≡ length (b .ledger) → m .phase ≡ WriteBack k → waitOf (step here) ≡ Go
         → {e : Entry} → e ≡ entryFor m k → Appended (b .ledger) used e used' ledger' → Backs m k (b .window) m' window'
-        → Stands m₀ l budget (back window' (b .out) ledger') m' took made used' (count + 1)
+        → Stands m₀ l budget (back window' (b .out) ledger') m' slot took made used' (count + 1)
     unfolding steps
     stands-back k window' ledger' m' used' h wl ll e can same a g =
         let one = back-goes here k g e can in
         let put-down = appended-one (b .ledger) used (entryFor m k) (one .0) (subst (λ (x : Entry). Appended (b .ledger) used x used' ledger') same a) in
         let left : capacity (length (b .ledger)) - used - 1 ≡ capacity (length (b .ledger)) - used' = omega (arith, put-down .0) in
-        stands-on 1 (back window' (b .out) ledger') m' took made used' [] (entryFor m k ∷ []) h wl refl ll (s .within)
+        stands-on 1 (back window' (b .out) ledger') m' slot took made used' [] (entryFor m k ∷ []) h wl refl ll (s .within)
         (sym (add-zero made)) (none-made (b .out) (2 * made)) (put-down .0) (put-down .1) (put-down .2)
         (one .1
-        ∙ (λ x. taken (worldAt (noted (worldOf m₀ l) (s .records ++ entryFor m k ∷ []) (left x)) m' window' (l .beats) took
-        (sym (append-nil (s .output)) x) (length (b .out) / 2 - made))))
+        ∙ (λ x. taken (worldAt (holding (noted (worldOf m₀ l) (s .records ++ entryFor m k ∷ []) (left x)) (settled (m' .phase) (settled (e x) slot))) m' window'
+        (l .beats) took (sym (append-nil (s .output)) x) (length (b .out) / 2 - made))))
 
     -- the answer of a run that ends here
     abbrev pub ended : Reason → Ran
-    ended r = record { machine = m; reason = r; steps = count; taken = took; made = made; used = used }
+    ended r = record { machine = machineWith m slot (m₀ .run); reason = r; steps = count; taken = took; made = made; used = used }
 
     ends : (r : Reason) → run (budget - count) here ≡ report here 0 r → Runs serves m₀ l budget (many.Done (ended r)) b
     ends r f =
@@ -178,7 +202,7 @@ module _ (m₀ : Machine) (l : Lent) (budget : ℕ) where
         let full : run budget w ≡ report here count r = s .same ∙ ap (moreBy count) f ∙ ap (λ (k : ℕ). report here k r) (add-zero count) in
         let since : length (beatsIn (l .beats)) - length (drop took (beatsIn (l .beats))) ≡ took = took-since (l .beats) took (s .within .taken-in) in
         let tells : ended r ≡ ranAs (l .used) w (report here count r) =
-        λ x. record { machine = m; reason = r; steps = count; taken = sym since x; made = s .counted x; used = s .kept x } in
+        λ x. record { machine = machineWith m slot (m₀ .run); reason = r; steps = count; taken = sym since x; made = s .counted x; used = s .kept x } in
         let out : b .out ≡ outputOver here (l .out) = s .wrote ∙ over (l .out) (s .output) in
         record {
           answer = ap many.Done tells ∙ sym (ap (λ (x : Report). many.Done (ranAs (l .used) w x)) full);

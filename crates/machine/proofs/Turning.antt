@@ -8,7 +8,7 @@ use native.Mathlib.Nat.{add-zero}
 use native.Mathlib.Omega.{arith}
 use lib.ListN.{length}
 use Rattle.regs.specs.Control.{run}
-use Rattle.machine.specs.declared.Machine.{Machine}
+use Rattle.machine.specs.declared.Core.{Core}
 use Rattle.machine.specs.declared.steps.Reached.{Reached}
 use Rattle.machine.specs.declared.Phase.the-variants.{Fetch}
 use Rattle.machine.specs.State.{withPhase, withBusy}
@@ -17,7 +17,7 @@ use Rattle.machine.specs.Helpers.Worlds.{worldAt, midway, reachedAs}
 use Rattle.machine.specs.Helpers.Turns.{Still, Went}
 use Rattle.machine.proofs.Streams.{none-made}
 
-module _ (rule : World → Answer) (m m' : Machine) (window window' beats : List ℕ) (took : ℕ) (out : List ℕ) (made : ℕ) where
+module _ (rule : World → Answer) (m m' : Core) (window window' beats : List ℕ) (took : ℕ) (out : List ℕ) (made : ℕ) where
   -- no beat made
   pub went-none : (took' : ℕ)
       → ((w : World) → rule (midway w m window beats took out made) ≡ taken (midway w m' window' beats took' out made))
@@ -35,14 +35,14 @@ module _ (rule : World → Answer) (m m' : Machine) (window window' beats : List
   went-still s = went-none took (λ w. s (midway w m window beats took out made))
 
 -- a rule that says the same of the machine
-pub went-as : (other rule : World → Answer) {m : Machine} {window beats : List ℕ} {took : ℕ} {out : List ℕ} {made : ℕ} {r : Reached} {window' out' : List ℕ}
+pub went-as : (other rule : World → Answer) {m : Core} {window beats : List ℕ} {took : ℕ} {out : List ℕ} {made : ℕ} {r : Reached} {window' out' : List ℕ}
     → ((w : World) → rule (became w m) ≡ other (became w m))
     → Went other m window beats took out made r window' out' → Went rule m window beats took out made r window' out'
 went-as other rule {m} {window} {beats} {took} {out} {made} e g =
     record { new = g .new; counted = g .counted; wrote = g .wrote; goes = λ w. e (midway w m window beats took out made) ∙ g .goes w }
 
 -- Rest, RUN 1
-pub rest-starts : (m m' : Machine) (memory : List ℕ) → run (m .control) ≡ true → m' ≡ withPhase Fetch (withBusy true m)
+pub rest-starts : (m m' : Core) (memory : List ℕ) → run (m .control) ≡ true → m' ≡ withPhase Fetch (withBusy true m)
     → Still restStep m memory m' memory
 unfolding restStep
 rest-starts m m' memory e f = λ w. rw (e, f)

@@ -13,20 +13,19 @@ use Rattle.descriptor.specs.declared.Descriptor.{Descriptor}
 use Rattle.descriptor.specs.declared.Look.{Look}
 use Rattle.descriptor.specs.declared.Look.the-variants.{Misaligned, Outside, There}
 use Rattle.descriptor.specs.Layout.{owned}
-use Rattle.descriptor.specs.Looking.{namedIn, lookAt}
+use Rattle.descriptor.specs.Looking.{namedIn}
 use Rattle.regs.specs.declared.Mode.{Mode}
 use Rattle.regs.specs.declared.Mode.the-variants.{MemoryToMemory, MemoryToStream, StreamToMemory}
 use Rattle.regs.specs.Control.{run}
 use Rattle.flow.specs.Beats.{beatsIn}
 use Rattle.machine.specs.declared.Reason.{Reason}
 use Rattle.machine.specs.declared.Reason.the-variants as reason
-use Rattle.machine.specs.declared.Machine.{Machine}
+use Rattle.machine.specs.declared.Core.{Core}
 use Rattle.machine.specs.declared.Phase.{Phase}
 use Rattle.machine.specs.declared.Work.{Work}
 use Rattle.machine.specs.declared.steps.Wait.{Wait}
 use Rattle.machine.specs.declared.steps.Wait.the-variants.{Go, Stop}
-use Rattle.machine.specs.State.{home}
-use Rattle.machine.specs.Step.{World, Answer, homeBytes, taken, stopped, step, stepIn, restStep, meets, fetchStep, fetched, wantsLength, copyStep, sendStep, sendTo, receiveFrom, moveStep, backTo, writeBackStep, sourceOf, destinationOf}
+use Rattle.machine.specs.Step.{World, Answer, taken, stopped, settle, step, stepIn, restStep, seen, meets, fetchStep, fetched, wantsLength, copyStep, sendStep, sendTo, receiveFrom, moveStep, backTo, writeBackStep, sourceOf, destinationOf}
 use Rattle.machine.specs.Helpers.Worlds.{midway}
 use Rattle.machine.specs.Helpers.Waiting.{waitOf, some, Waits, Goes}
 use Rattle.machine.proofs.Streams.{some-beat, some-room}
@@ -44,7 +43,7 @@ step-goes goes = refl
 
 fetched-step : (w : World) (d : Descriptor) → Step (fetched w d)
 unfolding fetched
-fetched-step w d = both (not (owned (d .control .0))) goes (both (wantsLength (w .machine .mode) && eqb (d .length) 0) goes goes)
+fetched-step w d = both (not (owned (d .control .0))) goes (both (wantsLength (w .core .mode) && eqb (d .length) 0) goes goes)
 
 met-step : (w : World) (l : Look) → Step (meets w l)
 met-step w Misaligned = goes
@@ -54,7 +53,7 @@ met-step w (There r) = fetched-step w (namedIn r)
 pub fetch-goes : (w : World) → waitOf (fetchStep w) ≡ Go
 unfolding fetchStep
 fetch-goes w =
-    step-goes (both (not (run (w .machine .control))) goes (met-step w (lookAt (home (w .machine)) (homeBytes w) (w .machine .pointer .0))))
+    step-goes (both (not (run (w .core .control))) goes (met-step w (seen w)))
 
 either-waits : (b : Bool) (x : Answer) (v : World) → waitOf (cond b x (taken v)) ≡ cond b (waitOf x) Go
 either-waits true x v = refl
@@ -65,7 +64,7 @@ module _ (w : World) (k : Work) where
   unfolding copyStep
   copy-goes =
       step-goes
-      (both (inWindow (w .machine .window) (sourceOf k) 1) (both (inWindow (w .machine .window) (destinationOf k) 1) goes goes) goes)
+      (both (inWindow (w .core .window) (sourceOf k) 1) (both (inWindow (w .core .window) (destinationOf k) 1) goes goes) goes)
 
   send-to-waits : (room : ℕ) → waitOf (sendTo w k room) ≡ cond (ltb 0 room) Go (Stop reason.OutputFull)
   send-to-waits zero = refl
@@ -73,15 +72,15 @@ module _ (w : World) (k : Work) where
 
   -- 13, then the room
   send-waits : waitOf (sendStep w k)
-      ≡ cond (inWindow (w .machine .window) (sourceOf k) 1) (cond (ltb 0 (w .room)) Go (Stop reason.OutputFull)) Go
+      ≡ cond (inWindow (w .core .window) (sourceOf k) 1) (cond (ltb 0 (w .room)) Go (Stop reason.OutputFull)) Go
   unfolding sendStep
   send-waits =
-      either-waits (inWindow (w .machine .window) (sourceOf k) 1) _ _
-      ∙ ap (λ (x : Wait). cond (inWindow (w .machine .window) (sourceOf k) 1) x Go) (send-to-waits (w .room))
+      either-waits (inWindow (w .core .window) (sourceOf k) 1) _ _
+      ∙ ap (λ (x : Wait). cond (inWindow (w .core .window) (sourceOf k) 1) x Go) (send-to-waits (w .room))
 
   receive-waits : (input : List ℕ) → waitOf (receiveFrom w k input) ≡ cond (some input) Go (Stop reason.NeedsInput)
   receive-waits [] = refl
-  receive-waits (b ∷ bs) = step-goes (both (inWindow (w .machine .window) (destinationOf k) 1) goes goes)
+  receive-waits (b ∷ bs) = step-goes (both (inWindow (w .core .window) (destinationOf k) 1) goes goes)
 
 -- WriteBack
 back-to-waits : (w : World) (k : Work) (left : ℕ) → waitOf (backTo w k left) ≡ cond (ltb 0 left) Go (Stop reason.LedgerFull)
@@ -99,7 +98,7 @@ moveWait MemoryToStream inside more room = cond inside (cond room Go (Stop reaso
 moveWait StreamToMemory inside more room = cond more Go (Stop reason.NeedsInput)
 
 pub move-waits : (o : Mode) (w : World) (k : Work)
-    → waitOf (moveStep o w k) ≡ moveWait o (inWindow (w .machine .window) (sourceOf k) 1) (some (w .input)) (ltb 0 (w .room))
+    → waitOf (moveStep o w k) ≡ moveWait o (inWindow (w .core .window) (sourceOf k) 1) (some (w .input)) (ltb 0 (w .room))
 move-waits MemoryToMemory w k = copy-goes w k
 move-waits MemoryToStream w k = send-waits w k
 move-waits StreamToMemory w k = receive-waits w k (w .input)
@@ -113,7 +112,7 @@ runs-by : (b : Bool) (v : World) → waitOf (cond b (taken v) (stopped reason.Re
 runs-by true v e = refl
 runs-by false v e = absurd (let z : _≡_ {A = ℕ} 0 1 = cc in omega arith)
 
-module _ (m : Machine) (k : Work) (window beats : List ℕ) (took : ℕ) (out : List ℕ) (made : ℕ)
+module _ (m : Core) (k : Work) (window beats : List ℕ) (took : ℕ) (out : List ℕ) (made : ℕ)
     (g : Goes (λ (w : World). moveStep (m .mode) w k) m window beats took out made) where
   by-mode : (o : Mode) → m .mode ≡ o
       → moveWait o (inWindow (m .window) (sourceOf k) 1) (some (drop took (beatsIn beats))) (ltb 0 (length out / 2 - made)) ≡ Go
@@ -136,25 +135,33 @@ either-go true = refl
 either-go false = refl
 
 -- a step, by the phase
-pub at-phase : (w : World) {p : Phase} → w .machine .phase ≡ p → step w ≡ stepIn p w
+pub at-phase : (w : World) {p : Phase} → w .core .phase ≡ p → step w ≡ settle (stepIn p w)
 unfolding step
-at-phase w e = ap (λ (x : Phase). stepIn x w) e
+at-phase w e = ap (λ (x : Phase). settle (stepIn x w)) e
+
+-- what the phase that is entered leaves of the slot is nothing to wait for
+pub settle-waits : (a : Answer) → waitOf (settle a) ≡ waitOf a
+settle-waits (taken v) = refl
+settle-waits (stopped r) = refl
+
+pub waits-by : (w : World) {p : Phase} → w .core .phase ≡ p → waitOf (step w) ≡ waitOf (stepIn p w)
+waits-by w {p} e = ap waitOf (at-phase w e) ∙ settle-waits (stepIn p w)
 
 -- where a step can be taken, so can that of the phase
-pub goes-in : (m : Machine) (window beats : List ℕ) (took : ℕ) (out : List ℕ) (made : ℕ) {p : Phase} → m .phase ≡ p
+pub goes-in : (m : Core) (window beats : List ℕ) (took : ℕ) (out : List ℕ) (made : ℕ) {p : Phase} → m .phase ≡ p
     → Goes step m window beats took out made → Goes (stepIn p) m window beats took out made
 goes-in m window beats took out made e g =
-    record { around = g .around; can = sym (ap waitOf (at-phase (midway (g .around) m window beats took out made) e)) ∙ g .can }
+    record { around = g .around; can = sym (waits-by (midway (g .around) m window beats took out made) e) ∙ g .can }
 
-pub rest-runs : (w : World) → waitOf (restStep w) ≡ Go → run (w .machine .control) ≡ true
+pub rest-runs : (w : World) → waitOf (restStep w) ≡ Go → run (w .core .control) ≡ true
 unfolding restStep
-rest-runs w e = runs-by (run (w .machine .control)) _ e
+rest-runs w e = runs-by (run (w .core .control)) _ e
 
 pub never-goes : {r : Reason} → Stop r ≡ Go → ⊥
 never-goes e = let z : _≡_ {A = ℕ} 0 1 = cc in omega arith
 
 -- in the middle of lent slices, whatever was made before
-pub waits-at : (m : Machine) (window beats : List ℕ) (took : ℕ) (out : List ℕ) (made : ℕ) {keeps : Bool} {r : Wait}
+pub waits-at : (m : Core) (window beats : List ℕ) (took : ℕ) (out : List ℕ) (made : ℕ) {keeps : Bool} {r : Wait}
     → Waits step m (ltb took (length beats / 2)) (ltb made (length out / 2)) keeps r → (w : World) → keeps ≡ ltb 0 (w .left)
     → waitOf (step (midway w m window beats took out made)) ≡ r
 waits-at m window beats took out made f w e =

@@ -5,19 +5,23 @@ use mathlib.Core.Path.{_≡_, refl, ap, _∙_}
 use mathlib.Core.Bool.{Bool, true, false, not, cond, _&&_}
 use Rattle.bus.specs.declared.Refusal.{Refusal}
 use Rattle.bus.specs.declared.Refusal.the-variants.{NoRegister}
-use Rattle.regs.specs.Offsets.{isRegister}
+use lib.Dec.{eqb}
+use borrow.Author.Tests.{eqb-true, eqb-false}
+use Rattle.regs.specs.Offsets.{chosen, isRegister}
+use Rattle.regs.proofs.Offsets.{at-status, at-none}
 use Rattle.regs.specs.Control.{run, clearInterrupt, asControl, resetBy, countFrom}
+use Rattle.machine.specs.declared.Core.{Core}
 use Rattle.machine.specs.declared.Machine.{Machine}
 use Rattle.machine.specs.declared.registers.WroteRegister.the-variants as wrote
 use Rattle.machine.specs.declared.Phase.{Phase}
 use Rattle.machine.specs.declared.Phase.the-variants.{Rest, Fetch, Move, WriteBack, Ended, Halted, Faulted}
 use Rattle.machine.specs.Saved.{keeps, spoiled}
-use Rattle.machine.specs.State.{withControl, rested, fresh}
+use Rattle.machine.specs.State.{withControl, rested, freshCore}
 use Rattle.machine.specs.Registers.{controlStored, released, controlWritten, writtenTo, wroteTo, writeOf}
 use Rattle.machine.specs.Helpers.Worlds.{stands}
 
 -- RUN 0 leads to Rest from the phases that stand, and leaves the others
-released-if : (p : Phase) (m : Machine) → released p m ≡ cond (stands p) (rested m) m
+released-if : (p : Phase) (m : Core) → released p m ≡ cond (stands p) (rested m) m
 released-if Rest m = refl
 released-if Fetch m = refl
 released-if (Move k) m = refl
@@ -26,8 +30,8 @@ released-if Ended m = refl
 released-if Halted m = refl
 released-if (Faulted f) m = refl
 
-module _ (v : ℕ) (m : Machine) where
-  pub write-resets : resetBy v (m .control) ≡ true → controlWritten v m ≡ fresh (m .mode) (m .window)
+module _ (v : ℕ) (m : Core) where
+  pub write-resets : resetBy v (m .control) ≡ true → controlWritten v m ≡ freshCore (m .mode) (m .window)
   unfolding controlWritten
   write-resets e = rw e
 
@@ -59,6 +63,14 @@ module _ (v : ℕ) (m : Machine) where
     write-stays h = written ∙ rw h
 
 -- ---- a register write, by the tests that led there
+
+-- what a control write and a pointer write alone change
+pub neither : {A : Type 0} (offset : ℕ) (same control pointer : A) → (offset ≡ 4 → ⊥) → (offset ≡ 8 → ⊥) → chosen offset same control pointer same ≡ same
+neither offset same control pointer f g = by (eqb offset 0) refl
+  where
+    by : (t : Bool) → eqb offset 0 ≡ t → chosen offset same control pointer same ≡ same
+    by true e = at-status same control pointer same offset (eqb-true offset 0 e)
+    by false e = at-none same control pointer same offset (eqb-false offset 0 e) f g
 
 module _ (m : Machine) (offset v : ℕ) where
   pub wrote-none : isRegister offset ≡ false → wrote.Refused NoRegister ≡ wroteTo m offset v

@@ -21,8 +21,10 @@ use Rattle.machine.specs.Run.{Report}
 
 -- what n steps from w to v leave of the machine and of what is lent
 pub record Passed (n : ℕ) (w v : World) : Type 0 where
-  pub mode : v .machine .mode ≡ w .machine .mode
-  pub window : v .machine .window ≡ w .machine .window
+  pub mode : v .core .mode ≡ w .core .mode
+  pub window : v .core .window ≡ w .core .window
+  -- no step changes the run number
+  pub run : v .run ≡ w .run
   -- the window's length never changes
   pub memory : length (v .memory) ≡ length (w .memory)
   -- beats are taken from the front
@@ -43,16 +45,16 @@ pub record Passed (n : ℕ) (w v : World) : Type 0 where
 -- the place q is none that a byte moved in this mode is written to: modes 0 and 2 write it "at destination + i, without i under the
 -- matching FIXED bit", mode 1 not into memory
 abbrev pub sparesMove : Mode → World → Work → ℕ → Type 0
-sparesMove MemoryToMemory w k q = q ≢ placeOf (w .machine .window) (destinationOf k)
+sparesMove MemoryToMemory w k q = q ≢ placeOf (w .core .window) (destinationOf k)
 sparesMove MemoryToStream w k q = Unit {0}
-sparesMove StreamToMemory w k q = q ≢ placeOf (w .machine .window) (destinationOf k)
+sparesMove StreamToMemory w k q = q ≢ placeOf (w .core .window) (destinationOf k)
 
 -- the place q is none that a step in this phase writes: a Move its byte, a WriteBack "the last four descriptor bytes only"
 abbrev pub sparesIn : Phase → World → ℕ → Type 0
 sparesIn Rest w q = Unit {0}
 sparesIn Fetch w q = Unit {0}
-sparesIn (Move k) w q = sparesMove (w .machine .mode) w k q
-sparesIn (WriteBack k) w q = (j : ℕ) → j < 4 → q ≢ placeOf (w .machine .window) (k .at) + 28 + j
+sparesIn (Move k) w q = sparesMove (w .core .mode) w k q
+sparesIn (WriteBack k) w q = (j : ℕ) → j < 4 → q ≢ placeOf (w .core .window) (k .at) + 28 + j
 sparesIn Ended w q = Unit {0}
 sparesIn Halted w q = Unit {0}
 sparesIn (Faulted f) w q = Unit {0}

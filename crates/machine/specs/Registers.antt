@@ -8,9 +8,11 @@ use Rattle.bus.specs.Refusal.{refusalNumber}
 use Rattle.regs.specs.declared.ReadRegister.{ReadRegister}
 use Rattle.regs.specs.declared.ReadRegister.the-variants as read
 use Rattle.regs.specs.Status.{clearedBy}
-use Rattle.regs.specs.Control.{run, clearInterrupt, asControl, resetBy, countFrom, lineUp}
+use Rattle.regs.specs.Control.{run, clearInterrupt, asControl, resetBy, countFrom, runFrom, lineUp}
 use Rattle.regs.specs.Offsets.{chosen, isRegister, registerAt}
 use Rattle.image.specs.Rules.{lowestBroken}
+use Rattle.machine.specs.declared.Core.{Core}
+use Rattle.machine.specs.declared.Slot.the-variants.{Empty}
 use Rattle.machine.specs.declared.Machine.{Machine}
 use Rattle.machine.specs.declared.Phase.{Phase}
 use Rattle.machine.specs.declared.Phase.the-variants.{Rest, Fetch, Move, WriteBack, Ended, Halted, Faulted}
@@ -18,21 +20,21 @@ use Rattle.machine.specs.declared.registers.WroteRegister.{WroteRegister
 use Rattle.machine.specs.declared.registers.WroteRegister.the-variants as wrote
 use Rattle.machine.specs.declared.registers.Line.{Line}
 use Rattle.machine.specs.declared.registers.Line.the-variants as line
-use Rattle.machine.specs.State.{withStatus, withPointer, withControl, rested, fresh}
-use Rattle.machine.specs.Saved.{fieldsOf, keeps, spoiled}
+use Rattle.machine.specs.State.{withStatus, withPointer, withControl, rested, freshCore, machineWith}
+use Rattle.machine.specs.Saved.{fieldsOf, tailOf, keeps, spoiled}
 
 -- ---- writing
 
-abbrev pub statusWritten : ℕ → Machine → Machine
+abbrev pub statusWritten : ℕ → Core → Core
 statusWritten v m = withStatus (clearedBy v (m .status)) m
 
 -- bits 0..17 are stored; bit 31 clears the pending interrupt; RUN going 0 to 1 sets the descriptor count to 0
-abbrev pub controlStored : ℕ → Machine → Machine
+abbrev pub controlStored : ℕ → Core → Core
 controlStored v m =
     withControl (v % 2 ^ 18) (m .pending && not (clearInterrupt (asControl v))) (countFrom v (m .control) (m .count)) m
 
 -- RUN 0: Ended or Halted goes to Rest with BUSY 0. Faulted stays: only reset leaves it
-abbrev pub released : Phase → Machine → Machine
+abbrev pub released : Phase → Core → Core
 released Rest m = m
 released Fetch m = m
 released (Move k) m = m
@@ -43,14 +45,20 @@ released (Faulted f) m = m
 
 -- in order: the reset, where bit 16 is written and already reads 1, and then the rest of the value is ignored; otherwise what
 -- is stored, and RUN 0
-unfoldable pub controlWritten : ℕ → Machine → Machine
+unfoldable pub controlWritten : ℕ → Core → Core
 controlWritten v m =
-    cond (resetBy v (m .control)) (fresh (m .mode) (m .window))
+    cond (resetBy v (m .control)) (freshCore (m .mode) (m .window))
     (cond (run (asControl v)) (controlStored v m) (released (m .phase) (controlStored v m)))
 
--- at an offset that is none nothing is written
+-- the core: at an offset that is none nothing is written
+abbrev pub coreWritten : Core → (offset v : ℕ) → Core
+coreWritten m offset v = chosen offset (statusWritten v m) (controlWritten v m) (withPointer v m) m
+
+-- and the machine: "reset and a host pointer write empty the slot"; a control write may begin a run
 abbrev pub writtenTo : Machine → (offset v : ℕ) → Machine
-writtenTo m offset v = chosen offset (statusWritten v m) (controlWritten v m) (withPointer v m) m
+writtenTo m offset v =
+    machineWith (coreWritten (m .core) offset v) (chosen offset (m .slot) (m .slot) Empty (m .slot))
+    (chosen offset (m .run) (runFrom v (m .core .control) (m .run)) (m .run) (m .run))
 
 -- 1 NoRegister: offset not 0, 4, 8
 abbrev pub wroteTo : Machine → (offset v : ℕ) → WroteRegister
@@ -64,12 +72,12 @@ writeOf m offset v = cond (keeps m) (wroteTo m offset v) (wrote.Refused (spoiled
 
 -- a machine that breaks a rule comes before an offset that is none
 unfoldable pub readingOf : Machine → (offset : ℕ) → ReadRegister
-readingOf m offset = cond (keeps m) (registerAt (m .status) (m .control) (m .pointer) offset) (read.Refused (spoiled m))
+readingOf m offset = cond (keeps m) (registerAt (m .core .status) (m .core .control) (m .core .pointer) offset) (read.Refused (spoiled m))
 
 -- ---- the line
 
 unfoldable pub lineOf : Machine → Line
-lineOf m = cond (keeps m) (cond (lineUp (m .control) (m .pending)) line.Up line.Down) (line.Refused (spoiled m))
+lineOf m = cond (keeps m) (cond (lineUp (m .core .control) (m .core .pending)) line.Up line.Down) (line.Refused (spoiled m))
 
 -- ---- the paper's number of each answer
 
@@ -88,7 +96,7 @@ lineNumber (line.Refused why) = refusalNumber why
 
 -- 8 BadImage with its field, then 1 NoRegister, else 0: the paper's numbers written out, so that `refusalNumber` is held to them
 abbrev pub registerNumber : Machine → (known : Bool) → ℕ
-registerNumber m known = cond (keeps m) (cond known 0 1) (8 + 256 * lowestBroken (fieldsOf m))
+registerNumber m known = cond (keeps m) (cond known 0 1) (8 + 256 * lowestBroken (fieldsOf (m .core)) (tailOf m))
 
 -- ---- the promises
 

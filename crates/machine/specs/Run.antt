@@ -22,7 +22,7 @@ use Rattle.machine.specs.declared.StepAnswer.the-variants as one
 use Rattle.machine.specs.declared.RunAnswer.{RunAnswer}
 use Rattle.machine.specs.declared.RunAnswer.the-variants as many
 use Rattle.machine.specs.Saved.{keeps, spoiled}
-use Rattle.machine.specs.Step.{World, Answer, taken, stopped, opened, step}
+use Rattle.machine.specs.Step.{World, Answer, taken, stopped, opened, machineIn, step}
 
 -- ---- the run
 
@@ -97,7 +97,7 @@ servedIf good m l =
     cond good
     (cond (even (l .beats) && even (l .out))
     (cond (isLedger (length (l .ledger)) (l .used))
-    (cond (eqb (length (l .window)) (m .window .length)) serves (refused OtherWindow))
+    (cond (eqb (length (l .window)) (m .core .window .length)) serves (refused OtherWindow))
     (refused BadLedger))
     (refused OddStream))
     (refused (spoiled m))
@@ -131,7 +131,7 @@ returned l (refused why) v = asLent l
 
 abbrev pub progress : (used : ℕ) → World → World → Progress
 progress used w v =
-    record { machine = v .machine; taken = takenSince w v; made = length (v .output); used = used + length (v .records) }
+    record { machine = machineIn v; taken = takenSince w v; made = length (v .output); used = used + length (v .records) }
 
 abbrev pub steppedAs : (used : ℕ) → World → Answer → StepAnswer
 steppedAs used w (taken v) = one.Taken (progress used w v)
@@ -150,7 +150,7 @@ stepAnswer l (refused why) w = one.Refused why
 abbrev pub ranAs : (used : ℕ) → World → Report → Ran
 ranAs used w r =
     record {
-      machine = r .world .machine;
+      machine = machineIn (r .world);
       reason = r .reason;
       steps = r .steps;
       taken = takenSince w (r .world);

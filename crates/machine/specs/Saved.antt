@@ -11,14 +11,24 @@ use Rattle.bus.specs.Refusal.{refusalNumber}
 use Rattle.regs.specs.Modes.{modeNumber, modeOf}
 use Rattle.regs.specs.Status.{statusNumber, statusOf}
 use Rattle.regs.specs.Control.{swReset}
+use Rattle.descriptor.specs.declared.Raw.{Raw}
+use Rattle.descriptor.specs.declared.Look.{Look}
+use Rattle.descriptor.specs.declared.Look.the-variants.{Misaligned, Outside, There}
+use Rattle.descriptor.specs.Looking.{rawOf}
 use Rattle.image.specs.declared.Fields.{Fields}
+use Rattle.image.specs.declared.Tail.{Tail}
+use Rattle.image.specs.Slot.{empty, descriptor, fault10, fault11}
+use Rattle.image.specs.Layout.{tail}
 use Rattle.image.specs.declared.ReadImage.{ReadImage}
 use Rattle.image.specs.declared.ReadImage.the-variants as read
 use Rattle.image.specs.declared.WroteImage.{WroteImage}
 use Rattle.image.specs.declared.WroteImage.the-variants as wrote
 use Rattle.image.specs.Rules.{lowestBroken, keepsRules}
 use Rattle.image.specs.Promise.{readOf, wroteOf, imageOver, imageReadNumber, imageWroteNumber}
+use Rattle.machine.specs.declared.Core.{Core}
 use Rattle.machine.specs.declared.Machine.{Machine}
+use Rattle.machine.specs.declared.Slot.{Slot}
+use Rattle.machine.specs.declared.Slot.the-variants.{Empty, Ahead}
 use Rattle.machine.specs.declared.Work.{Work}
 use Rattle.machine.specs.declared.Fault.{Fault}
 use Rattle.machine.specs.declared.Phase.{Phase}
@@ -67,10 +77,10 @@ faultIn (WriteBack k) = noFault
 faultIn Ended = noFault
 faultIn Halted = noFault
 
-abbrev pub fieldsOf : Machine → Fields
+abbrev pub fieldsOf : Core → Fields
 fieldsOf m =
     record {
-      edition = 1;
+      edition = 2;
       mode = modeNumber (m .mode);
       phase = phaseNumber (m .phase);
       armed = swReset (m .control);
@@ -94,13 +104,33 @@ fieldsOf m =
       faultat = faultIn (m .phase) .address;
     }
 
+-- the slot's kind: empty, descriptor, fault 10, fault 11
+abbrev pub kindOf : Look → ℕ
+kindOf Misaligned = fault10
+kindOf Outside = fault11
+kindOf (There r) = descriptor
+
+-- and its bytes; zeros where there are none
+abbrev pub bytesOf : Look → Raw
+bytesOf Misaligned = rawOf []
+bytesOf Outside = rawOf []
+bytesOf (There r) = r
+
+-- what edition 2 adds: "an empty slot is all zero; a fault slot's bytes are zero; a held slot .. its address is the pointer"
+abbrev pub tailWith : Slot → (pointer run : ℕ) → Tail
+tailWith Empty pointer run = record { kind = empty; zero6 = 0; at = 0; raw = rawOf []; run = run }
+tailWith (Ahead look) pointer run = record { kind = kindOf look; zero6 = 0; at = pointer; raw = bytesOf look; run = run }
+
+abbrev pub tailOf : Machine → Tail
+tailOf m = tailWith (m .slot) (m .core .pointer .0) (m .run)
+
 -- the machine keeps the image rules
 abbrev pub keeps : Machine → Bool
-keeps m = keepsRules (fieldsOf m)
+keeps m = keepsRules (fieldsOf (m .core)) (tailOf m)
 
 -- 8 for one that does not, with the lowest field of its image that breaks a rule
 abbrev pub spoiled : Machine → Refusal
-spoiled m = BadImage (lowestBroken (fieldsOf m))
+spoiled m = BadImage (lowestBroken (fieldsOf (m .core)) (tailOf m))
 
 -- ---- the machine that fields are
 
@@ -123,8 +153,8 @@ phaseOf f =
     getD (Rest ∷ Fetch ∷ Move (workOf f) ∷ WriteBack (workOf f) ∷ Ended ∷ Halted ∷ []) (f .phase)
     (Faulted (record { code = f .fault; address = f .faultat }))
 
-abbrev pub machineOf : Fields → Machine
-machineOf f =
+abbrev pub coreOf : Fields → Core
+coreOf f =
     record {
       mode = modeOf (f .mode);
       window = record { base = f .base; length = f .window };
@@ -136,22 +166,29 @@ machineOf f =
       count = f .count;
     }
 
+-- a number above 2 is fault 11: its width leaves 3 alone
+abbrev pub slotOf : Tail → Slot
+slotOf t = getD (Empty ∷ Ahead (There (t .raw)) ∷ Ahead Misaligned ∷ []) (t .kind) (Ahead Outside)
+
+abbrev pub machineOf : Fields → Tail → Machine
+machineOf f t = record { core = coreOf f; slot = slotOf t; run = t .run }
+
 -- ---- load and save
 
 -- an image loads exactly when it keeps the rules; else 7 or 8
-abbrev pub loadedAs : ReadImage → LoadedMachine
-loadedAs (read.Good f) = Good (machineOf f)
-loadedAs (read.Refused why) = Refused why
+abbrev pub loadedAs : Tail → ReadImage → LoadedMachine
+loadedAs t (read.Good f) = Good (machineOf f t)
+loadedAs t (read.Refused why) = Refused why
 
 unfoldable pub loadOf : List ℕ → LoadedMachine
-loadOf xs = loadedAs (readOf xs)
+loadOf xs = loadedAs (tail xs) (readOf xs)
 
 abbrev pub savedAs : WroteImage → SavedMachine
 savedAs wrote.Done = saved.Done
 savedAs (wrote.Refused why) = saved.Refused why
 
 unfoldable pub saveOf : Machine → List ℕ → SavedMachine
-saveOf m xs = savedAs (wroteOf (fieldsOf m) xs)
+saveOf m xs = savedAs (wroteOf (fieldsOf (m .core)) (tailOf m) xs)
 
 -- the paper's number of each answer
 abbrev pub loadNumber : LoadedMachine → ℕ
@@ -170,8 +207,8 @@ pub record WasLoaded (xs : List ℕ) (r : LoadedMachine) : Type 0 where
 
 pub record WasSaved (m : Machine) (xs : List ℕ) (r : SavedMachine) (after : List ℕ) : Type 0 where
   pub answer : r ≡ saveOf m xs
-  pub number : saveNumber r ≡ imageWroteNumber (wroteOf (fieldsOf m) xs)
-  pub lent : after ≡ imageOver (fieldsOf m) xs
+  pub number : saveNumber r ≡ imageWroteNumber (wroteOf (fieldsOf (m .core)) (tailOf m) xs)
+  pub lent : after ≡ imageOver (fieldsOf (m .core)) (tailOf m) xs
 
 pub loaded-unique : {xs : List ℕ} {r s : LoadedMachine} → WasLoaded xs r → WasLoaded xs s → r ≡ s
 loaded-unique p q = p .answer ∙ sym (q .answer)

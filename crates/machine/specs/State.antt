@@ -1,4 +1,5 @@
--- The phases by number, the codes of the faults, and the machine with one part changed.
+-- The phases by number, the codes of the faults, the core with one part changed, and the machine around it: what was read ahead, and the
+-- run number.
 -- Assumes nothing.
 use Prim.Native.Nat.{ℕ}
 use mathlib.Core.Bool.{Bool, false, _||_}
@@ -7,6 +8,9 @@ use Rattle.regs.specs.declared.Mode.{Mode}
 use Rattle.regs.specs.declared.Status.{Status}
 use Rattle.regs.specs.declared.Control.{Control}
 use Rattle.regs.specs.declared.Pointer.{Pointer}
+use Rattle.machine.specs.declared.Core.{Core}
+use Rattle.machine.specs.declared.Slot.{Slot}
+use Rattle.machine.specs.declared.Slot.the-variants.{Empty, Ahead}
 use Rattle.machine.specs.declared.Machine.{Machine}
 use Rattle.machine.specs.declared.Phase.{Phase}
 use Rattle.machine.specs.declared.Phase.the-variants.{Rest, Fetch, Move, WriteBack, Ended, Halted, Faulted}
@@ -39,13 +43,13 @@ destinationOutside = 14
 
 -- ---- the window that descriptors live in
 
-abbrev pub home : Machine → Window
+abbrev pub home : Core → Window
 home m = m .window
 
--- ---- the machine with one part changed
+-- ---- the core with one part changed
 
--- these parts; mode and window stay. No other update of a machine names its parts
-abbrev pub remade : Status → Control → Pointer → Phase → (pending : Bool) (count : ℕ) → Machine → Machine
+-- these parts; mode and window stay. No other update of a core names its parts
+abbrev pub remade : Status → Control → Pointer → Phase → (pending : Bool) (count : ℕ) → Core → Core
 remade status control pointer phase pending count m =
     record {
       mode = m .mode;
@@ -58,20 +62,20 @@ remade status control pointer phase pending count m =
       count = count;
     }
 
-abbrev pub withStatus : Status → Machine → Machine
+abbrev pub withStatus : Status → Core → Core
 withStatus s m = remade s (m .control) (m .pointer) (m .phase) (m .pending) (m .count) m
 
-abbrev pub withPointer : ℕ → Machine → Machine
+abbrev pub withPointer : ℕ → Core → Core
 withPointer a m = remade (m .status) (m .control) (record { 0 = a }) (m .phase) (m .pending) (m .count) m
 
-abbrev pub withPhase : Phase → Machine → Machine
+abbrev pub withPhase : Phase → Core → Core
 withPhase p m = remade (m .status) (m .control) (m .pointer) p (m .pending) (m .count) m
 
 -- control, pending and count are written together
-abbrev pub withControl : ℕ → Bool → ℕ → Machine → Machine
+abbrev pub withControl : ℕ → Bool → ℕ → Core → Core
 withControl c pending count m = remade (m .status) (record { 0 = c }) (m .pointer) (m .phase) pending count m
 
-abbrev pub withBusy : Bool → Machine → Machine
+abbrev pub withBusy : Bool → Core → Core
 withBusy b m =
     withStatus
     (record {
@@ -84,17 +88,17 @@ withBusy b m =
     m
 
 -- an event pends under its own enable; what pends already stays
-abbrev pub pend : Bool → Machine → Machine
+abbrev pub pend : Bool → Core → Core
 pend enabled m = withControl (m .control .0) (m .pending || enabled) (m .count) m
 
 -- Rest, BUSY 0
-abbrev pub rested : Machine → Machine
+abbrev pub rested : Core → Core
 rested m = withPhase Rest (withBusy false m)
 
--- ---- a fresh machine: all registers 0
+-- ---- a fresh core: all registers 0
 
-abbrev pub fresh : Mode → Window → Machine
-fresh mode window =
+abbrev pub freshCore : Mode → Window → Core
+freshCore mode window =
     record {
       mode = mode;
       window = window;
@@ -105,3 +109,23 @@ fresh mode window =
       pending = false;
       count = 0;
     }
+
+-- ---- what was read ahead
+
+-- "Rest, Halted, Ended, Faulted .. empty the slot": what a phase leaves of it
+abbrev pub settled : Phase → Slot → Slot
+settled Rest slot = Empty
+settled Fetch slot = slot
+settled (Move k) slot = slot
+settled (WriteBack k) slot = slot
+settled Ended slot = Empty
+settled Halted slot = Empty
+settled (Faulted f) slot = Empty
+
+-- ---- the machine: its core, what was read ahead, the run number
+
+abbrev pub machineWith : Core → Slot → (run : ℕ) → Machine
+machineWith core slot run = record { core = core; slot = settled (core .phase) slot; run = run }
+
+abbrev pub fresh : Mode → Window → Machine
+fresh mode window = machineWith (freshCore mode window) Empty 0

@@ -10,6 +10,7 @@ use Rattle.descriptor.specs.Layout.{readFixed, writeFixed}
 use Rattle.regs.specs.declared.Mode.the-variants.{MemoryToMemory, MemoryToStream, StreamToMemory}
 use Rattle.flow.specs.Beats.{beatEop}
 use Rattle.flow.specs.Rows.{gathered, spread, copied, plain}
+use Rattle.machine.specs.declared.Core.{Core}
 use Rattle.machine.specs.declared.Machine.{Machine}
 use Rattle.machine.specs.declared.Work.{Work}
 use Rattle.machine.specs.declared.Reason.the-variants.{Budget}
@@ -52,7 +53,7 @@ StepPassed = (w v : World) → step w ≡ taken v → Passed 1 w v
 
 -- A step leaves every byte of memory but those that it names.
 abbrev pub StepSpares : Type 0
-StepSpares = (w v : World) → step w ≡ taken v → (q : ℕ) → sparesIn (w .machine .phase) w q → getD (v .memory) q 0 ≡ getD (w .memory) q 0
+StepSpares = (w v : World) → step w ≡ taken v → (q : ℕ) → sparesIn (w .core .phase) w q → getD (v .memory) q 0 ≡ getD (w .memory) q 0
 
 -- ---- bytes moved at once
 
@@ -62,7 +63,7 @@ RowSteps = (row : ℕ → World) (n : ℕ) → ((i : ℕ) → i < n → step (ro
 
 -- The row of mode 0: bytes copied in memory.
 abbrev pub CopySteps : Type 0
-CopySteps = (window : Window) (k : Work) (most : ℕ) (m : Machine) → Moving MemoryToMemory window k most m → (from to n : ℕ)
+CopySteps = (window : Window) (k : Work) (most : ℕ) (m : Core) → Moving MemoryToMemory window k most m → (from to n : ℕ)
     → Row window (readFixed (k .control .0)) (sourceOf k) from n → Row window (writeFixed (k .control .0)) (destinationOf k) to n → n ≤ most
     → (w : World) (memory : List ℕ)
     → steps n (stored w m memory)
@@ -70,7 +71,7 @@ CopySteps = (window : Window) (k : Work) (most : ℕ) (m : Machine) → Moving M
 
 -- The row of mode 1: beats made, with neither SOP nor EOP, where there is room for them.
 abbrev pub SendSteps : Type 0
-SendSteps = (window : Window) (k : Work) (most : ℕ) (m : Machine) → Moving MemoryToStream window k most m → (from n : ℕ)
+SendSteps = (window : Window) (k : Work) (most : ℕ) (m : Core) → Moving MemoryToStream window k most m → (from n : ℕ)
     → Row window (readFixed (k .control .0)) (sourceOf k) from n → n ≤ most → Unmarked k n
     → (w : World) → n ≤ w .room
     → steps n (became w m)
@@ -78,7 +79,7 @@ SendSteps = (window : Window) (k : Work) (most : ℕ) (m : Machine) → Moving M
 
 -- The row of mode 2: beats taken, none of them with EOP.
 abbrev pub ReceiveSteps : Type 0
-ReceiveSteps = (window : Window) (k : Work) (most : ℕ) (m : Machine) → Moving StreamToMemory window k most m → (to n : ℕ)
+ReceiveSteps = (window : Window) (k : Work) (most : ℕ) (m : Core) → Moving StreamToMemory window k most m → (to n : ℕ)
     → Row window (writeFixed (k .control .0)) (destinationOf k) to n → n ≤ most
     → (w : World) (memory beats : List ℕ) → n ≤ length beats → ((i : ℕ) → i < n → beatEop (getD beats i 0) ≡ false)
     → steps n (received w m memory beats)

@@ -5,7 +5,7 @@ ghost use Rattle.bus.specs.Window.{inWindow};
 ghost use Rattle.machine.specs.State.{home as homeOf};
 ghost use Rattle.machine.specs.Step.{World, stored, writtenControl, writtenBack, afterBack, completed as completedOf, entryFor};
 ghost use Rattle.machine.specs.Helpers.Turns.{Backs};
-use crate::Machine;
+use crate::Core;
 use crate::Phase;
 use crate::Work;
 use bus::BusAddress;
@@ -27,7 +27,7 @@ fn after_back(run: bool, halts: bool) -> Phase
     }
 }
 
-impl Machine {
+impl Core {
     // The control byte as fetched, with OWNED cleared unless PARK.
     fn written_control(self, k: Work) -> u8
         ensures { λ r. ⌜ r ≡ writtenControl self k ⌝ }
@@ -40,7 +40,7 @@ impl Machine {
     }
 
     // The registers after a descriptor: RUN 0 or errors with STOP_DMA_ER end BUSY.
-    fn completed(self, k: Work) -> Machine
+    fn completed(self, k: Work) -> Core
         ensures { λ r. ⌜ r ≡ completedOf self k ⌝ }
     {
         let c = self.control.0;
@@ -51,7 +51,7 @@ impl Machine {
         let control = self.control;
         let pending = self.pending | control.pends(k.eop, failed, n.full);
         let status = self.status;
-        Machine {
+        Core {
             status: status.after_back(k.eop, failed, run & !halts),
             phase: after_back(run, halts),
             pending,
@@ -74,7 +74,7 @@ impl Machine {
     }
 
     // All but its record.
-    pub(crate) fn write_back_step(self, k: Work, window: &mut [u8]) -> Machine
+    pub(crate) fn write_back_step(self, k: Work, window: &mut [u8]) -> Core
         requires { ⌜ inWindow (homeOf self) (k .at) 32 ≡ true ⌝ }
         ensures { λ r. ⌜ Backs self k (now (window .entry)) r (now (window .exit)) ⌝ }
     {

@@ -16,6 +16,7 @@ ghost use Rattle.machine.specs.Saved.{loadNumber};
 use bus::Refusal;
 use bus::Window;
 use descriptor::DescControl;
+use descriptor::Look;
 use regs::Control;
 use regs::Mode;
 use regs::Pointer;
@@ -79,8 +80,8 @@ impl Phase {
     }
 }
 
-// Its parts are private, so that each machine comes from `fresh`, `load` or a call on a machine, and keeps the image rules.
-pub struct Machine {
+// What every step sees of the machine.
+pub struct Core {
     mode: Mode,
     window: Window,
     status: Status,
@@ -89,6 +90,20 @@ pub struct Machine {
     phase: Phase,
     pending: bool,
     count: u8,
+}
+
+// The descriptor read ahead, or what the look at its address found in its place. Its address is the pointer.
+pub enum Slot {
+    Empty,
+    Ahead(Look),
+}
+
+// The core, and beside it what it has read ahead, which Fetch alone sees, and the run number. Its parts are private, so that each machine
+// comes from `fresh`, `load` or a call on a machine, and keeps the image rules.
+pub struct Machine {
+    core: Core,
+    slot: Slot,
+    run: u32,
 }
 
 // Why a run ends; numbered 0 to 7.

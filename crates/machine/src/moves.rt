@@ -16,8 +16,8 @@ ghost use Rattle.machine.specs.Step.{copyStep, sendStep, receiveFrom, mo
 ghost use Rattle.machine.specs.Helpers.Worlds.{Within};
 ghost use Rattle.machine.specs.Helpers.Waiting.{Waits, Goes};
 ghost use Rattle.machine.specs.Helpers.Turns.{Still, Went};
+use crate::Core;
 use crate::Fault;
-use crate::Machine;
 use crate::Phase;
 use crate::Reason;
 use crate::Work;
@@ -118,21 +118,21 @@ impl Work {
     }
 }
 
-impl Machine {
+impl Core {
     // When L bytes are moved or a taken beat had EOP, go to WriteBack.
-    pub(crate) fn with_work(self, k: Work) -> Machine
+    pub(crate) fn with_work(self, k: Work) -> Core
         ensures { λ r. ⌜ r ≡ onwardOf self k ⌝ }
     {
         let mode = self.mode;
         let done = k.eop | (k.moved == asked(mode, k.length));
-        Machine {
+        Core {
             phase: phase_with(k, done),
             ..self
         }
     }
 
     // One byte more.
-    fn onward(self, k: Work, errors: u8, eop: bool) -> Machine
+    fn onward(self, k: Work, errors: u8, eop: bool) -> Core
         requires { ⌜ k .moved < 65535 ⌝ }
         ensures { λ r. ⌜ r ≡ onwardOf self (withByte errors eop k) ⌝ }
     {
@@ -140,7 +140,7 @@ impl Machine {
     }
 
     // Mode 0: source outside, 13; destination outside, 14.
-    fn copy_step(self, k: Work, window: &mut [u8]) -> Machine
+    fn copy_step(self, k: Work, window: &mut [u8]) -> Core
         requires { ⌜ self .window .length ≡ length (now window) ⌝ }
         requires { ⌜ k .moved < 65535 ⌝ }
         ensures { λ r. ⌜ Still (λ (w : World). copyStep w k) self (now (window .entry)) r (now (window .exit)) ⌝ }

@@ -11,7 +11,8 @@ ghost use Rattle.machine.specs.Helpers.Worlds.{Within};
 ghost use Rattle.machine.specs.Helpers.Waiting.{Goes};
 ghost use Rattle.machine.specs.Helpers.Turns.{Advances};
 ghost use Rattle.machine.specs.Helpers.AtOnce.{movedBy};
-ghost use Rattle.machine.specs.Helpers.Resume.{RunsIf, Resumed, Ready, steppedIn};
+ghost use Rattle.machine.specs.Helpers.Resume.{RunsIf, Ready, Seated, readyOf, steppedIn};
+use crate::Core;
 use crate::Machine;
 use crate::Phase;
 use crate::Progress;
@@ -30,18 +31,18 @@ use regs::Mode;
 
 // Where some steps led, and how many they were.
 struct Advanced {
-    machine: Machine,
+    core: Core,
     taken: usize,
     made: usize,
     steps: u32,
 }
 
 // Move: bytes moved at once, and one where none can be.
-impl Machine {
+impl Core {
     // Where so many bytes of the work in hand lead, with these errors.
     fn moved(self, k: Work, n: usize, errors: u8, taken: usize, made: usize) -> Advanced
         requires { ⌜ k .moved + n ≤ 65535 ⌝ }
-        ensures { λ r. ⌜ r ≡ record { machine = onwardOf self (movedBy k n errors); taken = taken; made = made; steps = n } ⌝ }
+        ensures { λ r. ⌜ r ≡ record { core = onwardOf self (movedBy k n errors); taken = taken; made = made; steps = n } ⌝ }
     {
         let work = Work {
             errors,
@@ -49,7 +50,7 @@ impl Machine {
             ..k
         };
         Advanced {
-            machine: self.with_work(work),
+            core: self.with_work(work),
             taken,
             made,
             steps: n as u32,
@@ -118,9 +119,9 @@ impl Machine {
             return b;
         }
         let s = self.move_step(k, window, beats, taken, out, made);
-        let machine = s.machine;
+        let core = s.core;
         Advanced {
-            machine,
+            core,
             taken: s.taken,
             made: s.made,
             steps: 1,
@@ -129,6 +130,20 @@ impl Machine {
 }
 
 impl Machine {
+    // A run that led to this machine, for this reason.
+    fn ran(self, reason: Reason, steps: u32, taken: usize, made: usize, used: u32) -> Ran
+        ensures { λ r. ⌜ r ≡ record { machine = self; reason = reason; steps = steps; taken = taken; made = made; used = used } ⌝ }
+    {
+        Ran {
+            machine: self,
+            reason,
+            steps,
+            taken,
+            made,
+            used,
+        }
+    }
+
     // A run of a machine that is served. Move sees the streams, WriteBack the ledger, Rest and Fetch the window alone.
     fn run_on(
         self,
@@ -139,50 +154,48 @@ impl Machine {
         used: u32,
         budget: u32,
     ) -> Ran
-        requires { ⌜ Ready self (length (now window)) ⌝ }
+        requires { ⌜ Ready (self .core) (length (now window)) ⌝ }
+        requires { ⌜ Seated (self .core) (self .slot) ⌝ }
         requires { ⌜ used ≤ length (now ledger) / 12 ⌝ }
         ensures { λ r. ⌜
             Runs serves self (lent (now (window .entry)) (now (beats .entry)) (now (out .entry)) (now (ledger .entry)) used)
             budget (Done r) (back (now (window .exit)) (now (out .exit)) (now (ledger .exit))) ⌝ }
     {
-        let mut machine = self;
+        let run = self.run;
+        let mut core = self.core;
+        let mut slot = self.slot;
         let mut taken: usize = 0;
         let mut made: usize = 0;
         let mut filled: u32 = used;
         let mut steps: u32 = 0;
         let reason = loop {
             let room = has_room(ledger, filled);
-            let wait = machine.wait(taken < beats.len() / 2, made < out.len() / 2, room);
+            let wait = core.wait(taken < beats.len() / 2, made < out.len() / 2, room);
             if let Wait::Stop(why) = wait {
                 break why;
             }
             if steps == budget {
                 break Reason::Budget;
             }
-            let phase = machine.phase;
+            let phase = core.phase;
             if let Phase::Move(k) = phase {
-                let a = machine.move_on(k, window, beats, taken, out, made, budget - steps);
-                machine = a.machine;
+                let a = core.move_on(k, window, beats, taken, out, made, budget - steps);
+                core = a.core;
                 taken = a.taken;
                 made = a.made;
                 steps += a.steps;
             } else if let Phase::WriteBack(k) = phase {
-                filled = append(ledger, filled, machine.entry(k));
-                machine = machine.write_back_step(k, window);
+                filled = append(ledger, filled, core.entry(k));
+                core = core.write_back_step(k, window);
                 steps += 1;
             } else {
-                machine = machine.begin_step(window);
+                let f = core.begin_step(window, slot);
+                core = f.core;
+                slot = f.slot;
                 steps += 1;
             }
         };
-        Ran {
-            machine,
-            reason,
-            steps,
-            taken,
-            made,
-            used: filled,
-        }
+        Machine::of(core, slot, run).ran(reason, steps, taken, made, filled)
     }
 
     // A run of a machine that is good, or not. Its answer is the reason found where it ended.
@@ -196,7 +209,8 @@ impl Machine {
         used: u32,
         budget: u32,
     ) -> RunAnswer
-        requires { ⌜ (good ≡ true → Ready self (self .window .length)) ⌝ }
+        requires { ⌜ (good ≡ true → Ready (self .core) (self .core .window .length)) ⌝ }
+        requires { ⌜ (good ≡ true → Seated (self .core) (self .slot)) ⌝ }
         ensures { λ r. ⌜
             RunsIf good self (lent (now (window .entry)) (now (beats .entry)) (now (out .entry)) (now (ledger .entry)) used)
             budget r (back (now (window .exit)) (now (out .exit)) (now (ledger .exit))) ⌝ }
@@ -224,23 +238,6 @@ impl Machine {
         self.run_if(self.keeps(), window, beats, out, ledger, used, budget)
     }
 
-    // The same of a machine that is known to keep the rules, as one that was loaded is: it looks only at what a step needs.
-    pub fn resume(
-        self,
-        window: &mut [u8],
-        beats: &[u8],
-        out: &mut [u8],
-        ledger: &mut [u8],
-        used: u32,
-        budget: u32,
-    ) -> RunAnswer
-        ensures { λ r. ⌜
-            Resumed self (lent (now (window .entry)) (now (beats .entry)) (now (out .entry)) (now (ledger .entry)) used)
-            budget r (back (now (window .exit)) (now (out .exit)) (now (ledger .exit))) ⌝ }
-    {
-        self.run_if(self.ready(), window, beats, out, ledger, used, budget)
-    }
-
     // One step, or why it cannot be taken: a run of one.
     pub fn step(
         self,
@@ -259,6 +256,23 @@ impl Machine {
             RunAnswer::Refused(why) => StepAnswer::Refused(why),
             RunAnswer::Done(r) => r.stepped(),
         }
+    }
+
+    // A run of a machine that is known to keep the rules, as one that was loaded is: it looks only at what a step needs.
+    pub fn resume(
+        self,
+        window: &mut [u8],
+        beats: &[u8],
+        out: &mut [u8],
+        ledger: &mut [u8],
+        used: u32,
+        budget: u32,
+    ) -> RunAnswer
+        ensures { λ r. ⌜
+            RunsIf (readyOf self) self (lent (now (window .entry)) (now (beats .entry)) (now (out .entry)) (now (ledger .entry)) used)
+            budget r (back (now (window .exit)) (now (out .exit)) (now (ledger .exit))) ⌝ }
+    {
+        self.run_if(self.ready(), window, beats, out, ledger, used, budget)
     }
 }
 

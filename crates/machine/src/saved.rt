@@ -4,20 +4,25 @@ ghost use mathlib.Core.Path.{_≡_};
 ghost use Rattle.bus.specs.Window.{keepsLimits};
 ghost use Rattle.regs.specs.Modes.{modeOf};
 ghost use Rattle.machine.specs.declared.LoadedMachine.the-variants.{Good};
-ghost use Rattle.machine.specs.Saved.{inHand, faultIn, fieldsOf, keeps as keepsOf, spoiled as spoiledOf, workOf, phaseOf, machineOf, savedAs, WasLoaded, WasSaved};
+ghost use Rattle.machine.specs.Saved.{inHand, faultIn, fieldsOf, kindOf, bytesOf, tailWith, tailOf, keeps as keepsOf, spoiled as spoiledOf, workOf, phaseOf, slotOf, machineOf, savedAs, WasLoaded, WasSaved};
 ghost use Rattle.machine.specs.Helpers.Put.{MachineWasPut};
+use crate::Core;
 use crate::Fault;
 use crate::LoadedMachine;
 use crate::Machine;
 use crate::Phase;
 use crate::SavedMachine;
+use crate::Slot;
 use crate::Work;
 use bus::CheckedWindow;
 use bus::Refusal;
 use bus::Window;
 use descriptor::DescControl;
+use descriptor::Look;
+use descriptor::Raw;
 use image::Fields;
 use image::ReadImage;
+use image::Tail;
 use image::WroteImage;
 use regs::Control;
 use regs::Mode;
@@ -115,15 +120,72 @@ fn mode_of(n: u8) -> Mode
     }
 }
 
+// What was read ahead. The kinds are 0 to 3.
+fn slot_of(t: Tail) -> Slot
+    ensures { λ r. ⌜ r ≡ slotOf t ⌝ }
+{
+    let raw = t.raw;
+    let n = t.kind;
+    match n {
+        0 => Slot::Empty,
+        1 => Slot::Ahead(Look::There(raw)),
+        2 => Slot::Ahead(Look::Misaligned),
+        _ => Slot::Ahead(Look::Outside),
+    }
+}
+
+// The slot's kind, and its bytes, where it is held.
+fn kind_of(look: Look) -> u8
+    ensures { λ r. ⌜ r ≡ kindOf look ⌝ }
+{
+    match look {
+        Look::Misaligned => 2,
+        Look::Outside => 3,
+        Look::There(_) => 1,
+    }
+}
+
+fn bytes_of(look: Look) -> Raw
+    ensures { λ r. ⌜ r ≡ bytesOf look ⌝ }
+{
+    match look {
+        Look::Misaligned => Raw::ZERO,
+        Look::Outside => Raw::ZERO,
+        Look::There(raw) => raw,
+    }
+}
+
+// The fields that edition 2 adds.
+fn tail_with(slot: Slot, pointer: u32, run: u32) -> Tail
+    ensures { λ r. ⌜ r ≡ tailWith slot pointer run ⌝ }
+{
+    match slot {
+        Slot::Empty => Tail {
+            kind: 0,
+            zero6: 0,
+            at: 0,
+            raw: Raw::ZERO,
+            run,
+        },
+        Slot::Ahead(look) => Tail {
+            kind: kind_of(look),
+            zero6: 0,
+            at: pointer,
+            raw: bytes_of(look),
+            run,
+        },
+    }
+}
+
 // The machine of fields whose window keeps the limits, so that it is never refused here.
-fn machine_of(f: Fields) -> LoadedMachine
+fn machine_of(f: Fields, t: Tail) -> LoadedMachine
     requires { ⌜ keepsLimits (f .base) (f .window) ≡ true ⌝ }
-    ensures { λ r. ⌜ r ≡ Good (machineOf f) ⌝ }
+    ensures { λ r. ⌜ r ≡ Good (machineOf f t) ⌝ }
 {
     let CheckedWindow::Good(window) = Window::checked(f.base as u64, f.window as u64) else {
         return LoadedMachine::Refused(Refusal::BadWindow);
     };
-    LoadedMachine::Good(Machine {
+    let core = Core {
         mode: mode_of(f.mode),
         window,
         status: Status::of(f.status as u32),
@@ -132,6 +194,11 @@ fn machine_of(f: Fields) -> LoadedMachine
         phase: phase_of(f),
         pending: f.pending,
         count: f.count,
+    };
+    LoadedMachine::Good(Machine {
+        core,
+        slot: slot_of(t),
+        run: t.run,
     })
 }
 
@@ -145,7 +212,7 @@ fn saved_as(done: WroteImage) -> SavedMachine
     }
 }
 
-impl Machine {
+impl Core {
     // The fields of its image.
     fn fields(self) -> Fields
         ensures { λ r. ⌜ r ≡ fieldsOf self ⌝ }
@@ -158,7 +225,7 @@ impl Machine {
         let status = self.status;
         let control = self.control.0;
         Fields {
-            edition: 1,
+            edition: 2,
             mode: mode.number(),
             phase: phase.number(),
             armed: has(control, Control::SW_RESET),
@@ -182,44 +249,54 @@ impl Machine {
             faultat: fault.address,
         }
     }
+}
+
+impl Machine {
+    // What edition 2 adds to its image.
+    fn tail(self) -> Tail
+        ensures { λ r. ⌜ r ≡ tailOf self ⌝ }
+    {
+        let slot = self.slot;
+        tail_with(slot, self.core.pointer.0, self.run)
+    }
 
     // Whether it keeps the image rules.
     pub(crate) fn keeps(self) -> bool
         ensures { λ r. ⌜ r ≡ keepsOf self ⌝ }
     {
-        image::keeps(self.fields())
+        image::keeps(self.core.fields(), self.tail())
     }
 
     // 8 for one that does not, with the lowest field of its image that breaks a rule. No good path comes here.
     pub(crate) fn spoiled(self) -> Refusal
         ensures { λ r. ⌜ r ≡ spoiledOf self ⌝ }
     {
-        Refusal::BadImage(image::broken(self.fields()))
+        Refusal::BadImage(image::broken(self.core.fields(), self.tail()))
     }
 
-    // The machine of 44 bytes that keep the rules.
+    // The machine of 85 bytes that keep the rules.
     pub fn load(from: &[u8]) -> LoadedMachine
         ensures { λ r. ⌜ WasLoaded (now (from .entry)) r ⌝ }
     {
         let found = image::read(from);
         match found {
-            ReadImage::Good(f) => machine_of(f),
+            ReadImage::Good(f) => machine_of(f, image::tail_in(from)),
             ReadImage::Refused(why) => LoadedMachine::Refused(why),
         }
     }
 
-    // Writes the 44 bytes of a machine that keeps the rules; where it is refused nothing is written.
+    // Writes the 85 bytes of a machine that keeps the rules; where it is refused nothing is written.
     pub fn save(self, to: &mut [u8]) -> SavedMachine
         ensures { λ r. ⌜ WasSaved self (now (to .entry)) r (now (to .exit)) ⌝ }
     {
-        saved_as(image::write(self.fields(), to))
+        saved_as(image::write(self.core.fields(), self.tail(), to))
     }
 
-    // Writes the 44 bytes of a machine that is known to keep the rules. It looks at the size and the widths alone: where the
-    // slice is not of 44 bytes or a number does not fit its width it is refused, and nothing is written.
+    // Writes the 85 bytes of a machine that is known to keep the rules. It looks at the size and the widths alone: where the
+    // slice is not of 85 bytes or a number does not fit its width it is refused, and nothing is written.
     pub fn put(self, to: &mut [u8]) -> SavedMachine
         ensures { λ r. ⌜ MachineWasPut self (now (to .entry)) r (now (to .exit)) ⌝ }
     {
-        saved_as(image::put(self.fields(), to))
+        saved_as(image::put(self.core.fields(), self.tail(), to))
     }
 }

@@ -7,18 +7,22 @@ ghost use Rattle.machine.specs.Step.{step as stepOf};
 ghost use Rattle.machine.specs.Run.{lent, servedIf};
 ghost use Rattle.machine.specs.Helpers.Worlds.{reachedAs, inFault, servedAs};
 ghost use Rattle.machine.specs.Helpers.Waiting.{Waits, Begins};
-ghost use Rattle.machine.specs.Helpers.Turns.{Still};
-ghost use Rattle.machine.specs.Helpers.Resume.{readyOf};
+ghost use Rattle.machine.specs.Helpers.Turns.{Begun};
+ghost use Rattle.machine.specs.Helpers.Resume.{seatedAs, coreReady, readyOf};
+use crate::Core;
 use crate::Fault;
 use crate::Machine;
 use crate::Phase;
 use crate::Reason;
+use crate::Slot;
 use crate::Work;
+use crate::fetch::Fetched;
 use crate::moves::asked;
 use bus::BusAddress;
 use bus::Located;
 use bus::Refusal;
 use bus::Window;
+use descriptor::Look;
 use regs::Control;
 use words::has;
 
@@ -30,7 +34,7 @@ pub(crate) enum Wait {
 
 // The machine after a step, with the beats taken and made then.
 pub(crate) struct Reached {
-    pub machine: Machine,
+    pub core: Core,
     pub taken: usize,
     pub made: usize,
 }
@@ -42,16 +46,16 @@ pub(crate) enum Served {
 }
 
 // Where a step leads.
-impl Machine {
+impl Core {
     // A fault sets BUSY 0 and keeps code and address.
-    pub(crate) fn faulted(self, code: u8, address: u32) -> Machine
+    pub(crate) fn faulted(self, code: u8, address: u32) -> Core
         ensures { λ r. ⌜ r ≡ inFault self code address ⌝ }
     {
         self.enters(Phase::Faulted(Fault { code, address }), false)
     }
 
     // Outside the window; a fault keeps the address modulo 2^32.
-    pub(crate) fn missed(self, code: u8, address: BusAddress) -> Machine
+    pub(crate) fn missed(self, code: u8, address: BusAddress) -> Core
         ensures { λ r. ⌜ r ≡ inFault self code (address .0 % 2 ^ 32) ⌝ }
     {
         self.faulted(code, (address.0 % 0x1_0000_0000) as u32)
@@ -62,7 +66,7 @@ impl Machine {
         ensures { λ r. ⌜ r ≡ reachedAs self taken made ⌝ }
     {
         Reached {
-            machine: self,
+            core: self,
             taken,
             made,
         }
@@ -70,7 +74,7 @@ impl Machine {
 }
 
 // What a step needs of the machine.
-impl Machine {
+impl Core {
     // The window that descriptors live in.
     pub(crate) fn home(self) -> Window
         ensures { λ r. ⌜ r ≡ homeOf self ⌝ }
@@ -78,19 +82,19 @@ impl Machine {
         self.window
     }
 
-    // Whether the descriptor in hand is in the window.
-    fn holds(self, k: Work) -> bool
-        ensures { λ r. ⌜ r ≡ inWindow (homeOf self) (k .at) 32 ⌝ }
+    // Whether a descriptor at this address is in the window.
+    fn holds(self, address: u32) -> bool
+        ensures { λ r. ⌜ r ≡ inWindow (homeOf self) address 32 ⌝ }
     {
-        match self.home().locate(BusAddress(k.at as u64), 32) {
+        match self.home().locate(BusAddress(address as u64), 32) {
             Located::At(_) => true,
             Located::Outside => false,
         }
     }
 
     // In Move a byte is left to move and no EOP was seen.
-    pub(crate) fn ready(self) -> bool
-        ensures { λ r. ⌜ r ≡ readyOf self ⌝ }
+    fn ready(self) -> bool
+        ensures { λ r. ⌜ r ≡ coreReady self ⌝ }
     {
         let phase = self.phase;
         match phase {
@@ -98,9 +102,9 @@ impl Machine {
             Phase::Fetch => true,
             Phase::Move(k) => {
                 let mode = self.mode;
-                (k.moved < asked(mode, k.length)) & !k.eop & self.holds(k)
+                (k.moved < asked(mode, k.length)) & !k.eop & self.holds(k.at)
             }
-            Phase::WriteBack(k) => self.holds(k),
+            Phase::WriteBack(k) => self.holds(k.at),
             Phase::Ended => true,
             Phase::Halted => true,
             Phase::Faulted(_) => true,
@@ -108,8 +112,35 @@ impl Machine {
     }
 }
 
-// By the phase.
+impl Core {
+    // Whether what was read ahead lies in the window, where it is a descriptor.
+    fn seats(self, look: Look) -> bool
+        ensures { λ r. ⌜ r ≡ seatedAs self look ⌝ }
+    {
+        match look {
+            Look::Misaligned => true,
+            Look::Outside => true,
+            Look::There(_) => self.holds(self.pointer.0),
+        }
+    }
+}
+
 impl Machine {
+    // Whether it has what a step needs.
+    pub(crate) fn ready(self) -> bool
+        ensures { λ r. ⌜ r ≡ readyOf self ⌝ }
+    {
+        let core = self.core;
+        let slot = self.slot;
+        match slot {
+            Slot::Empty => core.ready(),
+            Slot::Ahead(look) => core.seats(look) & core.ready(),
+        }
+    }
+}
+
+// By the phase.
+impl Core {
     // Where there is a beat to take, or not, and room for one, or not, and for a record, or not.
     pub(crate) fn wait(self, more: bool, room: bool, keeps: bool) -> Wait
         ensures { λ r. ⌜ Waits stepOf self more room keeps r ⌝ }
@@ -134,16 +165,16 @@ impl Machine {
         }
     }
 
-    // The step out of Rest or Fetch, where it can be taken.
-    pub(crate) fn begin_step(self, window: &[u8]) -> Machine
+    // The step out of Rest or Fetch, where it can be taken. They alone see the slot.
+    pub(crate) fn begin_step(self, window: &[u8], slot: Slot) -> Fetched
         requires { ⌜ Begins self ⌝ }
-        ensures { λ r. ⌜ Still stepOf self (now (window .entry)) r (now (window .entry)) ⌝ }
+        ensures { λ r. ⌜ Begun self slot (now (window .entry)) r ⌝ }
     {
         let phase = self.phase;
         let Phase::Fetch = phase else {
-            return self.enters(Phase::Fetch, true);
+            return self.enters(Phase::Fetch, true).alone();
         };
-        self.fetch_step(window)
+        self.fetch_step(window, slot)
     }
 }
 
@@ -173,7 +204,7 @@ impl Machine {
         if !ledger::serves(ledger, used) {
             return Served::Refused(Refusal::BadLedger);
         }
-        if window.len() != self.window.size() as usize {
+        if window.len() != self.core.window.size() as usize {
             return Served::Refused(Refusal::OtherWindow);
         }
         Served::Serves

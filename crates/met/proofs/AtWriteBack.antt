@@ -8,18 +8,20 @@ use native.Mathlib.Omega.{arith}
 use lib.Dec.{eqb, leb}
 use borrow.Author.Tests.{eq-eqb, leb-false}
 use Rattle.words.specs.declared.Order.the-variants.{LeastFirst}
+use Rattle.words.specs.Orders.{rowBytes}
+use Rattle.words.specs.Slices.{putAt}
 use Rattle.bus.specs.declared.Window.{Window}
 use Rattle.bus.specs.Window.{placeOf}
 use Rattle.regs.specs.declared.Mode.{Mode}
 use Rattle.regs.specs.declared.Count.{Count}
 use Rattle.regs.specs.Control.{run, stopDmaEr, maxDescProcessed, counted}
 use Rattle.image.proofs.Tests.{and-left}
-use Rattle.machine.specs.declared.Machine.{Machine}
+use Rattle.machine.specs.declared.Core.{Core}
 use Rattle.machine.specs.declared.Work.{Work}
 use Rattle.machine.specs.Step.{World, wantsLength, writtenControl, writtenBack, afterBack, completed, backTo, writeBackStep}
 use Rattle.met.proofs.Kept.{Hand, InPhase, RulesKept, on, neither}
 use Rattle.met.proofs.Memory.{row-bytes, put-bytes, length-put-at}
-use Rattle.met.proofs.Worlds.{KeptWorld, After}
+use Rattle.met.proofs.Worlds.{KeptWorld, Leads, laid-kept}
 
 -- the count stays below MAX
 counted-le : (count max : ℕ) → max ≤ 255 → counted count max .count ≤ 254
@@ -39,7 +41,7 @@ back-phase mode w true true h = (refl, refl, h refl)
 back-phase mode w true false h = refl
 back-phase mode w false halts h = refl
 
-module _ {m : Machine} (k : RulesKept m) (d : Work) (h : Hand (m .mode) (m .window) d) where
+module _ {m : Core} (k : RulesKept m) (d : Work) (h : Hand (m .mode) (m .window) d) where
   -- errors only in mode 2
   failed-streams : (b : Bool) → wantsLength (m .mode) ≡ b → not (eqb (d .errors) 0) ≡ true → b ≡ false
   failed-streams true r f = sym f ∙ ap not (eq-eqb _ _ (h .clean r))
@@ -58,19 +60,18 @@ module _ {m : Machine} (k : RulesKept m) (d : Work) (h : Hand (m .mode) (m .wind
             (λ t. failed-streams _ refl (and-left _ (stopDmaEr (m .control)) t));
       }
 
-back-after : {w : World} → KeptWorld w → (d : Work) → Hand (w .machine .mode) (w .machine .window) d → (left : ℕ) → After (backTo w d left)
+back-after : {w : World} → KeptWorld w → (d : Work) → Hand (w .core .mode) (w .core .window) d → (left : ℕ) → Leads (backTo w d left)
 unfolding writtenBack completed
 back-after h d g zero = tt
 back-after {w} h d g (suc left) =
-    let at = placeOf (w .machine .window) (d .at) + 28 in
-    let ys = row-bytes LeastFirst (2 ∷ 1 ∷ 1 ∷ []) (d .moved ∷ d .errors ∷ writtenControl (w .machine) d ∷ []) in
-    record {
-      machine = completed-kept (h .machine) d g;
-      size = length-put-at (w .memory) at _ ∙ h .size;
-      memory = put-bytes (w .memory) at _ (h .memory) ys;
-      input = h .input;
-    }
+    let at = placeOf (w .core .window) (d .at) + 28 in
+    let numbers = d .moved ∷ d .errors ∷ writtenControl (w .core) d ∷ [] in
+    let four = rowBytes LeastFirst (2 ∷ 1 ∷ 1 ∷ []) numbers in
+    let k =
+    laid-kept h (completed (w .core) d) (putAt (w .memory) at four) (w .input) (w .output) (w .room) refl refl (completed-kept (h .core) d g) (length-put-at (w .memory) at four)
+    (put-bytes (w .memory) at four (h .memory) (row-bytes LeastFirst (2 ∷ 1 ∷ 1 ∷ []) numbers)) (h .input) in
+    record { core = k .core; slot = k .slot; run = k .run; size = k .size; memory = k .memory; input = k .input }
 
-pub write-back-after : {w : World} → KeptWorld w → (d : Work) → Hand (w .machine .mode) (w .machine .window) d → After (writeBackStep w d)
+pub write-back-after : {w : World} → KeptWorld w → (d : Work) → Hand (w .core .mode) (w .core .window) d → Leads (writeBackStep w d)
 unfolding writeBackStep
 write-back-after {w} h d g = back-after h d g (w .left)

@@ -1,7 +1,7 @@
 -- A machine is sound exactly where its parts are kept.
 -- Assumes nothing.
 use Prim.Native.Nat.{ℕ, _≤_, _<_}
-use mathlib.Core.Path.{_≡_, refl, sym, ap, _∙_}
+use mathlib.Core.Path.{_≡_, refl, sym, ap, subst, subst⁻¹, _∙_}
 use mathlib.Core.Bool.{Bool, true, false, not, cond, _&&_, _||_, or-true, or-comm}
 use native.Mathlib.Omega.{arith}
 use lib.Dec.{eqb}
@@ -22,16 +22,26 @@ use Rattle.image.proofs.EachRule.{Each, each-rule, each-keeps}
 use Rattle.image.proofs.Windows.{stands-in}
 use Rattle.image.proofs.Facts as fact
 use Rattle.image.proofs.Answers.{keeps, kept-none}
+use Rattle.descriptor.specs.declared.Look.{Look}
+use Rattle.descriptor.specs.declared.Look.the-variants.{Misaligned, Outside, There}
+use Rattle.descriptor.specs.Looking.{WordsFit, isZero}
+use Rattle.descriptor.proofs.Looks.{zero-none, no-words-fit}
+use Rattle.image.specs.declared.Tail.{Tail}
+use Rattle.image.specs.Slot.{descriptor}
+use Rattle.image.proofs.Slots.{SlotKept, empty-kept, held-kept}
+use Rattle.machine.specs.declared.Core.{Core}
+use Rattle.machine.specs.declared.Slot.{Slot}
+use Rattle.machine.specs.declared.Slot.the-variants.{Empty, Ahead}
 use Rattle.machine.specs.declared.Machine.{Machine}
 use Rattle.machine.specs.declared.Work.{Work}
 use Rattle.machine.specs.declared.Phase.{Phase}
 use Rattle.machine.specs.declared.Phase.the-variants.{Rest, Fetch, Move, WriteBack, Ended, Halted, Faulted}
 use Rattle.machine.specs.State.{phaseNumber, withPhase}
-use Rattle.machine.specs.Saved.{none, inHand, faultIn, fieldsOf}
+use Rattle.machine.specs.Saved.{none, inHand, faultIn, fieldsOf, kindOf, bytesOf, tailWith, tailOf}
 use Rattle.machine.specs.Step.{wantsLength}
 use Rattle.met.specs.Sound.{Sound}
 use Rattle.met.proofs.Numbers.{status-lt-32, error-bit, eop-bit, busy-bit}
-use Rattle.met.proofs.Kept.{Hand, Moving, Moved, Suits, RulesKept}
+use Rattle.met.proofs.Kept.{Hand, Moving, Moved, Suits, RulesKept, HoldsIn, MachineKept}
 
 -- ---- tests from facts
 
@@ -136,15 +146,16 @@ module _ (mode : Mode) (w : Window) (k : Work) (h : Hand mode w k) where
 -- ---- from the parts to the rules
 
 -- at a phase
-module _ (m : Machine) (p : Phase) (k : RulesKept m) where
+module _ (m : Core) (p : Phase) (k : RulesKept m) where
   abbrev at : ℕ
   at = phaseNumber p
 
   each-at : rule.phaseKept (modeNumber (m .mode)) at ≡ true → rule.faultKept (modeNumber (m .mode)) at (faultIn p .code) ≡ true
       → m .status .busy ≡ between 1 4 at → (rule.inEnded at || rule.inHalted at ⇒ run (m .control)) ≡ true
       → HandRules (m .mode) (m .window) at (inHand p) → (rule._outside_ (eqb (faultIn p .address) 0) (rule.inFaulted at)) ≡ true
-      → Each (fieldsOf (withPhase p m))
-  each-at phase fault busy runs hand faultat =
+      → (t : Tail) → t .zero6 ≡ 0 → SlotKept at (m .window .base) (m .window .length) (m .pointer .0) (t .kind) (t .at) (t .raw)
+      → Each (fieldsOf (withPhase p m)) t
+  each-at phase fault busy runs hand faultat t zero6 slot =
       record {
         edition = refl;
         mode = le-leb _ _ (mode-le (m .mode));
@@ -164,22 +175,27 @@ module _ (m : Machine) (p : Phase) (k : RulesKept m) where
         eop = hand .eop;
         zero15 = refl;
         faultat = faultat;
+        kind = slot .kind;
+        zero6 = eq-eqb _ _ zero6;
+        at = slot .at;
+        raw = slot .raw;
       }
 
-each-in : (m : Machine) (p : Phase) → RulesKept m → Suits m p → Each (fieldsOf (withPhase p m))
-each-in m Rest k h = each-at m Rest k refl refl h refl (no-hand (m .mode) (m .window) 0 refl refl) refl
-each-in m Fetch k h = each-at m Fetch k refl refl h refl (no-hand (m .mode) (m .window) 1 refl refl) refl
-each-in m (Move w) k (b, h, g) =
+each-in : (m : Core) (p : Phase) → RulesKept m → Suits m p → (t : Tail) → t .zero6 ≡ 0
+    → SlotKept (phaseNumber p) (m .window .base) (m .window .length) (m .pointer .0) (t .kind) (t .at) (t .raw) → Each (fieldsOf (withPhase p m)) t
+each-in m Rest k h t z s = each-at m Rest k refl refl h refl (no-hand (m .mode) (m .window) 0 refl refl) refl t z s
+each-in m Fetch k h t z s = each-at m Fetch k refl refl h refl (no-hand (m .mode) (m .window) 1 refl refl) refl t z s
+each-in m (Move w) k (b, h, g) t z s =
     let r = move-rule (m .mode) (m .window) w h g in
-    each-at m (Move w) k refl refl b refl (in-hand (m .mode) (m .window) 2 w (k .limits) refl h (r .0) (r .1)) refl
-each-in m (WriteBack w) k (b, h, g) =
+    each-at m (Move w) k refl refl b refl (in-hand (m .mode) (m .window) 2 w (k .limits) refl h (r .0) (r .1)) refl t z s
+each-in m (WriteBack w) k (b, h, g) t z s =
     let r = back-rule (m .mode) (m .window) w h g in
-    each-at m (WriteBack w) k refl refl b refl (in-hand (m .mode) (m .window) 3 w (k .limits) refl h (r .0) (r .1)) refl
-each-in m Ended k (b, r) = each-at m Ended k refl refl b r (no-hand (m .mode) (m .window) 4 refl refl) refl
-each-in m Halted k (b, r, s) =
-    each-at m Halted k (streams (m .mode) ∙ ap not s) refl b r (no-hand (m .mode) (m .window) 5 refl refl) refl
-each-in m (Faulted f) k (b, c, a) =
-    each-at m (Faulted f) k refl (both c refl) b refl (no-hand (m .mode) (m .window) 6 refl refl) refl
+    each-at m (WriteBack w) k refl refl b refl (in-hand (m .mode) (m .window) 3 w (k .limits) refl h (r .0) (r .1)) refl t z s
+each-in m Ended k (b, r) t z s = each-at m Ended k refl refl b r (no-hand (m .mode) (m .window) 4 refl refl) refl t z s
+each-in m Halted k (b, r, u) t z s =
+    each-at m Halted k (streams (m .mode) ∙ ap not u) refl b r (no-hand (m .mode) (m .window) 5 refl refl) refl t z s
+each-in m (Faulted f) k (b, c, a) t z s =
+    each-at m (Faulted f) k refl (both c refl) b refl (no-hand (m .mode) (m .window) 6 refl refl) refl t z s
 
 -- L is a number of 16 bits
 asked-lt : (mode n : ℕ) → n < 65536 → rule.asked mode n < 65536
@@ -189,45 +205,87 @@ asked-lt mode n h = pick (eqb mode 2 && eqb n 0)
     pick true = omega arith
     pick false = h
 
-typed-in : (m : Machine) (p : Phase) → RulesKept m → Suits m p → Typed (fieldsOf (withPhase p m))
-typed-in m Rest k h = let a = k .pointer in omega arith
-typed-in m Fetch k h = let a = k .pointer in omega arith
-typed-in m (Move w) k (b, h, g) =
-    let a = k .pointer in
+typed-in : (m : Core) (p : Phase) → RulesKept m → Suits m p → (t : Tail) → t .at < 4294967296 → WordsFit (t .raw) → t .run < 4294967296
+    → Typed (fieldsOf (withPhase p m)) t
+typed-in m Rest k h t a r n =
+    record { pointer = k .pointer; address = omega arith; source = omega arith; destination = omega arith; size = omega arith; dcontrol = omega arith; moved = omega arith; faultat = omega arith; at = a; raw = r; run = n }
+typed-in m Fetch k h t a r n =
+    record { pointer = k .pointer; address = omega arith; source = omega arith; destination = omega arith; size = omega arith; dcontrol = omega arith; moved = omega arith; faultat = omega arith; at = a; raw = r; run = n }
+typed-in m (Move w) k (b, h, g) t a r n =
     let l = asked-lt (modeNumber (m .mode)) (w .length) (h .length) in
-    omega arith
-typed-in m (WriteBack w) k (b, h, g) =
-    let a = k .pointer in
+    record { pointer = k .pointer; address = h .at; source = h .source; destination = h .destination; size = h .length; dcontrol = h .control; moved = (let x = g .less in omega arith); faultat = omega arith; at = a; raw = r; run = n }
+typed-in m (WriteBack w) k (b, h, g) t a r n =
     let l = asked-lt (modeNumber (m .mode)) (w .length) (h .length) in
-    omega arith
-typed-in m Ended k h = let a = k .pointer in omega arith
-typed-in m Halted k h = let a = k .pointer in omega arith
-typed-in m (Faulted f) k (b, c, h) = let a = k .pointer in omega arith
+    record { pointer = k .pointer; address = h .at; source = h .source; destination = h .destination; size = h .length; dcontrol = h .control; moved = (let x = g .most in omega arith); faultat = omega arith; at = a; raw = r; run = n }
+typed-in m Ended k h t a r n =
+    record { pointer = k .pointer; address = omega arith; source = omega arith; destination = omega arith; size = omega arith; dcontrol = omega arith; moved = omega arith; faultat = omega arith; at = a; raw = r; run = n }
+typed-in m Halted k h t a r n =
+    record { pointer = k .pointer; address = omega arith; source = omega arith; destination = omega arith; size = omega arith; dcontrol = omega arith; moved = omega arith; faultat = omega arith; at = a; raw = r; run = n }
+typed-in m (Faulted f) k (b, c, h) t a r n =
+    record { pointer = k .pointer; address = omega arith; source = omega arith; destination = omega arith; size = omega arith; dcontrol = omega arith; moved = omega arith; faultat = h; at = a; raw = r; run = n }
 
-pub kept-sound : {m : Machine} → RulesKept m → Sound m
+-- ---- what was read ahead
+
+-- no look is the kind of an empty slot
+zero-bytes : (look : Look) → (eqb (kindOf look) descriptor || isZero (bytesOf look)) ≡ true
+zero-bytes Misaligned = zero-none
+zero-bytes Outside = zero-none
+zero-bytes (There r) = refl
+
+slot-rules : (n : ℕ) (w : Window) (pointer number : ℕ) → keepsLimits (w .base) (w .length) ≡ true → (s : Slot) → HoldsIn n w pointer s
+    → (let t = tailWith s pointer number in SlotKept n (w .base) (w .length) pointer (t .kind) (t .at) (t .raw))
+slot-rules n w pointer number l Empty h = empty-kept n (w .base) (w .length) pointer
+slot-rules n w pointer number l (Ahead look) h =
+    subst⁻¹ (λ (k : ℕ). SlotKept n (w .base) (w .length) pointer k pointer (bytesOf look)) (h .1 .kind)
+    (held-kept n (w .base) (w .length) pointer (bytesOf look) (h .0) l
+    (subst (λ (k : ℕ). (eqb k descriptor || isZero (bytesOf look)) ≡ true) (h .1 .kind) (zero-bytes look)))
+
+zero-there : (s : Slot) (pointer number : ℕ) → tailWith s pointer number .zero6 ≡ 0
+zero-there Empty pointer number = refl
+zero-there (Ahead look) pointer number = refl
+
+at-typed : (s : Slot) (pointer number : ℕ) → pointer < 4294967296 → tailWith s pointer number .at < 4294967296
+at-typed Empty pointer number h = omega arith
+at-typed (Ahead look) pointer number h = h
+
+raw-typed : (n : ℕ) (w : Window) (s : Slot) (pointer number : ℕ) → HoldsIn n w pointer s → WordsFit (tailWith s pointer number .raw)
+raw-typed n w Empty pointer number h = no-words-fit
+raw-typed n w (Ahead look) pointer number h = h .1 .fits
+
+run-there : (s : Slot) (pointer number : ℕ) → tailWith s pointer number .run ≡ number
+run-there Empty pointer number = refl
+run-there (Ahead look) pointer number = refl
+
+pub kept-sound : {m : Machine} → MachineKept m → Sound m
 kept-sound {m} k =
+    let c = m .core in
+    let a = c .pointer .0 in
+    let r = k .core in
     record {
-      rules = keeps (fieldsOf m) (each-keeps (fieldsOf m) (each-in m (m .phase) k (k .phase)));
-      typed = typed-in m (m .phase) k (k .phase);
+      rules = keeps (fieldsOf c) (tailOf m)
+          (each-keeps (fieldsOf c) (tailOf m)
+          (each-in c (c .phase) r (r .phase) (tailOf m) (zero-there (m .slot) a (m .run)) (slot-rules (phaseNumber (c .phase)) (c .window) a (m .run) (r .limits) (m .slot) (k .slot))));
+      typed = typed-in c (c .phase) r (r .phase) (tailOf m) (at-typed (m .slot) a (m .run) (r .pointer)) (raw-typed (phaseNumber (c .phase)) (c .window) (m .slot) a (m .run) (k .slot))
+          (subst⁻¹ (λ (n : ℕ). n < 4294967296) (run-there (m .slot) a (m .run)) (k .run));
     }
 
 -- ---- from the rules to the parts
 
-module _ (m : Machine) (p : Phase) (e : lowestBroken (fieldsOf (withPhase p m)) ≡ 0) (t : Typed (fieldsOf (withPhase p m))) where
+module _ (m : Core) (p : Phase) (u : Tail) (e : lowestBroken (fieldsOf (withPhase p m)) u ≡ 0) (t : Typed (fieldsOf (withPhase p m)) u) where
   busy-in : m .status .busy ≡ between 1 4 (phaseNumber p)
-  busy-in = sym (busy-bit (m .status)) ∙ fact.busy-is (fieldsOf (withPhase p m)) e
+  busy-in = sym (busy-bit (m .status)) ∙ fact.busy-is (fieldsOf (withPhase p m)) u e
 
   hand-in : rule.working (phaseNumber p) ≡ true → Hand (m .mode) (m .window) (inHand p)
   hand-in h =
       let f = fieldsOf (withPhase p m) in
       record {
-        aligned = fact.address-aligned f e h;
-        inside = fact.address-inside f e h;
-        hardware = fact.dcontrol-owned f e h;
-        low = fact.errors-lt f e;
-        nonzero = λ r. fact.memory-size f e (reads (m .mode) ∙ r) h;
-        clean = λ r. fact.memory-errors f e (reads (m .mode) ∙ r);
-        noEop = λ r. fact.memory-eop f e (reads (m .mode) ∙ r);
+        aligned = fact.address-aligned f u e h;
+        inside = fact.address-inside f u e h;
+        hardware = fact.dcontrol-owned f u e h;
+        low = fact.errors-lt f u e;
+        nonzero = λ r. fact.memory-size f u e (reads (m .mode) ∙ r) h;
+        clean = λ r. fact.memory-errors f u e (reads (m .mode) ∙ r);
+        noEop = λ r. fact.memory-eop f u e (reads (m .mode) ∙ r);
         at = t .address;
         source = t .source;
         destination = t .destination;
@@ -235,39 +293,56 @@ module _ (m : Machine) (p : Phase) (e : lowestBroken (fieldsOf (withPhase p m)) 
         control = t .dcontrol;
       }
 
-in-phase : (m : Machine) (p : Phase) → lowestBroken (fieldsOf (withPhase p m)) ≡ 0 → Typed (fieldsOf (withPhase p m)) → Suits m p
-in-phase m Rest e t = busy-in m Rest e t
-in-phase m Fetch e t = busy-in m Fetch e t
-in-phase m (Move k) e t =
+in-phase : (m : Core) (p : Phase) (u : Tail) → lowestBroken (fieldsOf (withPhase p m)) u ≡ 0 → Typed (fieldsOf (withPhase p m)) u → Suits m p
+in-phase m Rest u e t = busy-in m Rest u e t
+in-phase m Fetch u e t = busy-in m Fetch u e t
+in-phase m (Move k) u e t =
     let f = fieldsOf (withPhase (Move k) m) in (
-      busy-in m (Move k) e t,
-      hand-in m (Move k) e t refl,
-      record { less = fact.move-lt f e refl; eop = fact.move-eop f e refl; errors = fact.move-errors f e refl },
+      busy-in m (Move k) u e t,
+      hand-in m (Move k) u e t refl,
+      record { less = fact.move-lt f u e refl; eop = fact.move-eop f u e refl; errors = fact.move-errors f u e refl },
     )
-in-phase m (WriteBack k) e t =
+in-phase m (WriteBack k) u e t =
     let f = fieldsOf (withPhase (WriteBack k) m) in (
-      busy-in m (WriteBack k) e t,
-      hand-in m (WriteBack k) e t refl,
-      record { some = fact.back-ge f e refl; most = fact.back-le f e refl; whole = fact.back-whole f e refl },
+      busy-in m (WriteBack k) u e t,
+      hand-in m (WriteBack k) u e t refl,
+      record { some = fact.back-ge f u e refl; most = fact.back-le f u e refl; whole = fact.back-whole f u e refl },
     )
-in-phase m Ended e t = (busy-in m Ended e t, fact.run-set (fieldsOf (withPhase Ended m)) e refl)
-in-phase m Halted e t = (
-  busy-in m Halted e t,
-  fact.run-set (fieldsOf (withPhase Halted m)) e refl,
-  not-true _ (sym (streams (m .mode)) ∙ eq-eqb _ _ (fact.halted-mode (fieldsOf (withPhase Halted m)) e refl)),
+in-phase m Ended u e t = (busy-in m Ended u e t, fact.run-set (fieldsOf (withPhase Ended m)) u e refl)
+in-phase m Halted u e t = (
+  busy-in m Halted u e t,
+  fact.run-set (fieldsOf (withPhase Halted m)) u e refl,
+  not-true _ (sym (streams (m .mode)) ∙ eq-eqb _ _ (fact.halted-mode (fieldsOf (withPhase Halted m)) u e refl)),
 )
-in-phase m (Faulted f) e t =
-    (busy-in m (Faulted f) e t, fact.fault-code (fieldsOf (withPhase (Faulted f) m)) e refl, t .faultat)
+in-phase m (Faulted f) u e t =
+    (busy-in m (Faulted f) u e t, fact.fault-code (fieldsOf (withPhase (Faulted f) m)) u e refl, t .faultat)
 
-pub sound-kept : {m : Machine} → Sound m → RulesKept m
+-- what was read ahead
+seat-kept : (c : Core) (number : ℕ) (s : Slot) → (let t = tailWith s (c .pointer .0) number in
+    lowestBroken (fieldsOf c) t ≡ 0 → WordsFit (t .raw) → HoldsIn (phaseNumber (c .phase)) (c .window) (c .pointer .0) s)
+seat-kept c number Empty e f = tt
+seat-kept c number (Ahead Misaligned) e f = let t = tailWith (Ahead Misaligned) (c .pointer .0) number in
+    (fact.held-phase (fieldsOf c) t e refl, record { kind = fact.held-kind (fieldsOf c) t e refl; fits = f })
+seat-kept c number (Ahead Outside) e f = let t = tailWith (Ahead Outside) (c .pointer .0) number in
+    (fact.held-phase (fieldsOf c) t e refl, record { kind = fact.held-kind (fieldsOf c) t e refl; fits = f })
+seat-kept c number (Ahead (There r)) e f = let t = tailWith (Ahead (There r)) (c .pointer .0) number in
+    (fact.held-phase (fieldsOf c) t e refl, record { kind = fact.held-kind (fieldsOf c) t e refl; fits = f })
+
+pub sound-kept : {m : Machine} → Sound m → MachineKept m
 sound-kept {m} s =
-    let f = fieldsOf m in
-    let e = kept-none f (s .rules) in
+    let c = m .core in
+    let f = fieldsOf c in
+    let u = tailOf m in
+    let e = kept-none f u (s .rules) in
     record {
-      limits = each-rule f e .window;
-      marks = λ r. rw (error-bit (m .status), eop-bit (m .status)) at (fact.no-marks f e (streams (m .mode) ∙ ap not r));
-      control = fact.control-lt f e;
-      pointer = s .typed .pointer;
-      count = fact.count-le f e;
-      phase = in-phase m (m .phase) e (s .typed);
+      core = record {
+        limits = each-rule f u e .window;
+        marks = λ r. rw (error-bit (c .status), eop-bit (c .status)) at (fact.no-marks f u e (streams (c .mode) ∙ ap not r));
+        control = fact.control-lt f u e;
+        pointer = s .typed .pointer;
+        count = fact.count-le f u e;
+        phase = in-phase c (c .phase) u e (s .typed);
+      };
+      slot = seat-kept c (m .run) (m .slot) e (s .typed .raw);
+      run = subst (λ (n : ℕ). n < 4294967296) (run-there (m .slot) (c .pointer .0) (m .run)) (s .typed .run);
     }

@@ -3,10 +3,12 @@
 -- Assumes nothing.
 use Prim.Native.Nat.{ℕ}
 use mathlib.Core.Path.{_≡_, refl, sym, ap, subst, _∙_}
+use mathlib.Core.Bool.{Bool, true, false}
 use lib.Dec.{eqb}
 use borrow.Author.Tests.{eqb-true}
 use Rattle.regs.specs.Control as register
 use Rattle.regs.specs.Offsets.{isRegister}
+use Rattle.machine.specs.declared.Core.{Core}
 use Rattle.machine.specs.declared.Machine.{Machine}
 use Rattle.machine.specs.declared.Fault.{Fault}
 use Rattle.machine.specs.declared.Phase.{Phase}
@@ -15,8 +17,9 @@ use Rattle.machine.specs.declared.Reason.the-variants as reason
 use Rattle.machine.specs.declared.registers.WroteRegister.{WroteRegister}
 use Rattle.machine.specs.declared.registers.WroteRegister.the-variants.{Done, Refused}
 use Rattle.machine.specs.Saved.{keeps}
-use Rattle.machine.specs.Registers.{controlStored, released, controlWritten, writeOf}
-use Rattle.machine.specs.Step.{step, stepIn}
+use Rattle.machine.specs.Registers.{controlStored, released, controlWritten, writtenTo, writeOf}
+use Rattle.machine.specs.State.{machineWith}
+use Rattle.machine.specs.Step.{settle, step, stepIn}
 use Rattle.machine.proofs.RunLaws.{run-stopped}
 use Rattle.met.specs.Faults.{AfterWrite, stays, reset}
 use Rattle.met.specs.Theorems.{FaultedStands, OnlyResetLeaves}
@@ -25,32 +28,39 @@ use Rattle.met.proofs.Kept.{on}
 -- No step is taken: a run of any budget ends at once, with that reason.
 pub faulted-stands : FaultedStands
 unfolding step
-faulted-stands w f p budget = run-stopped w reason.Faulted (ap (λ (q : Phase). stepIn q w) p) budget
+faulted-stands w f p budget = run-stopped w reason.Faulted (ap (λ (q : Phase). settle (stepIn q w)) p) budget
 
 abbrev After : (m : Machine) (f : Fault) (v offset : ℕ) → WroteRegister → Type 0
 After m f v offset (Done n) = AfterWrite m f offset v n
 After m f v offset (Refused why) = Unit {0}
 
-module _ (m : Machine) (f : Fault) (p : m .phase ≡ Faulted f) (v : ℕ) where
-  released-stays : released (m .phase) (controlStored v m) .phase ≡ Faulted f
-  released-stays = ap (λ (q : Phase). released q (controlStored v m) .phase) p ∙ p
+module _ (m : Machine) (f : Fault) (p : m .core .phase ≡ Faulted f) (v : ℕ) where
+  released-stays : released (m .core .phase) (controlStored v (m .core)) .phase ≡ Faulted f
+  released-stays = ap (λ (q : Phase). released q (controlStored v (m .core)) .phase) p ∙ p
 
-  after-control : (offset : ℕ) → offset ≡ 4 → AfterWrite m f offset v (controlWritten v m)
+  after-control : (offset : ℕ) → offset ≡ 4
+      → AfterWrite m f offset v (machineWith (controlWritten v (m .core)) (m .slot) (register.runFrom v (m .core .control) (m .run)))
   unfolding controlWritten
-  after-control offset e =
-      on (AfterWrite m f offset v) (register.resetBy v (m .control)) (λ r. reset e r refl)
-      (λ r. on (AfterWrite m f offset v) (register.run (register.asControl v)) (λ g. stays p) (λ g. stays released-stays))
+  after-control offset e = by (register.resetBy v (m .core .control)) refl (register.run (register.asControl v))
+    where
+      by : (b : Bool) → register.resetBy v (m .core .control) ≡ b → Bool
+          → AfterWrite m f offset v (machineWith (controlWritten v (m .core)) (m .slot) (register.runFrom v (m .core .control) (m .run)))
+      by true r runs = reset e r (rw r)
+      by false r runs =
+          stays (rw r (on (λ (c : Core). c .phase ≡ Faulted f) (register.run (register.asControl v)) (λ g. p) (λ g. released-stays)))
 
   after : (offset : ℕ) → After m f v offset (writeOf m offset v)
   unfolding writeOf
   after offset =
       on (After m f v offset) (keeps m)
-      (λ k. on (After m f v offset) (isRegister offset)
-      (λ r. on (AfterWrite m f offset v) (eqb offset 0) (λ a. stays p)
-      (λ a. on (AfterWrite m f offset v) (eqb offset 4) (λ b. after-control offset (eqb-true offset 4 b))
-      (λ b. on (AfterWrite m f offset v) (eqb offset 8) (λ c. stays p) (λ c. stays p))))
-      (λ r. tt))
+      (λ k. on (After m f v offset) (isRegister offset) (λ r. by (eqb offset 0) (eqb offset 4) (eqb offset 8) refl refl refl) (λ r. tt))
       (λ k. tt)
+    where
+      by : (a b c : Bool) → eqb offset 0 ≡ a → eqb offset 4 ≡ b → eqb offset 8 ≡ c → AfterWrite m f offset v (writtenTo m offset v)
+      by true b c e g h = rw e (stays p)
+      by false true c e g h = rw (e, g) (after-control offset (eqb-true offset 4 g))
+      by false false true e g h = rw (e, g, h) (stays p)
+      by false false false e g h = rw (e, g, h) (stays p)
 
 -- Of the register writes only the reset leaves it.
 pub only-reset-leaves : OnlyResetLeaves

@@ -2,7 +2,7 @@
 -- Assumes nothing.
 use Prim.Native.Nat.{ℕ}
 use mathlib.Core.Path.{_≡_, refl, sym, subst}
-use mathlib.Core.Bool.{_&&_}
+use mathlib.Core.Bool.{true, true≢false, _&&_}
 use mathlib.Core.List.{List, [], _∷_}
 use native.Mathlib.Omega.{arith}
 use lib.ListN.{length}
@@ -18,8 +18,15 @@ use Rattle.machine.specs.declared.StepAnswer.{StepAnswer}
 use Rattle.machine.specs.declared.StepAnswer.the-variants as one
 use Rattle.machine.specs.declared.RunAnswer.{RunAnswer}
 use Rattle.machine.specs.declared.RunAnswer.the-variants as many
-use Rattle.machine.specs.Saved.{keeps}
-use Rattle.machine.specs.Step.{World, Answer, taken, stopped, step}
+use Rattle.bus.specs.declared.Window.{Window}
+use Rattle.image.specs.Layout.{Typed}
+use Rattle.machine.specs.declared.Phase.{Phase}
+use Rattle.machine.specs.declared.Phase.the-variants.{Rest, Fetch, Move, WriteBack, Ended, Halted, Faulted}
+use Rattle.machine.specs.declared.Slot.{Slot}
+use Rattle.machine.specs.declared.Slot.the-variants.{Empty, Ahead}
+use Rattle.machine.specs.Saved.{fieldsOf, tailOf, keeps}
+use Rattle.machine.specs.Step.{World, Answer, taken, stopped, machineIn, step}
+use Rattle.machine.specs.State.{phaseNumber, settled}
 use Rattle.machine.specs.Run.{Lent, Returned, Served, serves, refused, even, servedOf, worldOf, steppedAs, stepAnswer, runAnswer, Stepped, HasRun}
 use Rattle.met.specs.Sound.{Sound, AllBeats, SoundWorld}
 use Rattle.met.specs.Met.{Met}
@@ -27,7 +34,8 @@ use Rattle.met.specs.Met as met
 use Rattle.met.specs.Theorems.{MetKeeps, MetSaves}
 use Rattle.met.proofs.RoundTrip.{loaded-keeps, loaded-typed, loads-back}
 use Rattle.met.proofs.Writes.{fresh-keeps, write-keeps}
-use Rattle.met.proofs.Kept.{on}
+use Rattle.met.proofs.Kept.{HoldsIn, settles, on}
+use Rattle.met.proofs.ByParts.{kept-sound, sound-kept}
 use Rattle.met.proofs.Steps.{step-keeps, run-keeps}
 
 -- ---- the world of a call
@@ -42,16 +50,45 @@ abbrev IfServes : Type 0 → Served → Type 0
 IfServes A serves = A
 IfServes A (refused why) = Unit {0}
 
+-- the world's machine is the one that is given: it holds nothing outside Fetch, Move and WriteBack
+open-sound : (m : Machine) (l : Lent) → Sound m → Sound (machineIn (worldOf m l))
+open-sound m l s =
+    let k = sound-kept s in
+    kept-sound
+    (record { core = k .core; slot = settles (phaseNumber (m .core .phase)) (m .core .window) (m .core .pointer .0) (m .core .phase) (m .slot) (k .slot); run = k .run })
+
+-- so that nothing of it changes
+held-same : (p : Phase) (w : Window) (pointer : ℕ) (slot : Slot) → HoldsIn (phaseNumber p) w pointer slot → settled p slot ≡ slot
+held-same Rest w pointer Empty h = refl
+held-same Rest w pointer (Ahead look) h = absurd (true≢false (sym (h .0)))
+held-same Fetch w pointer slot h = refl
+held-same (Move k) w pointer slot h = refl
+held-same (WriteBack k) w pointer slot h = refl
+held-same Ended w pointer Empty h = refl
+held-same Ended w pointer (Ahead look) h = absurd (true≢false (sym (h .0)))
+held-same Halted w pointer Empty h = refl
+held-same Halted w pointer (Ahead look) h = absurd (true≢false (sym (h .0)))
+held-same (Faulted f) w pointer Empty h = refl
+held-same (Faulted f) w pointer (Ahead look) h = absurd (true≢false (sym (h .0)))
+
+pub opened-same : (m : Machine) → keeps m ≡ true → Typed (fieldsOf (m .core)) (tailOf m)
+    → _≡_ {A = Machine} (record { core = m .core; slot = settled (m .core .phase) (m .slot); run = m .run }) m
+opened-same m k t =
+    let s : Sound m = record { rules = k; typed = t } in
+    let h = sound-kept s .slot in
+    λ i. record { core = m .core; slot = held-same (m .core .phase) (m .core .window) (m .core .pointer .0) (m .slot) h i; run = m .run }
+
 lent-sound : (m : Machine) (l : Lent) → Sound m → AllBytes (l .window) → AllBytes (l .beats)
     → IfServes (SoundWorld (worldOf m l)) (servedOf m l)
 unfolding servedOf
 lent-sound m l s g b =
+    let opened = open-sound m l s in
     let P = IfServes (SoundWorld (worldOf m l)) in
     on P (keeps m)
     (λ k. on P (even (l .beats) && even (l .out))
     (λ e. on P (isLedger (length (l .ledger)) (l .used))
-    (λ d. on P (eqb (length (l .window)) (m .window .length))
-    (λ n. record { machine = s; size = eqb-true _ _ n; memory = g; input = beats-of (l .beats) b }) (λ n. tt))
+    (λ d. on P (eqb (length (l .window)) (m .core .window .length))
+    (λ n. record { machine = opened; size = eqb-true _ _ n; memory = g; input = beats-of (l .beats) b }) (λ n. tt))
     (λ d. tt))
     (λ e. tt))
     (λ k. tt)

@@ -1,20 +1,27 @@
 -- The image rules, as what they ask of a machine's parts: of each phase what it needs, and of the rest the same in all phases.
 -- Assumes nothing.
-use Prim.Native.Nat.{_%_, _≤_, _<_}
+use Prim.Native.Nat.{ℕ, _%_, _≤_, _<_}
 use mathlib.Core.Path.{_≡_, refl}
 use mathlib.Core.Bool.{Bool, true, false, cond, _||_, true≢false}
 use Rattle.bus.specs.declared.Window.{Window}
 use Rattle.bus.specs.Window.{keepsLimits, inWindow}
+use Rattle.descriptor.specs.declared.Look.{Look}
 use Rattle.descriptor.specs.Layout.{owned}
+use Rattle.descriptor.specs.Looking.{WordsFit}
 use Rattle.regs.specs.declared.Mode.{Mode}
 use Rattle.regs.specs.Modes.{modeNumber}
 use Rattle.regs.specs.Control.{run}
-use Rattle.image.specs.Rules.{asked, faultCode}
+use Rattle.image.specs.Rules.{between, asked, faultCode}
+use Rattle.image.specs.Slot.{kindAt}
+use Rattle.machine.specs.declared.Core.{Core}
+use Rattle.machine.specs.declared.Slot.{Slot}
+use Rattle.machine.specs.declared.Slot.the-variants.{Empty, Ahead}
 use Rattle.machine.specs.declared.Machine.{Machine}
 use Rattle.machine.specs.declared.Work.{Work}
 use Rattle.machine.specs.declared.Phase.{Phase}
 use Rattle.machine.specs.declared.Phase.the-variants.{Rest, Fetch, Move, WriteBack, Ended, Halted, Faulted}
-use Rattle.machine.specs.State.{withPhase, withBusy}
+use Rattle.machine.specs.State.{phaseNumber, withPhase, withBusy, settled}
+use Rattle.machine.specs.Saved.{kindOf, bytesOf}
 use Rattle.machine.specs.Step.{wantsLength}
 
 -- ---- the descriptor in hand
@@ -46,7 +53,7 @@ pub record Moved (mode : Mode) (k : Work) : Type 0 where
   pub most : k .moved ≤ asked (modeNumber mode) (k .length)
   pub whole : k .eop ≡ false → k .moved ≡ asked (modeNumber mode) (k .length)
 
--- ---- the machine
+-- ---- the core
 
 abbrev pub InPhase : Mode → Window → (busy run : Bool) → Phase → Type 0
 InPhase mode w busy run Rest = busy ≡ false
@@ -58,11 +65,11 @@ InPhase mode w busy run Halted = (busy ≡ false) × (run ≡ true) × (wantsLen
 InPhase mode w busy run (Faulted f) =
     (busy ≡ false) × (faultCode (modeNumber mode) (f .code) ≡ true) × (f .address < 4294967296)
 
--- the machine's mode, window, BUSY and RUN suit the phase
-abbrev pub Suits : Machine → Phase → Type 0
+-- the core's mode, window, BUSY and RUN suit the phase
+abbrev pub Suits : Core → Phase → Type 0
 Suits m p = InPhase (m .mode) (m .window) (m .status .busy) (run (m .control)) p
 
-pub record RulesKept (m : Machine) : Type 0 where
+pub record RulesKept (m : Core) : Type 0 where
   pub limits : keepsLimits (m .window .base) (m .window .length) ≡ true
   pub marks : wantsLength (m .mode) ≡ true → (m .status .error || m .status .eop) ≡ false
   pub control : m .control .0 < 262144
@@ -71,7 +78,7 @@ pub record RulesKept (m : Machine) : Type 0 where
   pub phase : Suits m (m .phase)
 
 -- where only the phase and BUSY change, only what the phase asks is to be shown again
-pub moves-to : {m : Machine} → RulesKept m → (p : Phase) (busy : Bool) → InPhase (m .mode) (m .window) busy (run (m .control)) p
+pub moves-to : {m : Core} → RulesKept m → (p : Phase) (busy : Bool) → InPhase (m .mode) (m .window) busy (run (m .control)) p
     → RulesKept (withPhase p (withBusy busy m))
 moves-to k p busy h =
     record { limits = k .limits; marks = k .marks; control = k .control; pointer = k .pointer; count = k .count; phase = h }
@@ -84,3 +91,35 @@ on P false f g = g refl
 pub neither : (a b : Bool) → (a || b) ≡ false → (a ≡ false) × (b ≡ false)
 neither false b e = (refl, e)
 neither true b e = absurd (true≢false e)
+
+-- ---- what was read ahead
+
+-- it is what the look at the pointer finds, and its words are of 32 bits
+pub record LookKept (w : Window) (pointer : ℕ) (look : Look) : Type 0 where
+  pub kind : kindOf look ≡ kindAt w pointer
+  pub fits : WordsFit (bytesOf look)
+
+-- a held slot stands only in Fetch, Move and WriteBack
+abbrev pub HoldsIn : (phase : ℕ) → Window → (pointer : ℕ) → Slot → Type 0
+HoldsIn phase w pointer Empty = Unit {0}
+HoldsIn phase w pointer (Ahead look) = (between 1 3 phase ≡ true) × LookKept w pointer look
+
+-- what a phase leaves of it is kept there
+pub settles : (n : ℕ) (w : Window) (pointer : ℕ) (p : Phase) (slot : Slot) → HoldsIn n w pointer slot → HoldsIn (phaseNumber p) w pointer (settled p slot)
+settles n w pointer Rest slot h = tt
+settles n w pointer Fetch Empty h = tt
+settles n w pointer Fetch (Ahead look) h = (refl, h .1)
+settles n w pointer (Move k) Empty h = tt
+settles n w pointer (Move k) (Ahead look) h = (refl, h .1)
+settles n w pointer (WriteBack k) Empty h = tt
+settles n w pointer (WriteBack k) (Ahead look) h = (refl, h .1)
+settles n w pointer Ended slot h = tt
+settles n w pointer Halted slot h = tt
+settles n w pointer (Faulted f) slot h = tt
+
+-- ---- the machine
+
+pub record MachineKept (m : Machine) : Type 0 where
+  pub core : RulesKept (m .core)
+  pub slot : HoldsIn (phaseNumber (m .core .phase)) (m .core .window) (m .core .pointer .0) (m .slot)
+  pub run : m .run < 4294967296

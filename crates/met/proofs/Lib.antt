@@ -11,5 +11,7 @@ pub mod AtWriteBack
 pub mod Steps
 pub mod InUse
 pub mod Faults
+pub mod Fetches
 pub mod Reading
 pub mod Unused
+pub mod RunNumber

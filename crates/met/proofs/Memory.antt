@@ -21,8 +21,9 @@ use Rattle.words.proofs.Orders.{length-order}
 use Rattle.words.proofs.Slices.{length-put}
 use Rattle.descriptor.specs.declared.Descriptor.{Descriptor}
 use Rattle.descriptor.specs.declared.Raw.{Raw}
-use Rattle.descriptor.specs.Looking.{eightWords, rawWords, rawBytes, namedIn}
+use Rattle.descriptor.specs.Looking.{rawBytes, namedIn}
 use Rattle.descriptor.specs.RoundTrip.{Typed, jobOf}
+use Rattle.descriptor.proofs.Looks.{raw-bytes}
 use Rattle.descriptor.proofs.Reading.{by-offset}
 use Rattle.met.proofs.Kept.{on}
 
@@ -80,7 +81,7 @@ pub named-typed : (r : Raw) → Typed (jobOf (namedIn r))
 unfolding namedIn
 named-typed r =
     let ys = rawBytes r in
-    let b : AllBytes ys = row-bytes LeastFirst eightWords (rawWords r) in
+    let b : AllBytes ys = raw-bytes r in
     subst (λ (d : Descriptor). Typed (jobOf d)) (sym (by-offset ys))
     (record {
       source = part-lt ys 0 4 b (omega arith);

@@ -8,15 +8,15 @@ use Rattle.machine.specs.Step.{World, Answer, taken, stopped, stepIn, step}
 use Rattle.machine.specs.Run.{runOn, run}
 use Rattle.met.specs.Theorems.{StepKeeps, RunKeeps}
 use Rattle.met.proofs.Kept.{Suits}
-use Rattle.met.proofs.Worlds.{KeptWorld, sound-world, kept-world, After, rest-after}
+use Rattle.met.proofs.Worlds.{KeptWorld, sound-world, kept-world, After, Leads, settles-after, rest-after}
 use Rattle.met.proofs.AtFetch.{fetch-after}
 use Rattle.met.proofs.AtMove.{move-after}
 use Rattle.met.proofs.AtWriteBack.{write-back-after}
 
-step-in : {w : World} → KeptWorld w → (p : Phase) → Suits (w .machine) p → After (stepIn p w)
+step-in : {w : World} → KeptWorld w → (p : Phase) → Suits (w .core) p → Leads (stepIn p w)
 step-in h Rest s = rest-after h
 step-in h Fetch s = fetch-after h s
-step-in {w} h (Move d) (b, g, l) = move-after h d b g l (w .machine .mode) refl
+step-in {w} h (Move d) (b, g, l) = move-after h d b g l (w .core .mode) refl
 step-in h (WriteBack d) (b, g, l) = write-back-after h d g
 step-in h Ended s = tt
 step-in h Halted s = tt
@@ -24,7 +24,7 @@ step-in h (Faulted f) s = tt
 
 step-after : {w : World} → KeptWorld w → After (step w)
 unfolding step
-step-after {w} h = step-in h (w .machine .phase) (h .machine .phase)
+step-after {w} h = settles-after (stepIn (w .core .phase) w) (step-in h (w .core .phase) (h .core .phase))
 
 run-on : (n : ℕ) {w : World} (a : Answer) → KeptWorld w → After a → KeptWorld (runOn n w a .world)
 run-on zero (stopped r) h s = h

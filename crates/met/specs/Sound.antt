@@ -9,12 +9,12 @@ use lib.ListN.{length}
 use Rattle.words.specs.Slices.{AllBytes}
 use Rattle.image.specs.Layout.{Typed}
 use Rattle.machine.specs.declared.Machine.{Machine}
-use Rattle.machine.specs.Saved.{fieldsOf, keeps}
-use Rattle.machine.specs.Step.{World}
+use Rattle.machine.specs.Saved.{fieldsOf, tailOf, keeps}
+use Rattle.machine.specs.Step.{World, machineIn}
 
 pub record Sound (m : Machine) : Type 0 where
   pub rules : keeps m ≡ true
-  pub typed : Typed (fieldsOf m)
+  pub typed : Typed (fieldsOf (m .core)) (tailOf m)
 
 -- beats are numbers of 16 bits
 abbrev pub AllBeats : List ℕ → Type 0
@@ -23,7 +23,7 @@ AllBeats (b ∷ bs) = (b < 2 ^ 16) × AllBeats bs
 
 -- a sound machine over a window of its length
 pub record SoundWorld (w : World) : Type 0 where
-  pub machine : Sound (w .machine)
-  pub size : length (w .memory) ≡ w .machine .window .length
+  pub machine : Sound (machineIn w)
+  pub size : length (w .memory) ≡ w .core .window .length
   pub memory : AllBytes (w .memory)
   pub input : AllBeats (w .input)

@@ -2,15 +2,23 @@
 -- Assumes nothing.
 use Prim.Native.Nat.{ℕ, _^_, _<_}
 use mathlib.Core.Path.{_≡_}
-use mathlib.Core.Bool.{true, false}
+use mathlib.Core.Bool.{true, false, not, cond, _&&_}
 use mathlib.Core.List.{List}
-use mathlib.Core.Logic.{_↔_}
+use mathlib.Core.Logic.{_↔_, _≢_}
 use lib.ListN.{length}
 use Rattle.words.specs.Bits.{bit}
 use Rattle.words.specs.Numbers.{Fit}
 use Rattle.words.specs.Slices.{AllBytes}
 use Rattle.image.specs.Layout.{values, widths, image, Typed}
+use Rattle.descriptor.specs.declared.Raw.{Raw}
+use Rattle.descriptor.specs.declared.Look.the-variants.{There}
+use Rattle.descriptor.specs.Looking.{namedIn, lookAt, WordsFit}
+use Rattle.regs.specs.Control as control
+use Rattle.regs.specs.Control.{raised}
+use Rattle.machine.specs.declared.Core.{Core}
+use Rattle.machine.specs.declared.Slot.{Slot}
 use Rattle.machine.specs.declared.Machine.{Machine}
+use Rattle.machine.specs.State.{home, settled}
 use Rattle.machine.specs.declared.Work.{Work}
 use Rattle.machine.specs.declared.Fault.{Fault}
 use Rattle.machine.specs.declared.Phase.the-variants.{Fetch, Move, WriteBack, Faulted}
@@ -20,37 +28,37 @@ use Rattle.machine.specs.declared.LoadedMachine.the-variants.{Good, Refused}
 use Rattle.machine.specs.declared.SavedMachine.{SavedMachine}
 use Rattle.machine.specs.declared.SavedMachine.the-variants as saved
 use Rattle.machine.specs.declared.registers.WroteRegister.the-variants as wrote
-use Rattle.machine.specs.Saved.{fieldsOf, keeps, spoiled, loadOf, WasLoaded, WasSaved}
+use Rattle.machine.specs.Saved.{fieldsOf, tailOf, keeps, spoiled, loadOf, WasLoaded, WasSaved}
 use Rattle.machine.specs.Registers.{WasWritten}
-use Rattle.machine.specs.Step.{World, taken, writtenControl, writtenBack, step}
+use Rattle.machine.specs.Step.{World, homeBytes, taken, holding, seen, writtenControl, writtenBack, step}
 use Rattle.machine.specs.Run.{run}
 use Rattle.met.specs.Sound.{Sound, SoundWorld}
 use Rattle.met.specs.Met.{Met}
 use Rattle.met.specs.Faults.{AfterWrite}
-use Rattle.met.specs.Reading.{over, atPointer, Alike}
-use Rattle.met.specs.Unused.{SameUse, descriptorUnder, workUnder, worldUnder, answerUnder, answerOver}
+use Rattle.met.specs.Reading.{over, ReadsSame, Alike, ToFetch}
+use Rattle.met.specs.Unused.{SameUse, descriptorUnder, workUnder, worldUnder, answerUnder, answerOver, answerHolding, slotAfter}
 
 -- ---- images
 
 -- A loaded image saved again gives the same bytes.
 abbrev pub SavedAgain : Type 0
-SavedAgain = (xs ys zs : List ℕ) (m : Machine) (r : SavedMachine) → AllBytes xs → length ys ≡ 44
+SavedAgain = (xs ys zs : List ℕ) (m : Machine) (r : SavedMachine) → AllBytes xs → length ys ≡ 85
     → WasLoaded xs (Good m) → WasSaved m ys r zs → (r ≡ saved.Done) × (zs ≡ xs)
 
 -- A machine that keeps the rules saves to an image that loads back as it.
 abbrev pub LoadsBack : Type 0
-LoadsBack = (m : Machine) (ys zs : List ℕ) (r : SavedMachine) (s : LoadedMachine) → Typed (fieldsOf m) → keeps m ≡ true
-    → length ys ≡ 44 → WasSaved m ys r zs → WasLoaded zs s → (r ≡ saved.Done) × (s ≡ Good m)
+LoadsBack = (m : Machine) (ys zs : List ℕ) (r : SavedMachine) (s : LoadedMachine) → Typed (fieldsOf (m .core)) (tailOf m) → keeps m ≡ true
+    → length ys ≡ 85 → WasSaved m ys r zs → WasLoaded zs s → (r ≡ saved.Done) × (s ≡ Good m)
 
 -- Bytes load as m exactly when m keeps the rules and they are its image.
 abbrev pub LoadsExactly : Type 0
-LoadsExactly = (xs : List ℕ) (m : Machine) → AllBytes xs → Typed (fieldsOf m)
-    → WasLoaded xs (Good m) ↔ ((keeps m ≡ true) × (xs ≡ image (fieldsOf m)))
+LoadsExactly = (xs : List ℕ) (m : Machine) → AllBytes xs → Typed (fieldsOf (m .core)) (tailOf m)
+    → WasLoaded xs (Good m) ↔ ((keeps m ≡ true) × (xs ≡ image (fieldsOf (m .core)) (tailOf m)))
 
 -- Order 1: a machine that breaks a rule is refused with the same field as its image is, where its numbers fit their widths, so that it
 -- has one.
 abbrev pub SameField : Type 0
-SameField = (m : Machine) → Fit widths (values (fieldsOf m)) → keeps m ≡ false → loadOf (image (fieldsOf m)) ≡ Refused (spoiled m)
+SameField = (m : Machine) → Fit widths (values (fieldsOf (m .core)) (tailOf m)) → WordsFit (tailOf m .raw) → keeps m ≡ false → loadOf (image (fieldsOf (m .core)) (tailOf m)) ≡ Refused (spoiled m)
 
 -- ---- the rules are kept
 
@@ -72,47 +80,71 @@ MetKeeps = (m : Machine) → Met m → keeps m ≡ true
 
 -- Every machine met in use saves to an image that loads back as it.
 abbrev pub MetSaves : Type 0
-MetSaves = (m : Machine) (ys zs : List ℕ) (r : SavedMachine) (s : LoadedMachine) → Met m → length ys ≡ 44
+MetSaves = (m : Machine) (ys zs : List ℕ) (r : SavedMachine) (s : LoadedMachine) → Met m → length ys ≡ 85
     → WasSaved m ys r zs → WasLoaded zs s → (r ≡ saved.Done) × (s ≡ Good m)
 
 -- ---- Faulted
 
 -- No step is taken in Faulted: a run of any budget ends at once, with that reason.
 abbrev pub FaultedStands : Type 0
-FaultedStands = (w : World) (f : Fault) → w .machine .phase ≡ Faulted f → (budget : ℕ)
+FaultedStands = (w : World) (f : Fault) → w .core .phase ≡ Faulted f → (budget : ℕ)
     → run budget w ≡ record { reason = reason.Faulted; steps = 0; world = w }
 
 -- Only reset leaves Faulted: every other register write keeps it.
 abbrev pub OnlyResetLeaves : Type 0
-OnlyResetLeaves = (m : Machine) (f : Fault) → m .phase ≡ Faulted f → (offset v : ℕ) (n : Machine)
+OnlyResetLeaves = (m : Machine) (f : Fault) → m .core .phase ≡ Faulted f → (offset v : ℕ) (n : Machine)
     → WasWritten m offset v (wrote.Done n) → AfterWrite m f offset v n
 
 -- ---- descriptors
 
--- A descriptor is read only in its own Fetch: in every other phase the window's bytes do not show in the machine.
+-- Memory is read as a descriptor only in a Fetch: in every other phase the window's bytes do not show in the machine, and in a Fetch no more
+-- of them than what it goes by, where nothing was read ahead, and the next descriptor, which it reads ahead.
 abbrev pub ReadInFetchAlone : Type 0
-ReadInFetchAlone = (w : World) (memory : List ℕ) → (w .machine .phase ≡ Fetch → atPointer w ≡ atPointer (over memory w))
-    → Alike (step w) (step (over memory w))
+ReadInFetchAlone = (w : World) (memory : List ℕ) → (w .core .phase ≡ Fetch → ReadsSame w memory) → Alike (step w) (step (over memory w))
 
--- Descriptor control bits 3 to 6 have no effect. In Fetch the step over bytes in which the descriptor at the pointer has another control
--- with the same use is the same, but for that control, which is kept.
+-- What a Fetch uses is what memory held when the one just before it was fetched.
+abbrev pub UsedAsRead : Type 0
+UsedAsRead = (w v u : World) (k : Work) → w .core .phase ≡ Fetch → step w ≡ taken v → v .core .phase ≡ Move k → ToFetch v u
+    → seen u ≡ lookAt (home (w .core)) (homeBytes w) (u .core .pointer .0)
+
+-- The slot outlives every register write but a pointer write, as the phase leaves it; a reset goes to Rest.
+abbrev pub SlotOutlives : Type 0
+SlotOutlives = (m n : Machine) (offset v : ℕ) → WasWritten m offset v (wrote.Done n) → offset ≢ 8 → n .slot ≡ settled (n .core .phase) (m .slot)
+
+-- ---- the run number
+
+-- It rises by 1 whenever RUN goes 0 to 1, stays at its largest value, and no other register write changes it.
+abbrev pub RunNumberRises : Type 0
+RunNumberRises = (m n : Machine) (offset v : ℕ) → WasWritten m offset v (wrote.Done n)
+    → n .run ≡ cond (not (control.run (m .core .control)) && control.run (n .core .control)) (raised (m .run)) (m .run)
+
+-- Nor does a run.
+abbrev pub RunNumberStays : Type 0
+RunNumberStays = (budget : ℕ) (w : World) → run budget w .world .run ≡ w .run
+
+-- ---- descriptor control
+
+-- Descriptor control bits 3 to 6 have no effect. In Fetch the step over bytes, and with a slot, of which the descriptor that it goes by has
+-- another control with the same use is the same, but for that control, which is kept, and for what is read ahead.
 abbrev pub NoEffectInFetch : Type 0
-NoEffectInFetch = (c : ℕ) (memory : List ℕ) (w : World) → w .machine .phase ≡ Fetch → SameUse c (atPointer w .control .0)
-    → atPointer (over memory w) ≡ descriptorUnder c (atPointer w) → step (over memory w) ≡ answerOver memory (answerUnder c (step w))
+NoEffectInFetch = (c : ℕ) (memory : List ℕ) (slot : Slot) (w : World) (r s : Raw) → w .core .phase ≡ Fetch → seen w ≡ There r
+    → seen (over memory (holding w slot)) ≡ There s → namedIn s ≡ descriptorUnder c (namedIn r) → SameUse c (namedIn r .control .0)
+    → step (over memory (holding w slot))
+    ≡ answerHolding (slotAfter (step (over memory (holding w slot)))) (answerOver memory (answerUnder c (step w)))
 
 -- In Move the step is the same, but for the control that is kept.
 abbrev pub NoEffectInMove : Type 0
-NoEffectInMove = (c : ℕ) (k : Work) → SameUse c (k .control .0) → (w : World) → w .machine .phase ≡ Move k
+NoEffectInMove = (c : ℕ) (k : Work) → SameUse c (k .control .0) → (w : World) → w .core .phase ≡ Move k
     → step (worldUnder c w) ≡ answerUnder c (step w)
 
 -- In WriteBack it is the same, but for the control that is written.
 abbrev pub NoEffectInWriteBack : Type 0
-NoEffectInWriteBack = (c : ℕ) (k : Work) (w : World) → w .machine .phase ≡ WriteBack k
+NoEffectInWriteBack = (c : ℕ) (k : Work) (w : World) → w .core .phase ≡ WriteBack k
     → step (worldUnder c w) ≡ answerOver (writtenBack w (workUnder c k)) (step w)
 
 -- Descriptor control bits 3 to 6 are written back as given.
 abbrev pub KeptAsGiven : Type 0
-KeptAsGiven = (m : Machine) (k : Work)
+KeptAsGiven = (m : Core) (k : Work)
     → (bit 3 (writtenControl m k) ≡ bit 3 (k .control .0))
     × (bit 4 (writtenControl m k) ≡ bit 4 (k .control .0))
     × (bit 5 (writtenControl m k) ≡ bit 5 (k .control .0))

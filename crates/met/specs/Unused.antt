@@ -10,8 +10,10 @@ use Rattle.descriptor.specs.Layout.{generateEop, readFixed, writeFixed, owned}
 use Rattle.machine.specs.declared.Work.{Work}
 use Rattle.machine.specs.declared.Phase.{Phase}
 use Rattle.machine.specs.declared.Phase.the-variants.{Rest, Fetch, Move, WriteBack, Ended, Halted, Faulted}
+use Rattle.machine.specs.declared.Slot.{Slot}
+use Rattle.machine.specs.declared.Slot.the-variants.{Empty}
 use Rattle.machine.specs.State.{withPhase}
-use Rattle.machine.specs.Step.{World, Answer, taken, stopped, became}
+use Rattle.machine.specs.Step.{World, Answer, taken, stopped, became, holding}
 use Rattle.met.specs.Reading.{over}
 
 -- bits 0, 1, 2 and 7 are the same
@@ -59,7 +61,7 @@ phaseUnder c (Faulted f) = Faulted f
 -- the same world, but for that control
 abbrev pub worldUnder : ℕ → World → World
 worldUnder c w =
-    became w (withPhase (phaseUnder c (w .machine .phase)) (w .machine))
+    became w (withPhase (phaseUnder c (w .core .phase)) (w .core))
 
 abbrev pub answerUnder : ℕ → Answer → Answer
 answerUnder c (taken w) = taken (worldUnder c w)
@@ -69,3 +71,13 @@ answerUnder c (stopped r) = stopped r
 abbrev pub answerOver : List ℕ → Answer → Answer
 answerOver memory (taken w) = taken (over memory w)
 answerOver memory (stopped r) = stopped r
+
+-- and with another slot
+abbrev pub answerHolding : Slot → Answer → Answer
+answerHolding slot (taken w) = taken (holding w slot)
+answerHolding slot (stopped r) = stopped r
+
+-- the slot that an answer leaves
+abbrev pub slotAfter : Answer → Slot
+slotAfter (taken w) = w .slot
+slotAfter (stopped r) = Empty

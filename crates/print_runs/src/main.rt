@@ -105,7 +105,7 @@ fn told(image: &[u8], window: &[u8], out: &[u8], report: &[u8]) {
 
 // One run, over a fresh core, with room for two beats.
 fn made(name: &[u8], row: Row, beats: &[u8]) {
-    let mut image = [0u8; 44];
+    let mut image = [0u8; 85];
     let mut window = [0u8; 256];
     let mut out = [0u8; 4];
     let mut ledger = [0u8; 48];

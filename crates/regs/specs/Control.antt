@@ -2,7 +2,7 @@
 -- Assumes nothing.
 use Prim.Native.Nat.{ℕ, _+_, _/_, _%_}
 use mathlib.Core.Bool.{Bool, true, false, not, cond, _&&_, _||_}
-use lib.Dec.{eqb, leb}
+use lib.Dec.{eqb, leb, ltb}
 use Rattle.words.specs.Bits.{bit}
 use Rattle.regs.specs.declared.Control.{Control}
 use Rattle.regs.specs.declared.Count.{Count}
@@ -54,9 +54,20 @@ asControl n = record { 0 = n }
 abbrev pub resetBy : ℕ → Control → Bool
 resetBy v c = swReset (asControl v) && swReset c
 
--- RUN going 0 to 1 sets the descriptor count to 0
+-- RUN goes 0 to 1
+abbrev pub startedBy : ℕ → Control → Bool
+startedBy v c = not (run c) && run (asControl v)
+
+-- which sets the descriptor count to 0
 abbrev pub countFrom : ℕ → Control → (count : ℕ) → ℕ
-countFrom v c count = cond (not (run c) && run (asControl v)) 0 count
+countFrom v c count = cond (startedBy v c) 0 count
+
+-- "the run number rises by 1 whenever RUN goes 0 to 1, stays at its largest value and outlives a reset"
+abbrev pub raised : (number : ℕ) → ℕ
+raised number = cond (ltb number 4294967295) (number + 1) number
+
+abbrev pub runFrom : ℕ → Control → (number : ℕ) → ℕ
+runFrom v c number = cond (not (resetBy v c) && startedBy v c) (raised number) number
 
 -- ---- a descriptor written back
 

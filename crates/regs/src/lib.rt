@@ -3,7 +3,7 @@
 ghost use Rattle.words.specs.Promise.{Gives};
 ghost use Rattle.regs.specs.Modes.{modeNumber, ModeChecked};
 ghost use Rattle.regs.specs.Status.{statusNumber, statusOf, clearedBy, chainEnded, statusBack};
-ghost use Rattle.regs.specs.Control.{resetBy, countFrom, pends as pendsOf, lineUp, counted};
+ghost use Rattle.regs.specs.Control.{resetBy, countFrom, runFrom, startedBy, raised as raisedOf, pends as pendsOf, lineUp, counted};
 ghost use Rattle.regs.specs.Offsets.{isRegister, registerAt};
 use bus::Refusal;
 use words::flag;
@@ -131,6 +131,17 @@ impl Status {
     }
 }
 
+// The next run number; it stays at its largest value.
+fn raised(number: u32) -> u32
+    ensures { λ r. ⌜ Gives (raisedOf number) r ⌝ }
+{
+    if number < 0xffff_ffff {
+        number + 1
+    } else {
+        number
+    }
+}
+
 // The control register. Bits without effect are kept as given, so it is kept as its number.
 pub struct Control(pub u32);
 
@@ -172,12 +183,26 @@ impl Control {
         has(v, Control::SW_RESET) & has(self.0, Control::SW_RESET)
     }
 
+    // Whether RUN goes 0 to 1.
+    fn starts(self, v: u32) -> bool
+        ensures { λ r. ⌜ Gives (startedBy v self) r ⌝ }
+    {
+        !has(self.0, Control::RUN) & has(v, Control::RUN)
+    }
+
     // The count of descriptors after a write: 0 where RUN goes 0 to 1.
     pub fn count_from(self, v: u32, count: u8) -> u8
         ensures { λ r. ⌜ Gives (countFrom v self count) r ⌝ }
     {
-        let starts = !has(self.0, Control::RUN) & has(v, Control::RUN);
-        if starts { 0 } else { count }
+        if self.starts(v) { 0 } else { count }
+    }
+
+    // The run number after a write: 1 more where RUN goes 0 to 1; a reset leaves it.
+    pub fn run_from(self, v: u32, number: u32) -> u32
+        ensures { λ r. ⌜ Gives (runFrom v self number) r ⌝ }
+    {
+        let rises = !self.resets(v) & self.starts(v);
+        if rises { raised(number) } else { number }
     }
 
     // Each event pends only under its own enable.

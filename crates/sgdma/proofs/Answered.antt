@@ -39,11 +39,11 @@ module _ {xs value ys : List ℕ} {offset r : ℕ} where
   answers a e p q =
       record { number = p ∙ sym (ap registerReadNumber e); value-after = q ∙ sym (ap (λ (b : ReadRegister). valueOver b value) e) }
 
-  pub register-short : (length xs ≡ 44 → ⊥) → r ≡ 7 → ys ≡ value → RegisterRead xs offset value r ys
+  pub register-short : (length xs ≡ 85 → ⊥) → r ≡ 7 → ys ≡ value → RegisterRead xs offset value r ys
   unfolding readCall
   register-short h p q = answers (register.Refused BadSize) (first-wrong _ _ 4 xs value h) p q
 
-  module _ (l : length xs ≡ 44) where
+  module _ (l : length xs ≡ 85) where
     pub value-short : (length value ≡ 4 → ⊥) → r ≡ 7 → ys ≡ value → RegisterRead xs offset value r ys
     unfolding readCall
     value-short h p q = answers (register.Refused BadSize) (second-wrong _ _ 4 xs value l h) p q
@@ -54,7 +54,7 @@ module _ {xs value ys : List ℕ} {offset r : ℕ} where
       register-spoiled {why} e p q =
           answers (register.Refused why) (sizes-right _ _ 4 xs value l k ∙ ap (λ (x : LoadedMachine). registerOf x offset) e) p q
 
-      pub register-answers : {m : Machine} {a b : ReadRegister} → loadOf xs ≡ loaded.Good m → Gives (registerAt (m .status) (m .control) (m .pointer) offset) a → a ≡ b
+      pub register-answers : {m : Machine} {a b : ReadRegister} → loadOf xs ≡ loaded.Good m → Gives (registerAt (m .core .status) (m .core .control) (m .core .pointer) offset) a → a ≡ b
           → r ≡ registerReadNumber b → ys ≡ valueOver b value → RegisterRead xs offset value r ys
       unfolding readCall
       register-answers {m} {a} {b} e w f p q =
@@ -66,11 +66,11 @@ module _ {xs value ys : List ℕ} {r : ℕ} where
   line-says : (a : Line) → lineCall xs value ≡ a → r ≡ lineNumber a → ys ≡ lineOver a value → LineRead xs value r ys
   line-says a e p q = record { number = p ∙ sym (ap lineNumber e); value-after = q ∙ sym (ap (λ (b : Line). lineOver b value) e) }
 
-  pub line-short : (length xs ≡ 44 → ⊥) → r ≡ 7 → ys ≡ value → LineRead xs value r ys
+  pub line-short : (length xs ≡ 85 → ⊥) → r ≡ 7 → ys ≡ value → LineRead xs value r ys
   unfolding lineCall
   line-short h p q = line-says (line.Refused BadSize) (first-wrong _ _ 4 xs value h) p q
 
-  module _ (l : length xs ≡ 44) where
+  module _ (l : length xs ≡ 85) where
     pub line-value-short : (length value ≡ 4 → ⊥) → r ≡ 7 → ys ≡ value → LineRead xs value r ys
     unfolding lineCall
     line-value-short h p q = line-says (line.Refused BadSize) (second-wrong _ _ 4 xs value l h) p q
@@ -80,7 +80,7 @@ module _ {xs value ys : List ℕ} {r : ℕ} where
       unfolding lineCall
       line-spoiled {why} e p q = line-says (line.Refused why) (sizes-right _ _ 4 xs value l k ∙ ap lineIn e) p q
 
-      pub line-answers : {m : Machine} {up : Bool} (b : Line) (v : ℕ) → loadOf xs ≡ loaded.Good m → Gives (lineUp (m .control) (m .pending)) up → cond up line.Up line.Down ≡ b
+      pub line-answers : {m : Machine} {up : Bool} (b : Line) (v : ℕ) → loadOf xs ≡ loaded.Good m → Gives (lineUp (m .core .control) (m .core .pending)) up → cond up line.Up line.Down ≡ b
           → r ≡ lineNumber b → valueBytes v ≡ lineOver b value → Leaves (answerPut (valueBytes v) value) ys → LineRead xs value r ys
       unfolding lineCall
       line-answers b v e g f p o q =

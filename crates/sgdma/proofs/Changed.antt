@@ -21,6 +21,7 @@ use Rattle.regs.specs.declared.CheckedMode.the-variants as mode
 use Rattle.regs.specs.Modes.{modeOf, checkedMode}
 use Rattle.image.proofs.Answers.{read-size}
 use Rattle.image.proofs.Windows.{refused-breaks}
+use Rattle.image.specs.Layout.{tail}
 use Rattle.machine.specs.declared.Machine.{Machine}
 use Rattle.machine.specs.declared.LoadedMachine.{LoadedMachine}
 use Rattle.machine.specs.declared.LoadedMachine.the-variants.{Good, Refused}
@@ -54,9 +55,9 @@ module _ {xs ys : List ℕ} {offset v r : ℕ} where
   says a e p q =
       record { number = p ∙ sym (ap registerWroteNumber e); image-after = q ∙ sym (ap (λ (b : WroteRegister). writtenOver b xs) e) }
 
-  pub image-short : (length xs ≡ 44 → ⊥) → r ≡ 7 → ys ≡ xs → RegisterWritten xs offset v r ys
+  pub image-short : (length xs ≡ 85 → ⊥) → r ≡ 7 → ys ≡ xs → RegisterWritten xs offset v r ys
   unfolding loadOf
-  image-short h p q = says (wrote.Refused BadSize) (ap (λ (x : LoadedMachine). writtenIn x offset v) (ap loadedAs (read-size xs h))) p q
+  image-short h p q = says (wrote.Refused BadSize) (ap (λ (x : LoadedMachine). writtenIn x offset v) (ap (loadedAs (tail xs)) (read-size xs h))) p q
 
   pub image-spoiled : {why : Refusal} → loadOf xs ≡ Refused why → r ≡ refusalNumber why → ys ≡ xs → RegisterWritten xs offset v r ys
   image-spoiled {why} e p q = says (wrote.Refused why) (ap (λ (x : LoadedMachine). writtenIn x offset v) e) p q
@@ -87,28 +88,28 @@ create-keeps {m} {k} {w} base size e f =
     ap keeps e ∙ fresh-keeps k w (ap (λ (v : Window). keepsLimits (v .base) (v .length)) (is .1) ∙ is .0) .rules
 
 module _ {xs ys : List ℕ} {n base size r : ℕ} where
-  pub create-short : (length xs ≡ 44 → ⊥) → r ≡ 7 → ys ≡ xs → Created xs n base size r ys
+  pub create-short : (length xs ≡ 85 → ⊥) → r ≡ 7 → ys ≡ xs → Created xs n base size r ys
   create-short h p q =
-      let e : createNumber xs n base size ≡ 7 = rw (ne-eqb (length xs) 44 h) in
+      let e : createNumber xs n base size ≡ 7 = rw (ne-eqb (length xs) 85 h) in
       record { number = p ∙ sym e; image-after = q ∙ rw e }
 
-  module _ (l : length xs ≡ 44) where
+  module _ (l : length xs ≡ 85) where
     pub create-no-mode : {why : Refusal} → checkedMode n ≡ mode.Refused why → r ≡ 2 → ys ≡ xs → Created xs n base size r ys
     unfolding checkedMode
     create-no-mode {why} m p q =
-        let e : createNumber xs n base size ≡ 2 = rw (eq-eqb (length xs) 44 l, no-mode-by (leb n 2) (modeOf n) why m) in
+        let e : createNumber xs n base size ≡ 2 = rw (eq-eqb (length xs) 85 l, no-mode-by (leb n 2) (modeOf n) why m) in
         record { number = p ∙ sym e; image-after = q ∙ rw e }
 
     module _ (k : Mode) (m : checkedMode n ≡ mode.Good k) where
       pub create-no-window : {why : Refusal} → checkedOf base size ≡ window.Refused why → r ≡ 3 → ys ≡ xs → Created xs n base size r ys
       create-no-window {why} w p q =
-          let e : createNumber xs n base size ≡ 3 = rw (eq-eqb (length xs) 44 l, small n k m .0, refused-breaks base size why w) in
+          let e : createNumber xs n base size ≡ 3 = rw (eq-eqb (length xs) 85 l, small n k m .0, refused-breaks base size why w) in
           record { number = p ∙ sym e; image-after = q ∙ rw e }
 
       pub create-done : (w : Window) → checkedOf base size ≡ window.Good w → r ≡ 0 → ys ≡ imageOf (fresh k w) → Created xs n base size r ys
       create-done w f p q =
           let is = checked-is base size w f in
-          let e : createNumber xs n base size ≡ 0 = rw (eq-eqb (length xs) 44 l, small n k m .0, is .0) in
+          let e : createNumber xs n base size ≡ 0 = rw (eq-eqb (length xs) 85 l, small n k m .0, is .0) in
           record {
             number = p ∙ sym e;
             image-after = q ∙ ap (λ (v : Window). imageOf (fresh k v)) (is .1)

@@ -30,14 +30,14 @@ use Rattle.sgdma.specs.Calls.{isSize}
 
 -- a call that looks at two sizes
 module _ {A : Type 0} (a b : A) (n : ℕ) (xs ys : List ℕ) where
-  pub first-wrong : (length xs ≡ 44 → ⊥) → cond (sized xs && isSize n ys) a b ≡ b
-  first-wrong h = rw (ne-eqb (length xs) 44 h)
+  pub first-wrong : (length xs ≡ 85 → ⊥) → cond (sized xs && isSize n ys) a b ≡ b
+  first-wrong h = rw (ne-eqb (length xs) 85 h)
 
-  pub second-wrong : length xs ≡ 44 → (length ys ≡ n → ⊥) → cond (sized xs && isSize n ys) a b ≡ b
-  second-wrong l h = rw (eq-eqb (length xs) 44 l, ne-eqb (length ys) n h)
+  pub second-wrong : length xs ≡ 85 → (length ys ≡ n → ⊥) → cond (sized xs && isSize n ys) a b ≡ b
+  second-wrong l h = rw (eq-eqb (length xs) 85 l, ne-eqb (length ys) n h)
 
-  pub sizes-right : length xs ≡ 44 → length ys ≡ n → cond (sized xs && isSize n ys) a b ≡ a
-  sizes-right l k = rw (eq-eqb (length xs) 44 l, eq-eqb (length ys) n k)
+  pub sizes-right : length xs ≡ 85 → length ys ≡ n → cond (sized xs && isSize n ys) a b ≡ a
+  sizes-right l k = rw (eq-eqb (length xs) 85 l, eq-eqb (length ys) n k)
 
 -- ---- a loaded machine keeps the rules, so that its registers are those of any machine
 
@@ -46,13 +46,13 @@ module _ (xs : List ℕ) {m : Machine} (e : loadOf xs ≡ Good m) where
   keeps-loaded =
       loaded-keeps (was-loaded (sym e))
 
-  pub register-loaded : (offset : ℕ) {a : ReadRegister} → Gives (registerAt (m .status) (m .control) (m .pointer) offset) a → RegisterWasRead m offset a
+  pub register-loaded : (offset : ℕ) {a : ReadRegister} → Gives (registerAt (m .core .status) (m .core .control) (m .core .pointer) offset) a → RegisterWasRead m offset a
   unfolding readingOf
   register-loaded offset g = was-register (rw keeps-loaded (g .value))
 
   pub write-loaded : (offset v : ℕ) {w : WroteRegister} → Gives (wroteTo m offset v) w → WasWritten m offset v w
   write-loaded offset v g = was-written (g .value ∙ write-kept m offset v keeps-loaded)
 
-  pub line-loaded : {up : Bool} → Gives (lineUp (m .control) (m .pending)) up → lineOf m ≡ cond up line.Up line.Down
+  pub line-loaded : {up : Bool} → Gives (lineUp (m .core .control) (m .core .pending)) up → lineOf m ≡ cond up line.Up line.Down
   unfolding lineOf
   line-loaded g = rw (keeps-loaded, sym (g .value))

@@ -18,7 +18,7 @@ use Rattle.machine.specs.declared.RunAnswer.the-variants as ran
 use Rattle.machine.specs.declared.LoadedMachine.{LoadedMachine}
 use Rattle.machine.specs.declared.LoadedMachine.the-variants.{Good, Refused}
 use Rattle.machine.specs.Saved.{keeps, loadOf}
-use Rattle.machine.specs.Step.{World}
+use Rattle.machine.specs.Step.{World, machineIn}
 use Rattle.machine.specs.Run.{run, Lent, Returned, asLent, Served, serves, refused, servedIf, worldOf, ranAs, runAnswer, runNumber, HasRun}
 use Rattle.machine.specs.Helpers.Resume.{readyOf, Resumed}
 use Rattle.machine.proofs.Answers.{was-loaded}
@@ -26,7 +26,7 @@ use Rattle.machine.proofs.StepLaws.{took-since}
 use Rattle.machine.proofs.RunLaws.{run-tells, run-nowhere}
 use Rattle.machine.proofs.Outcomes.{resumed-runs}
 use Rattle.met.specs.Met as met
-use Rattle.met.proofs.InUse.{met-keeps}
+use Rattle.met.proofs.InUse.{met-keeps, opened-same}
 use Rattle.met.proofs.RoundTrip.{loaded-typed, loads-exactly}
 use Rattle.sgdma.specs.Calls.{imageOf, isSize, runIn, runCall, ranOver, reportOver, returnedIn, RunMade}
 use Rattle.sgdma.proofs.Opened.{first-wrong, second-wrong, sizes-right, keeps-loaded}
@@ -68,7 +68,7 @@ module _ {m : Machine} {l : Lent} {b : Returned} {budget : ℕ} {a : RunAnswer} 
       let w = worldOf m l in
       let is : r ≡ ranAs (l .used) w (run budget w) = done-is l (servedIf (readyOf m) m l) w budget r (sym e ∙ h .answer) in
       let still : run budget w .world ≡ w = run-nowhere budget w (sym (ap (λ (x : Ran). x .steps) is) ∙ none) in
-      let same : r .machine ≡ m = ap (λ (x : Ran). x .machine) is ∙ ap (λ (v : World). v .machine) still in
+      let same : r .machine ≡ m = ap (λ (x : Ran). x .machine) is ∙ ap machineIn still ∙ opened-same m (keeps-loaded xs d) (loaded-typed (was-loaded (sym d))) in
       let loaded = was-loaded (sym d) in
       loads-exactly xs m g (loaded-typed loaded) .0 loaded .1 ∙ ap imageOf (sym same)
 
@@ -88,11 +88,11 @@ module _ {xs report xs' report' : List ℕ} {l : Lent} {b : Returned} {budget r 
         report-after = q ∙ sym (ap (λ (b : RunAnswer). reportOver b report) e);
       }
 
-  pub run-short : (length xs ≡ 44 → ⊥) → r ≡ 7 → xs' ≡ xs → b ≡ asLent l → report' ≡ report → RunMade xs l budget report r xs' b report'
+  pub run-short : (length xs ≡ 85 → ⊥) → r ≡ 7 → xs' ≡ xs → b ≡ asLent l → report' ≡ report → RunMade xs l budget report r xs' b report'
   unfolding runCall
   run-short h p x o q = made (ran.Refused BadSize) (first-wrong _ _ 18 xs report h) (first-wrong _ _ 18 xs report h) p x o q
 
-  module _ (s : length xs ≡ 44) where
+  module _ (s : length xs ≡ 85) where
     pub report-short : (length report ≡ 18 → ⊥) → r ≡ 7 → xs' ≡ xs → b ≡ asLent l → report' ≡ report → RunMade xs l budget report r xs' b report'
     unfolding runCall
     report-short h p x o q = made (ran.Refused BadSize) (second-wrong _ _ 18 xs report s h) (second-wrong _ _ 18 xs report s h) p x o q

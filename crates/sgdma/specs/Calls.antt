@@ -1,4 +1,4 @@
--- The C calls: over a 44-byte image, with numbers in lent bytes most significant first. Each promise gives the number returned,
+-- The C calls: over an 85-byte image, with numbers in lent bytes most significant first. Each promise gives the number returned,
 -- in the paper's order of refusals, and every lent byte after the call; refused, nothing has changed.
 -- Assumes nothing.
 use Prim.Native.Nat.{ℕ}
@@ -31,12 +31,12 @@ use Rattle.machine.specs.declared.RunAnswer.{RunAnswer}
 use Rattle.machine.specs.declared.RunAnswer.the-variants as ran
 use Rattle.machine.specs.State.{fresh}
 use Rattle.machine.specs.Run.{run, reasonNumber, Lent, Returned, asLent, servedOf, worldOf, returned, runAnswer, runNumber}
-use Rattle.machine.specs.Saved.{fieldsOf, loadOf}
+use Rattle.machine.specs.Saved.{fieldsOf, tailOf, loadOf}
 use Rattle.machine.specs.Registers.{readingOf, writeOf, lineOf, registerReadNumber, registerWroteNumber, lineNumber}
 
--- the 44 bytes of a machine
+-- the 85 bytes of a machine
 abbrev pub imageOf : Machine → List ℕ
-imageOf m = image (fieldsOf m)
+imageOf m = image (fieldsOf (m .core)) (tailOf m)
 
 -- a lent slice of so many bytes
 abbrev pub isSize : ℕ → List ℕ → Bool

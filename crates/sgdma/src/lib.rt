@@ -38,12 +38,12 @@ use regs::Mode;
 use regs::ReadRegister;
 
 // The size of an image.
-const IMAGE: usize = 44;
+const IMAGE: usize = 85;
 
 // Writes the image of a machine that keeps the rules, which is never refused.
 fn put_image(m: Machine, image: &mut [u8])
     requires { ⌜ keeps m ≡ true ⌝ }
-    requires { ⌜ length (now image) ≡ 44 ⌝ }
+    requires { ⌜ length (now image) ≡ 85 ⌝ }
     ensures { λ _. ⌜ Leaves (imageOf m) (now (image .exit)) ⌝ }
 {
     m.put(image);
@@ -141,7 +141,7 @@ pub extern "C" fn sgdma_line(image: &[u8], value: &mut [u8]) -> u32
 fn put_run(r: Ran, image: &mut [u8], report: &mut [u8])
     requires { ⌜ keeps (r .machine) ≡ true ⌝ }
     requires { ⌜ (r .taken < 4294967296) × (r .made < 4294967296) ⌝ }
-    requires { ⌜ (length (now image) ≡ 44) × (length (now report) ≡ 18) ⌝ }
+    requires { ⌜ (length (now image) ≡ 85) × (length (now report) ≡ 18) ⌝ }
     requires { ⌜ (r .steps ≡ 0 → now image ≡ imageOf (r .machine)) ⌝ }
     ensures { λ _. ⌜ Leaves (ranOver (Done r) []) (now (image .exit)) ⌝ }
     ensures { λ _. ⌜ Leaves (reportOver (Done r) []) (now (report .exit)) ⌝ }

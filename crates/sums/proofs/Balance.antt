@@ -17,7 +17,7 @@ use Rattle.machine.specs.declared.Phase.the-variants.{Rest, Fetch, Move, WriteB
 use Rattle.machine.specs.declared.Reason.{Reason}
 use Rattle.flow.specs.Beats.{beatError, beatEop}
 use Rattle.machine.specs.Saved.{inHand}
-use Rattle.machine.specs.Step.{World, Answer, taken, stopped, stored, noted, entryFor, backTo, restStep, fetchStep, destinationOf, onward, withByte, receiveFrom, moveStep, afterBack, completed, writtenBack, writeBackStep, stepIn, step, whole}
+use Rattle.machine.specs.Step.{World, Answer, taken, stopped, stored, noted, settle, machineIn, entryFor, backTo, restStep, fetchStep, destinationOf, onward, withByte, receiveFrom, moveStep, afterBack, completed, writtenBack, writeBackStep, stepIn, step, whole}
 use Rattle.machine.specs.Run as runs
 use Rattle.machine.proofs.StepLaws.{fetch-turns}
 use Rattle.ledger.specs.declared.Entry.{Entry}
@@ -29,14 +29,19 @@ sum-append (x ∷ xs) ys = let h = sum-append xs ys in omega arith
 
 -- an answer in the phase p that balances: what was held and taken is held, told by a record or abandoned
 pub data Balanced (p : Phase) (w : World) : Answer → Type 0 where
-  goes : {v : World} → v .machine .mode ≡ w .machine .mode
+  goes : {v : World} → v .core .mode ≡ w .core .mode
       → inHand p .moved + length (w .input) + sumOf (w .records)
-      ≡ held (v .machine) + sumOf (v .records) + lostBy p (v .machine .phase) + length (v .input) → Balanced p w (taken v)
+      ≡ held (machineIn v) + sumOf (v .records) + lostBy p (v .core .phase) + length (v .input) → Balanced p w (taken v)
   stays : {r : Reason} → Balanced p w (stopped r)
 
 choice : {p : Phase} {w : World} (b : Bool) {x y : Answer} → Balanced p w x → Balanced p w y → Balanced p w (cond b x y)
 choice true p q = p
 choice false p q = q
+
+-- what is read ahead is none of it
+settles : {p : Phase} {w : World} {a : Answer} → Balanced p w a → Balanced p w (settle a)
+settles (goes e h) = goes e h
+settles stays = stays
 
 -- a byte more is in hand, wherever it leads
 on-held : (b : Bool) (j : Work) → inHand (cond b (WriteBack j) (Move j)) .moved ≡ j .moved
@@ -56,19 +61,19 @@ none-held false halts = refl
 module _ (w : World) where
   rest-balanced : Balanced Rest w (restStep w)
   unfolding restStep
-  rest-balanced = choice (run (w .machine .control)) (goes refl (omega arith)) stays
+  rest-balanced = choice (run (w .core .control)) (goes refl (omega arith)) stays
 
   fetch-balanced : Balanced Fetch w (fetchStep w)
-  fetch-balanced = fetch-turns w (Balanced Fetch w) (λ m e f h. goes e (omega (arith, h)))
+  fetch-balanced = fetch-turns w (Balanced Fetch w) (λ m e f h s. goes e (omega (arith, h)))
 
   receive-balanced : (k : Work) (input : List ℕ) → w .input ≡ input → Balanced (Move k) w (receiveFrom w k input)
   unfolding onward
   receive-balanced k [] i = stays
   receive-balanced k (b ∷ bs) i =
-      choice (inWindow (w .machine .window) (destinationOf k) 1)
+      choice (inWindow (w .core .window) (destinationOf k) 1)
       (goes refl
       (let j = withByte (beatError b) (beatEop b) k in
-      let done = j .eop || eqb (j .moved) (whole (w .machine) j) in
+      let done = j .eop || eqb (j .moved) (whole (w .core) j) in
       rw i (omega (arith, on-held done j, on-lost done k j))))
       (goes refl (rw i (omega arith)))
 
@@ -76,16 +81,16 @@ module _ (w : World) where
   unfolding completed
   back-balanced k zero = stays
   back-balanced k (suc left) =
-      goes {v = noted (stored w (completed (w .machine) k) (writtenBack w k)) (w .records ++ entryFor (w .machine) k ∷ []) left} refl
+      goes {v = noted (stored w (completed (w .core) k) (writtenBack w k)) (w .records ++ entryFor (w .core) k ∷ []) left} refl
       (omega (
         arith,
-        none-held (run (w .machine .control)) (not (eqb (k .errors) 0) && stopDmaEr (w .machine .control)),
-        sum-append (w .records) (entryFor (w .machine) k ∷ []),
+        none-held (run (w .core .control)) (not (eqb (k .errors) 0) && stopDmaEr (w .core .control)),
+        sum-append (w .records) (entryFor (w .core) k ∷ []),
       ))
 
-  pub step-balanced : w .machine .mode ≡ StreamToMemory → Balanced (w .machine .phase) w (step w)
+  pub step-balanced : w .core .mode ≡ StreamToMemory → Balanced (w .core .phase) w (step w)
   unfolding step writeBackStep
-  step-balanced e = by (w .machine .phase)
+  step-balanced e = settles (by (w .core .phase))
     where
       by : (p : Phase) → Balanced p w (stepIn p w)
       by Rest = rest-balanced
@@ -97,16 +102,16 @@ module _ (w : World) where
       by (Faulted f) = stays
 
 -- over a run
-run-on : (n : ℕ) (w : World) (a : Answer) → w .machine .mode ≡ StreamToMemory → Balanced (w .machine .phase) w a
-    → held (w .machine) + length (w .input) + sumOf (w .records)
-    ≡ held (runs.runOn n w a .world .machine) + sumOf (runs.runOn n w a .world .records) + lostOn n w a + length (runs.runOn n w a .world .input)
+run-on : (n : ℕ) (w : World) (a : Answer) → w .core .mode ≡ StreamToMemory → Balanced (w .core .phase) w a
+    → held (machineIn w) + length (w .input) + sumOf (w .records)
+    ≡ held (machineIn (runs.runOn n w a .world)) + sumOf (runs.runOn n w a .world .records) + lostOn n w a + length (runs.runOn n w a .world .input)
 run-on zero w (stopped r) e b = omega arith
 run-on zero w (taken v) e b = omega arith
 run-on (suc n) w (stopped r) e b = omega arith
 run-on (suc n) w (taken v) e (goes m h) = omega (arith, h, run-on n v (step v) (m ∙ e) (step-balanced v (m ∙ e)))
 
-pub run-balanced : (n : ℕ) (w : World) → w .machine .mode ≡ StreamToMemory
-    → held (w .machine) + length (w .input) + sumOf (w .records)
-    ≡ held (runs.run n w .world .machine) + sumOf (runs.run n w .world .records) + lostOn n w (step w) + length (runs.run n w .world .input)
+pub run-balanced : (n : ℕ) (w : World) → w .core .mode ≡ StreamToMemory
+    → held (machineIn w) + length (w .input) + sumOf (w .records)
+    ≡ held (machineIn (runs.run n w .world)) + sumOf (runs.run n w .world .records) + lostOn n w (step w) + length (runs.run n w .world .input)
 unfolding runs.run
 run-balanced n w e = run-on n w (step w) e (step-balanced w e)

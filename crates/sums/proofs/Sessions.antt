@@ -15,6 +15,7 @@ use Rattle.regs.specs.Offsets.{isRegister}
 use Rattle.ledger.specs.declared.Entry.{Entry}
 use Rattle.ledger.specs.Records.{ledgerBytes}
 use Rattle.ledger.proofs.Rows.{length-ledger, ledger-append, capacity-le}
+use Rattle.machine.specs.declared.Core.{Core}
 use Rattle.machine.specs.declared.Machine.{Machine}
 use Rattle.machine.specs.declared.Ran.{Ran}
 use Rattle.machine.specs.declared.Phase.{Phase}
@@ -22,9 +23,9 @@ use Rattle.machine.specs.declared.Phase.the-variants.{Rest, Fetch, Move, WriteB
 use Rattle.machine.specs.declared.RunAnswer.the-variants as many
 use Rattle.machine.specs.declared.registers.WroteRegister.{WroteRegister}
 use Rattle.machine.specs.declared.registers.WroteRegister.the-variants as wrote
-use Rattle.machine.specs.Saved.{keeps}
+use Rattle.machine.specs.Saved.{inHand, keeps}
 use Rattle.machine.specs.Registers.{controlStored, released, controlWritten, writeOf}
-use Rattle.machine.specs.Step.{World}
+use Rattle.machine.specs.Step.{World, machineIn}
 use Rattle.machine.specs.Run.{Lent, Returned, Served, serves, refused, servedOf, worldOf, takenSince, run, returned, ranAs, runAnswer, HasRun}
 use Rattle.machine.proofs.Outcomes.{serves-good}
 use Rattle.machine.proofs.RunLaws.{run-tells}
@@ -34,15 +35,15 @@ use Rattle.sums.proofs.Balance.{sum-append, run-balanced}
 
 -- ---- a register write leaves what is in hand, or drops it
 
-record Drops (m n : Machine) : Type 0 where
+record Drops (m n : Core) : Type 0 where
   mode : n .mode ≡ m .mode
-  less : held n ≤ held m
+  less : inHand (n .phase) .moved ≤ inHand (m .phase) .moved
 
-on : (P : Machine → Type 0) (b : Bool) {x y : Machine} → P x → P y → P (cond b x y)
+on : (P : Core → Type 0) (b : Bool) {x y : Core} → P x → P y → P (cond b x y)
 on P true p q = p
 on P false p q = q
 
-released-drops : (p : Phase) (m : Machine) → m .phase ≡ p → Drops m (released p m)
+released-drops : (p : Phase) (m : Core) → m .phase ≡ p → Drops m (released p m)
 released-drops Rest m e = record { mode = refl; less = omega arith }
 released-drops Fetch m e = record { mode = refl; less = omega arith }
 released-drops (Move k) m e = record { mode = refl; less = omega arith }
@@ -51,7 +52,7 @@ released-drops Ended m e = record { mode = refl; less = omega arith }
 released-drops Halted m e = record { mode = refl; less = omega arith }
 released-drops (Faulted f) m e = record { mode = refl; less = omega arith }
 
-control-drops : (m : Machine) (v : ℕ) → Drops m (controlWritten v m)
+control-drops : (m : Core) (v : ℕ) → Drops m (controlWritten v m)
 unfolding controlWritten
 control-drops m v =
     let r = released-drops (m .phase) (controlStored v m) refl in
@@ -59,7 +60,7 @@ control-drops m v =
     (on (Drops m) (register.run (register.asControl v)) (record { mode = refl; less = omega arith }) (record { mode = r .mode; less = r .less }))
 
 abbrev AfterWrite : Machine → WroteRegister → Type 0
-AfterWrite m (wrote.Done n) = Drops m n
+AfterWrite m (wrote.Done n) = Drops (m .core) (n .core)
 AfterWrite m (wrote.Refused why) = Unit {0}
 
 in-answer : (m : Machine) (b : Bool) (x y : WroteRegister) → AfterWrite m x → AfterWrite m y → AfterWrite m (cond b x y)
@@ -69,12 +70,13 @@ in-answer m false x y p q = q
 write-drops : (m : Machine) (offset v : ℕ) → AfterWrite m (writeOf m offset v)
 unfolding writeOf
 write-drops m offset v =
-    let same : Drops m m = record { mode = refl; less = omega arith } in
+    let c = m .core in
+    let same : Drops c c = record { mode = refl; less = omega arith } in
     in-answer m (keeps m) _ _
     (in-answer m (isRegister offset) _ _
-    (on (Drops m) (eqb offset 0) (record { mode = refl; less = omega arith })
-    (on (Drops m) (eqb offset 4) (control-drops m v)
-    (on (Drops m) (eqb offset 8) (record { mode = refl; less = omega arith }) same)))
+    (on (Drops c) (eqb offset 0) (record { mode = refl; less = omega arith })
+    (on (Drops c) (eqb offset 4) (control-drops c v)
+    (on (Drops c) (eqb offset 8) (record { mode = refl; less = omega arith }) same)))
     tt)
     tt
 
@@ -92,7 +94,7 @@ used-in m given e = serves-good (keeps m) m given e .2
 -- ---- sessions
 
 record Balanced (m : Machine) (before ledger : List ℕ) (rs : List Entry) (t l : ℕ) : Type 0 where
-  mode : m .mode ≡ StreamToMemory
+  mode : m .core .mode ≡ StreamToMemory
   size : length ledger ≡ length before
   adds : Adds m before ledger rs t l
 
@@ -129,14 +131,14 @@ module _ {m : Machine} {before : List ℕ} {rs : List Entry} {t l budget : ℕ} 
   ran-kept =
       let p = run-tells budget w .passed in
       let v = run budget w .world in
-      let machine : r .machine ≡ v .machine = ap (λ (x : Ran). x .machine) is in
+      let machine : r .machine ≡ machineIn v = ap (λ (x : Ran). x .machine) is in
       let took : r .taken ≡ takenSince w v = ap (λ (x : Ran). x .taken) is in
-      let in-hand : held (r .machine) ≡ held (v .machine) = ap held machine in
+      let in-hand : held (r .machine) ≡ held (machineIn v) = ap held machine in
       let beats-left : length (v .input) ≡ length (w .input) - p .took = ap length (p .input) ∙ length-drop (p .took) (w .input) in
       let place : 12 * length rs ≡ 0 + length (ledgerBytes rs) = omega (arith, length-ledger rs) in
       let room : 0 + length (ledgerBytes rs) ≤ length before = omega (arith, front, place, h .size) in
       record {
-        mode = ap (λ (x : Machine). x .mode) machine ∙ p .mode ∙ h .mode;
+        mode = ap (λ (x : Machine). x .core .mode) machine ∙ p .mode ∙ h .mode;
         size = ap length ledger-is ∙ length-put (given .ledger) (12 * length rs) (ledgerBytes new) fits ∙ h .size;
         adds = record {
           sum = omega (arith, h .adds .sum, run-balanced budget w (h .mode), sum-append rs new, in-hand, took, beats-left);
@@ -153,7 +155,7 @@ session-kept (begins window ledger) =
     record { mode = refl; size = refl; adds = record { sum = refl; holds = none-put ledger } }
 session-kept (written {m = m} {n = n} {offset = offset} {v = v} s c) =
     let h = session-kept s in
-    let a : Drops m n = subst (AfterWrite m) (sym (c .answer)) (write-drops m offset v) in
+    let a : Drops (m .core) (n .core) = subst (AfterWrite m) (sym (c .answer)) (write-drops m offset v) in
     record {
       mode = a .mode ∙ h .mode;
       size = h .size;

@@ -24,7 +24,7 @@ use Rattle.machine.specs.Run.{run, Lent, Returned, worldOf, HasRun}
 
 -- the beats of the descriptor in hand
 abbrev pub held : Machine → ℕ
-held m = inHand (m .phase) .moved
+held m = inHand (m .core .phase) .moved
 
 -- the bytes that records tell, summed
 abbrev pub sumOf : List Entry → ℕ
@@ -51,7 +51,7 @@ lostBy (Faulted f) q = 0
 abbrev pub lostOn : ℕ → World → Answer → ℕ
 lostOn zero w a = 0
 lostOn (suc n) w (stopped r) = 0
-lostOn (suc n) w (taken v) = lostBy (w .machine .phase) (v .machine .phase) + lostOn n v (step v)
+lostOn (suc n) w (taken v) = lostBy (w .core .phase) (v .core .phase) + lostOn n v (step v)
 
 abbrev pub lostIn : ℕ → World → ℕ
 lostIn n w = lostOn n w (step w)

@@ -6,15 +6,15 @@
 use Rattle.words.specs.Promise.{AnswersUnique}
 use Rattle.words.specs.Theorems.{RecodeBack, FieldsPacked, RowBack, RowThere}
 use Rattle.bus.specs.Theorems.{LocatedIs}
-use Rattle.image.specs.Theorems.{ReadExactly, FieldTold}
+use Rattle.image.specs.Theorems.{ReadExactly, EditionFront, FieldTold}
 use Rattle.image_rows.specs.Rows.{RowsHold, SampleWritten, SampleRead}
 use Rattle.descriptor.specs.Theorems.{LengthJob, ByOffset, ReadAfterBuild, BuildAfterRead}
 use Rattle.machine.specs.Theorems.{RunAdd, RunTells, BudgetOnly, ResumedRuns, StepPassed, StepSpares, RowSteps, CopySteps, SendSteps, ReceiveSteps}
 use Rattle.known_runs.specs.Theorems.{KnownRunsHold, WorkedCasesHold}
-use Rattle.met.specs.Theorems.{FaultedStands, OnlyResetLeaves, ReadInFetchAlone, NoEffectInFetch, NoEffectInMove, NoEffectInWriteBack, KeptAsGiven}
+use Rattle.met.specs.Theorems.{FaultedStands, OnlyResetLeaves, ReadInFetchAlone, UsedAsRead, SlotOutlives, RunNumberRises, RunNumberStays, NoEffectInFetch, NoEffectInMove, NoEffectInWriteBack, KeptAsGiven}
 use Rattle.met.specs.Theorems.{LoadsExactly, SameField, SavedAgain, LoadsBack, WriteKeeps, StepKeeps, RunKeeps, MetKeeps, MetSaves}
 use Rattle.sums.specs.Theorems.{SessionAdds}
-use Rattle.chain.specs.Theorems.{ChainTheorem, ChainAtEveryStep, ChainRecords, BudgetExists, ChainOfRun, ChainOfRunAtEveryStep, KnownRun1, ChainOfThree}
+use Rattle.chain.specs.Theorems.{ChainTheorem, ChainAtEveryStep, ChainRecords, BudgetExists, RunsTwice, ChainOfRun, ChainOfRunAtEveryStep, KnownRun1, ChainOfThree}
 use Rattle.sgdma.specs.Calls.{CreatedUnique, RegisterReadUnique, RegisterWrittenUnique, LineReadUnique, RunMadeUnique, DescriptorBuiltUnique}
 use Rattle.sgdma.specs.Calls.{DescriptorReadUnique}
 use Rattle.chain_calls.specs.Theorems.{CreateInOrder, ReadInOrder, WriteInOrder, LineInOrder, RunInOrder, BuildInOrder, DescriptorInOrder, CreateUnchanged}
@@ -217,11 +217,27 @@ faulted-stands = Rattle.met.proofs.Faults.faulted-stands
 pub only-reset-leaves : OnlyResetLeaves
 only-reset-leaves = Rattle.met.proofs.Faults.only-reset-leaves
 
--- ---- descriptors are read in Fetch alone, and control bits 3 to 6 have no effect
+-- ---- descriptors are read in a Fetch, their own or the one before; the run number; and control bits 3 to 6 have no effect
 
--- A descriptor is read only in its own Fetch: in every other phase the window's bytes do not show in the machine.
+-- Memory is read as a descriptor only in a Fetch: what it goes by, where nothing was read ahead, and the next one.
 pub read-in-fetch-alone : ReadInFetchAlone
 read-in-fetch-alone = Rattle.met.proofs.Reading.read-in-fetch-alone
+
+-- What a Fetch uses is what memory held when the one just before it was fetched.
+pub used-as-read : UsedAsRead
+used-as-read = Rattle.met.proofs.Reading.used-as-read
+
+-- The slot outlives every register write but a pointer write, as the phase leaves it.
+pub slot-outlives : SlotOutlives
+slot-outlives = Rattle.met.proofs.RunNumber.slot-outlives
+
+-- The run number rises by 1 whenever RUN goes 0 to 1, and no other register write changes it.
+pub run-number-rises : RunNumberRises
+run-number-rises = Rattle.met.proofs.RunNumber.run-number-rises
+
+-- Nor does a run.
+pub run-number-stays : RunNumberStays
+run-number-stays = Rattle.met.proofs.RunNumber.run-number-stays
 
 -- In Fetch the descriptor is kept, or not, as under another control with the same use.
 pub no-effect-in-fetch : NoEffectInFetch
@@ -241,9 +257,13 @@ kept-as-given = Rattle.met.proofs.Unused.kept-as-given
 
 -- ---- images
 
--- An image is read as fields exactly when it has 44 bytes, the fields keep the rules and it is their image.
+-- An image is read as fields exactly when it has 85 bytes, the fields keep the rules and it is their image.
 pub read-exactly : ReadExactly
 read-exactly = Rattle.image.proofs.Answers.read-exactly
+
+-- The image of edition 1 is the front of that of edition 2.
+pub edition-front : EditionFront
+edition-front = Rattle.image.proofs.RoundTrip.edition-front
 
 -- Bytes load as m exactly when m keeps the rules and they are its image.
 pub loads-exactly : LoadsExactly
@@ -331,7 +351,7 @@ row-there = Rattle.words.proofs.Orders.row-there
 pub known-runs-hold : KnownRunsHold
 known-runs-hold = Rattle.known_runs.proofs.Claims.known-runs-hold
 
--- Seventy-seven cases worked out by hand.
+-- One hundred and thirty-nine cases worked out by hand.
 pub worked-cases-hold : WorkedCasesHold
 worked-cases-hold = Rattle.known_runs.proofs.Claims.worked-cases-hold
 
@@ -367,6 +387,10 @@ chain-records = Rattle.chain.proofs.Theorem.chain-records
 pub budget-exists : BudgetExists
 budget-exists = Rattle.chain.proofs.Enough.budget-exists
 
+-- Order 4: an unparked descriptor that links to itself runs twice before Ended.
+pub runs-twice : RunsTwice
+runs-twice = Rattle.chain.proofs.Twice.runs-twice
+
 -- ---- of the calls in Rattle: fresh, two register writes, one run
 
 -- With budget enough the run is done, with that outcome; the output is unchanged, and the ledger holds the records of the k.
@@ -401,7 +425,7 @@ known-run-1 = Rattle.chain.proofs.Instances.known-run-1
 pub chain-of-three : ChainOfThree
 chain-of-three = Rattle.chain.proofs.Instances.chain-of-three
 
--- Known run 1 through the C calls: the numbers, all 44 bytes of the image, the window's 256, the report's 18, the ledger's 12.
+-- Known run 1 through the C calls: the numbers, all 85 bytes of the image, the window's 256, the report's 18, the ledger's 12.
 pub known-run-1-in-c : KnownRun1InC
 known-run-1-in-c = Rattle.chain_calls.proofs.Instances.known-run-1-in-c
 

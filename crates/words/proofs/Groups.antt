@@ -4,7 +4,7 @@
 use Prim.Native.Nat.{ℕ, _+_, _^_, _≤_, _<_}
 use mathlib.Core.Path.{_≡_, refl, sym, ap, _∙_, subst}
 use mathlib.Core.List.{List, [], _∷_, _++_, map}
-use native.Mathlib.Nat.{suc-ne-zero}
+use native.Mathlib.Nat.{suc-ne-zero, suc-inj}
 use native.Mathlib.Omega.{arith}
 use lib.ListN.{length, take, drop, take-append-drop, length-drop}
 use lib.Seq.{length-take-le}
@@ -53,6 +53,15 @@ even-total (f ∷ fs) (t ∷ ts) e =
 pub fit-append : (ws us vs xs : List ℕ) → Fit ws vs → Fit us xs → Fit (ws ++ us) (vs ++ xs)
 fit-append [] us [] xs p q = q
 fit-append (w ∷ ws) us (v ∷ vs) xs p q = (p .0, fit-append ws us vs xs (p .1) q)
+
+-- and back
+pub fit-both : (ws us vs xs : List ℕ) → length vs ≡ length ws → Fit (ws ++ us) (vs ++ xs) → Fit ws vs × Fit us xs
+fit-both [] us [] xs e p = (tt, p)
+fit-both [] us (v ∷ vs) xs e p = absurd (suc-ne-zero (length vs) e)
+fit-both (w ∷ ws) us [] xs e p = absurd (suc-ne-zero (length ws) (sym e))
+fit-both (w ∷ ws) us (v ∷ vs) xs e p =
+    let both = fit-both ws us vs xs (suc-inj e) (p .1) in
+    ((p .0, both .0), both .1)
 
 pub fits-concat : (fs vss : List (List ℕ)) → Fits fs vss → Fit (concat fs) (concat vss)
 fits-concat [] [] p = tt

@@ -1,7 +1,7 @@
 -- The laws of numbers in bytes, in either order and over any list of widths: a number comes back from its bytes, bytes come
 -- back from their number, and so for a row of numbers.
 -- Assumes nothing.
-use Prim.Native.Nat.{ℕ, suc, _+_, _*_, _%_, _^_}
+use Prim.Native.Nat.{ℕ, zero, suc, _+_, _*_, _%_, _^_}
 use mathlib.Core.Path.{_≡_, refl, sym, ap, subst, _∙_}
 use mathlib.Core.List.{List, [], _∷_, _++_, append-assoc, reverse, reverse-reverse}
 use native.Mathlib.Nat.{mod-lt, mod-eq-of-lt, suc-ne-zero}
@@ -15,7 +15,7 @@ use Rattle.words.specs.Orders.{inOrder, bytesOf, numberOf, rowBytes, wor
 use Rattle.words.specs.Slices.{AllBytes}
 use Rattle.words.specs.Theorems.{RowBack, RowThere}
 use Rattle.words.proofs.Recode.{join-split, split-join}
-use Rattle.words.proofs.Bytes.{bytes-fit, take-bytes, drop-bytes, order-bytes}
+use Rattle.words.proofs.Bytes.{bytes-fit, take-bytes, drop-bytes, append-bytes, order-bytes}
 
 pub order-back : (order : Order) (xs : List ℕ) → inOrder order (inOrder order xs) ≡ xs
 order-back MostFirst xs = refl
@@ -31,6 +31,17 @@ length-split (w ∷ ws) n = ap suc (length-split ws n)
 
 pub length-bytes : (order : Order) (n v : ℕ) → length (bytesOf order n v) ≡ n
 length-bytes order n v = length-order order (split (bytes n) v) ∙ length-split (bytes n) v ∙ length-replicate n 8
+
+-- the bytes of numbers are bytes
+pub split-bytes : (n v : ℕ) → AllBytes (split (bytes n) v)
+split-bytes zero v = tt
+split-bytes (suc n) v = (mod-lt _ (omega arith), split-bytes n v)
+
+pub row-bytes : (order : Order) (ns vs : List ℕ) → AllBytes (rowBytes order ns vs)
+row-bytes order [] vs = tt
+row-bytes order (n ∷ ns) [] = tt
+row-bytes order (n ∷ ns) (v ∷ vs) =
+    append-bytes (bytesOf order n v) _ (order-bytes order (split (bytes n) v) (split-bytes n v)) (row-bytes order ns vs)
 
 -- a number comes back from its n bytes, but for what they cannot hold
 pub number-bytes : (order : Order) (n v : ℕ) → numberOf order (bytesOf order n v) ≡ v % 2 ^ total (bytes n)
@@ -49,15 +60,11 @@ pub turn-number : (order : Order) (a b c d : ℕ) → AllBytes (a ∷ b ∷ c �
     → join (bytes 4) (inOrder order (bytesOf LeastFirst 4 (join (bytes 4) (d ∷ c ∷ b ∷ a ∷ [])))) ≡ join (bytes 4) (inOrder order (a ∷ b ∷ c ∷ d ∷ []))
 turn-number order a b c d g = ap (λ (xs : List ℕ). join (bytes 4) (inOrder order xs)) (bytes-number LeastFirst (a ∷ b ∷ c ∷ d ∷ []) g)
 
-split-bytes : (v : ℕ) → AllBytes (split (bytes 4) v)
-split-bytes v =
-    (mod-lt _ (omega arith), (mod-lt _ (omega arith), (mod-lt _ (omega arith), (mod-lt _ (omega arith), tt))))
-
 -- a number that is turned and then put least first stands in the order asked for
 pub turn-bytes : (order : Order) (v : ℕ) → bytesOf LeastFirst 4 (join (bytes 4) (inOrder order (bytesOf LeastFirst 4 v))) ≡ bytesOf order 4 v
-turn-bytes MostFirst v = bytes-number LeastFirst (split (bytes 4) v) (split-bytes v)
+turn-bytes MostFirst v = bytes-number LeastFirst (split (bytes 4) v) (split-bytes 4 v)
 turn-bytes LeastFirst v =
-    bytes-number LeastFirst (reverse (split (bytes 4) v)) (order-bytes LeastFirst (split (bytes 4) v) (split-bytes v))
+    bytes-number LeastFirst (reverse (split (bytes 4) v)) (order-bytes LeastFirst (split (bytes 4) v) (split-bytes 4 v))
 
 -- a row of numbers comes back from its bytes
 pub row-back : RowBack

@@ -2,12 +2,12 @@
 //! model, so that what happens inside it is seen as well.
 
 use super::refusals::{applying, broken_fields, broken_rules};
-use super::{ledgers, AtMax, EdgeWindow, Event, LastByte, Point};
+use super::{ledgers, slots, AtMax, EdgeWindow, Event, LastByte, Point};
 use crate::call::{Call, Lent, Told};
 use crate::compare::Answer;
 use crate::model::{
     control, descriptor_control, offset, Descriptors, Images, Kept, Ledger, Machine, Mode, Paper,
-    Phase, Ports, Reason, Refusal, Steps, IMAGE_SIZE,
+    Phase, Ports, Reason, Refusal, Slots, Steps, IMAGE_SIZE,
 };
 
 /// How much of one long run is looked at.
@@ -21,6 +21,7 @@ pub(super) fn points(call: &Call, answer: &Answer, reach: &mut dyn FnMut(Point))
     }
     if let Some(machine) = loaded(answer.after.image()) {
         reach(Point::Left(machine.mode, machine.phase));
+        slots::left(&machine, reach);
     }
     let before = loaded(call.image());
     match (call, before) {
@@ -72,6 +73,7 @@ fn spoiled(call: &Call, reach: &mut dyn FnMut(Point)) {
 fn written(machine: &Machine, offset: u32, value: u32, reach: &mut dyn FnMut(Point)) {
     let phase = machine.phase;
     reach(Point::Written(offset, phase));
+    slots::written(machine, offset, value, reach);
     match offset {
         offset::STATUS => {
             for bit in (0..4).map(|place| 1 << place) {
@@ -179,11 +181,11 @@ fn control_byte(machine: &Machine, ports: &Ports) -> Option<u8> {
 }
 
 /// One step that was taken.
-struct Step<'run, 'lent> {
-    before: &'run Machine,
-    after: &'run Machine,
+pub(super) struct Step<'run, 'lent> {
+    pub before: &'run Machine,
+    pub after: &'run Machine,
     control_in_memory: Option<u8>,
-    ports: &'run Ports<'lent>,
+    pub ports: &'run Ports<'lent>,
 }
 
 impl Step<'_, '_> {
@@ -204,6 +206,7 @@ impl Step<'_, '_> {
             _ => {}
         }
         self.pended(reach);
+        slots::stepped(self, reach);
     }
 
     fn faulted(&self, reach: &mut dyn FnMut(Point)) {
@@ -220,10 +223,10 @@ impl Step<'_, '_> {
         }
     }
 
-    /// The chain ended: what stands at the pointer?
+    /// The chain ended: what stood at the pointer?
     fn ended(&self, reach: &mut dyn FnMut(Point)) {
-        let place = (u64::from(self.before.pointer) - self.before.window.base) as usize;
-        if self.ports.memory[place + 24..place + 26] == [0, 0] {
+        let found = Paper.looked_at(self.before, self.ports.memory);
+        if found.bytes[24..26] == [0, 0] {
             reach(Point::UnownedWithoutLength(self.before.mode));
         }
     }

@@ -35,9 +35,9 @@ const REFUSALS: [CallRefusals; 7] = [
 ];
 
 /// The fields of an image against which some rule counts. No rule counts against
-/// armed, pending, pointer and base, which are 4, 5, 10 and 11.
-const FIELDS: [u8; 18] = [
-    1, 2, 3, 6, 7, 8, 9, 12, 13, 14, 15, 16, 17, 18, 19, 20, 21, 22,
+/// armed, pending, pointer, base and run number, which are 4, 5, 10, 11 and 27.
+const FIELDS: [u8; 22] = [
+    1, 2, 3, 6, 7, 8, 9, 12, 13, 14, 15, 16, 17, 18, 19, 20, 21, 22, 23, 24, 25, 26,
 ];
 
 /// "8 carries it, in C as 8 + 256 × field."

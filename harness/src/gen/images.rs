@@ -3,7 +3,7 @@
 use super::{Host, Rng};
 use crate::model::{
     control, descriptor_control, status, Descriptors, Image, Kept, Machine, Mode, Paper, Phase,
-    DESCRIPTOR_SIZE, IMAGE_SIZE,
+    SlotKind, DESCRIPTOR_SIZE, IMAGE_SIZE,
 };
 
 /// What may be spoilt in an image: one field each.
@@ -44,6 +44,19 @@ const KEPT_SPOILS: [Spoil; 10] = [
     |image, _| image.kept.eop_seen = !image.kept.eop_seen,
 ];
 
+/// What may be spoilt in the slot of an image.
+#[rustfmt::skip]
+const SLOT_SPOILS: [Spoil; 8] = [
+    |image, rng| image.slot.kind = rng.pick(&SlotKind::ALL),
+    |image, rng| (image.slot.kind, image.slot.address) = (rng.pick(&SlotKind::ALL), image.pointer),
+    |image, rng| image.slot.address ^= 1 << rng.below(32),
+    |image, _| image.slot.address = 0,
+    |image, rng| image.pointer ^= 1 << rng.below(32),
+    |image, rng| image.slot.bytes[rng.below(32) as usize] ^= 1 << rng.below(8),
+    |image, rng| image.slot.bytes = [rng.pick(&[0, 1]); DESCRIPTOR_SIZE],
+    |image, rng| image.slot_zero = 1 << rng.below(6),
+];
+
 impl Host {
     /// An image that keeps all rules, of any mode and phase, for this window.
     pub(super) fn good_image(&mut self) -> Image {
@@ -62,7 +75,9 @@ impl Host {
             image.control |= control::RUN;
         }
         image.armed = image.control & control::SW_RESET != 0;
-        image.pointer = self.descriptor_address();
+        image.pointer = self.pointer_of(phase);
+        image.slot = self.good_slot(phase, image.pointer);
+        image.run_number = self.good_run_number();
         if matches!(phase, Phase::Move | Phase::WriteBack) {
             image.kept = self.good_kept(mode, phase);
         }
@@ -155,8 +170,8 @@ impl Host {
         };
         self.spoil_fitting(&mut image);
         match self.rng.below(10) {
-            0..=1 => self.spoil_any(&mut image),
-            2..=3 => self.write_over(&mut image),
+            0..=4 => self.spoil_any(&mut image),
+            5..=6 => self.write_over(&mut image),
             _ => {}
         }
         image
@@ -167,6 +182,7 @@ impl Host {
         let keeps = image.kept != Kept::default();
         let spoil = match Phase::of_number(image.phase) {
             Phase::Faulted if self.rng.chance(30) => SPOIL_FAULT,
+            _ if self.rng.chance(25) => self.rng.pick(&SLOT_SPOILS),
             _ if keeps || self.rng.chance(20) => self.rng.pick(&KEPT_SPOILS),
             _ => self.rng.pick(&SPOILS),
         };
@@ -174,15 +190,20 @@ impl Host {
     }
 
     fn spoil_any(&mut self, image: &mut Image) {
-        let spoils = self.rng.pick(&[SPOILS.as_slice(), &KEPT_SPOILS]);
+        let spoils = self
+            .rng
+            .pick(&[SPOILS.as_slice(), &KEPT_SPOILS, &SLOT_SPOILS]);
         self.rng.pick(spoils)(image, &mut self.rng);
     }
 
-    /// A write that strays over some bytes of the image.
+    /// A write that strays over some bytes of the image, often over its first,
+    /// where there are many fields.
     fn write_over(&mut self, image: &mut Image) {
         let mut bytes = image.pack();
-        let from = self.rng.below(IMAGE_SIZE as u64) as usize;
-        let count = 1 + self.rng.below((IMAGE_SIZE - from) as u64) as usize;
+        let starts = self.rng.pick(&[4, IMAGE_SIZE as u64]);
+        let from = self.rng.below(starts) as usize;
+        let most = self.rng.pick(&[8, IMAGE_SIZE]).min(IMAGE_SIZE - from);
+        let count = 1 + self.rng.below(most as u64) as usize;
         let stray = if self.rng.chance(50) {
             vec![0xFF; count]
         } else {

@@ -1,14 +1,14 @@
 //! The saved image: the layout, the rules, loading and saving.
 
 use super::{
-    control, descriptor_control, status, Descriptors, Kept, Machine, Mode, Phase, Refused, Window,
-    DESCRIPTOR_SIZE,
+    control, descriptor_control, status, Kept, Machine, Mode, Phase, Refused, Slot, SlotKind,
+    Slots, Window, DESCRIPTOR_SIZE,
 };
 
-/// "44 bytes, bits most significant first"
-pub const IMAGE_SIZE: usize = 44;
+/// "The image becomes edition 2: .. 85 bytes", bits most significant first.
+pub const IMAGE_SIZE: usize = 85;
 
-const EDITION: u8 = 1;
+const EDITION: u8 = 2;
 
 /// The numbers of an image in the paper's order, whether they keep the rules or
 /// not.
@@ -29,13 +29,17 @@ pub struct Image {
     pub kept: Kept,
     pub zero: u16,
     pub fault_address: u32,
+    pub slot_zero: u8,
+    pub slot: Slot,
+    pub run_number: u32,
 }
 
 impl Image {
-    /// "edition 4 (=1), mode 2, phase 3 .., armed 1, pending 1, fault 5, status 8,
+    /// "edition 4, mode 2, phase 3 .., armed 1, pending 1, fault 5, status 8,
     /// count 8, control 32, pointer 32, base 32, window length 32; then descriptor
     /// address 32, source 32, destination 32, length 16, control 8, errors 8,
-    /// moved 16, EOP seen 1, zero 15; fault address 32."
+    /// moved 16, EOP seen 1, zero 15; fault address 32", and "after the old fields,
+    /// slot kind 2 .., zero 6, slot address 32, slot bytes 256, run number 32".
     #[inline]
     pub fn unpack(bytes: &[u8; IMAGE_SIZE]) -> Image {
         let short = |place| u16::from_be_bytes([bytes[place], bytes[place + 1]]);
@@ -67,6 +71,13 @@ impl Image {
             },
             zero: tail & 0x7FFF,
             fault_address: long(40),
+            slot_zero: bytes[44] & 0x3F,
+            slot: Slot {
+                kind: SlotKind::of_number(bytes[44] >> 6),
+                address: long(45),
+                bytes: *bytes[49..].first_chunk().expect("32 bytes in order"),
+            },
+            run_number: long(81),
         }
     }
 
@@ -98,6 +109,10 @@ impl Image {
         let tail = u16::from(self.kept.eop_seen) << 15 | self.zero;
         put(38, &tail.to_be_bytes());
         put(40, &self.fault_address.to_be_bytes());
+        put(44, &[(self.slot.kind as u8) << 6 | self.slot_zero]);
+        put(45, &self.slot.address.to_be_bytes());
+        put(49, &self.slot.bytes);
+        put(81, &self.run_number.to_be_bytes());
         bytes
     }
 
@@ -119,6 +134,9 @@ impl Image {
             kept: machine.kept,
             zero: 0,
             fault_address: machine.fault_address,
+            slot_zero: 0,
+            slot: machine.slot,
+            run_number: machine.run_number,
         }
     }
 
@@ -137,6 +155,8 @@ impl Image {
             kept: self.kept,
             fault_code: self.fault,
             fault_address: self.fault_address,
+            slot: self.slot,
+            run_number: self.run_number,
         }
     }
 
@@ -169,7 +189,7 @@ impl Image {
 /// rule for each".
 #[derive(Clone, Copy, Debug, PartialEq, Eq, PartialOrd, Ord)]
 pub enum ImageRule {
-    EditionOne,
+    EditionTwo,
     ModeAtMostTwo,
     PhaseAtMostSix,
     WindowLength,
@@ -207,11 +227,18 @@ pub enum ImageRule {
     NoFaultCodeElsewhere,
     NoFaultAddressElsewhere,
     ZeroBitsZero,
+    HeldOnlyInFetchMoveWriteBack,
+    SlotZeroBitsZero,
+    EmptySlotWithoutAddress,
+    HeldSlotAtPointer,
+    SlotKindOfItsAddress,
+    EmptySlotWithoutBytes,
+    FaultSlotWithoutBytes,
 }
 
 impl ImageRule {
-    pub const ALL: [ImageRule; 38] = [
-        ImageRule::EditionOne,
+    pub const ALL: [ImageRule; 45] = [
+        ImageRule::EditionTwo,
         ImageRule::ModeAtMostTwo,
         ImageRule::PhaseAtMostSix,
         ImageRule::WindowLength,
@@ -249,6 +276,13 @@ impl ImageRule {
         ImageRule::NoFaultCodeElsewhere,
         ImageRule::NoFaultAddressElsewhere,
         ImageRule::ZeroBitsZero,
+        ImageRule::HeldOnlyInFetchMoveWriteBack,
+        ImageRule::SlotZeroBitsZero,
+        ImageRule::EmptySlotWithoutAddress,
+        ImageRule::HeldSlotAtPointer,
+        ImageRule::SlotKindOfItsAddress,
+        ImageRule::EmptySlotWithoutBytes,
+        ImageRule::FaultSlotWithoutBytes,
     ];
 }
 
@@ -258,7 +292,7 @@ impl ImageRule {
     pub fn field(self) -> u8 {
         use ImageRule::*;
         match self {
-            EditionOne => 1,
+            EditionTwo => 1,
             ModeAtMostTwo => 2,
             PhaseAtMostSix | HaltedOnlyInModeTwo => 3,
             FaultCode | FaultCodeOfMode | NoFaultCodeElsewhere => 6,
@@ -279,6 +313,10 @@ impl ImageRule {
             NoEopElsewhere | NoEopFromMemory | MoveNoEop | WriteBackFinished => 20,
             ZeroBitsZero => 21,
             NoFaultAddressElsewhere => 22,
+            HeldOnlyInFetchMoveWriteBack => 23,
+            SlotZeroBitsZero => 24,
+            EmptySlotWithoutAddress | HeldSlotAtPointer | SlotKindOfItsAddress => 25,
+            EmptySlotWithoutBytes | FaultSlotWithoutBytes => 26,
         }
     }
 
@@ -293,7 +331,7 @@ impl ImageRule {
 /// Each rule with whether the image keeps it.
 type Verdicts<const RULES: usize> = [(ImageRule, bool); RULES];
 
-pub trait Images: Descriptors {
+pub trait Images: Slots {
     /// "An image loads exactly when it keeps these rules"
     #[inline]
     fn load(self, bytes: &[u8; IMAGE_SIZE]) -> Result<Machine, Refused> {
@@ -303,7 +341,8 @@ pub trait Images: Descriptors {
             && self.none_elsewhere_rules(&image).iter().all(accepted)
             && self.kept_rules(&image).iter().all(accepted)
             && self.progress_rules(&image).iter().all(accepted)
-            && self.fault_rules(&image).iter().all(accepted);
+            && self.fault_rules(&image).iter().all(accepted)
+            && self.slot_rules(&image).iter().all(accepted);
         if keeps_rules {
             Ok(image.machine())
         } else {
@@ -345,11 +384,12 @@ pub trait Images: Descriptors {
             .chain(self.kept_rules(image))
             .chain(self.progress_rules(image))
             .chain(self.fault_rules(image))
+            .chain(self.slot_rules(image))
             .filter_map(|(rule, kept)| (!kept).then_some(rule))
             .collect()
     }
 
-    /// "edition 1; mode at most 2, phase at most 6; window as above; status bits
+    /// "edition 2; mode at most 2, phase at most 6; window as above; status bits
     /// 5..7, control bits 18..31 zero; control bit 16 equals armed; BUSY 1 exactly
     /// in phases 1 to 4; RUN 1 in Ended and Halted; Halted only in mode 2; ERROR
     /// and EOP_ENCOUNTERED 0 outside mode 2; count at most 254."
@@ -362,7 +402,7 @@ pub trait Images: Descriptors {
         let is_stream_to_memory = image.mode == Mode::StreamToMemory as u8;
         let stream_status = image.status & (status::ERROR | status::EOP_ENCOUNTERED);
         [
-            (EditionOne, image.edition == EDITION),
+            (EditionTwo, image.edition == EDITION),
             (ModeAtMostTwo, image.mode <= 2),
             (PhaseAtMostSix, image.phase <= 6),
             (WindowLength, length <= 65_536),
@@ -484,6 +524,29 @@ pub trait Images: Descriptors {
             (FaultCodeOfMode, !faulted || met_in_mode),
             (NoFaultCodeElsewhere, faulted || image.fault == 0),
             (NoFaultAddressElsewhere, faulted || image.fault_address == 0),
+        ]
+    }
+
+    /// "An empty slot is all zero; a fault slot's bytes are zero; a held slot stands
+    /// only in Fetch, Move and WriteBack, its address is the pointer, and its kind
+    /// is what rules 10 and 11 give there." "Zero bits are zero."
+    #[inline]
+    fn slot_rules(self, image: &Image) -> Verdicts<7> {
+        use ImageRule::*;
+        let Image { slot, .. } = image;
+        let held = slot.is_held();
+        let has_bytes = slot.kind == SlotKind::Descriptor;
+        let no_bytes = slot.bytes == [0; DESCRIPTOR_SIZE];
+        let stands = image.is_in(&[Phase::Fetch, Phase::Move, Phase::WriteBack]);
+        let due = || self.kind_at(image.window(), slot.address);
+        [
+            (HeldOnlyInFetchMoveWriteBack, !held || stands),
+            (SlotZeroBitsZero, image.slot_zero == 0),
+            (EmptySlotWithoutAddress, held || slot.address == 0),
+            (HeldSlotAtPointer, !held || slot.address == image.pointer),
+            (SlotKindOfItsAddress, !held || slot.kind == due()),
+            (EmptySlotWithoutBytes, held || no_bytes),
+            (FaultSlotWithoutBytes, !held || has_bytes || no_bytes),
         ]
     }
 }

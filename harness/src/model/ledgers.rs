@@ -65,7 +65,7 @@ pub trait Ledgers: Copy {
         }
     }
 
-    /// A machine does not count its runs yet: all records are of run 0.
+    /// Records are not dated yet: all are of run 0.
     fn run_number(self, _machine: &Machine) -> u32 {
         0
     }

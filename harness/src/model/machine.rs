@@ -1,6 +1,6 @@
 //! The state of the machine.
 
-use super::{control, Window};
+use super::{control, Slot, Window};
 
 /// "Modes: 0 memory to memory, 1 memory to stream, 2 stream to memory."
 #[derive(Clone, Copy, Debug, PartialEq, Eq, PartialOrd, Ord)]
@@ -111,10 +111,14 @@ pub struct Machine {
     /// Both 0 in every phase but Faulted.
     pub fault_code: u8,
     pub fault_address: u32,
+    /// What was read ahead.
+    pub slot: Slot,
+    /// How often RUN has gone from 0 to 1.
+    pub run_number: u32,
 }
 
 impl Machine {
-    /// A machine after reset: "mode and window stay", and all else is 0.
+    /// A machine as it is created: all but mode and window is 0.
     pub fn fresh(mode: Mode, window: Window) -> Machine {
         Machine {
             mode,
@@ -128,6 +132,8 @@ impl Machine {
             kept: Kept::default(),
             fault_code: 0,
             fault_address: 0,
+            slot: Slot::default(),
+            run_number: 0,
         }
     }
 

@@ -1,6 +1,6 @@
 //! Registers and the interrupt.
 
-use super::{Machine, Phase, Refusal};
+use super::{Emptying, Machine, Phase, Refusal, Slots};
 
 /// "Offsets 0 status, 4 control, 8 next_descriptor_pointer"
 pub mod offset {
@@ -39,7 +39,7 @@ pub mod control {
     pub const STORED: u32 = 0x0003_FFFF;
 }
 
-pub trait Registers: Copy {
+pub trait Registers: Slots {
     /// "Reading changes nothing."
     fn read_register(self, machine: &Machine, offset: u32) -> Result<u32, Refusal> {
         match offset {
@@ -65,9 +65,11 @@ pub trait Registers: Copy {
         machine.status &= !(value as u8 & status::CLEARED_BY_WRITING);
     }
 
-    /// "The pointer may be written in any phase."
+    /// "The pointer may be written in any phase." Whatever is written, "a host
+    /// pointer write" empties the slot.
     fn write_pointer(self, machine: &mut Machine, value: u32) {
         machine.pointer = value;
+        self.empty_slot(machine, Emptying::PointerWrite);
     }
 
     fn write_control(self, machine: &mut Machine, value: u32) {
@@ -84,9 +86,12 @@ pub trait Registers: Copy {
     }
 
     /// "the machine is fresh again (mode and window stay) and the rest of the
-    /// value is ignored"
+    /// value is ignored"; the run number "outlives a reset".
     fn reset(self, machine: &mut Machine, _value: u32) {
-        *machine = Machine::fresh(machine.mode, machine.window);
+        *machine = Machine {
+            run_number: machine.run_number,
+            ..Machine::fresh(machine.mode, machine.window)
+        };
     }
 
     /// "Otherwise bits 0..17 are stored; bit 31 clears the pending interrupt;
@@ -99,8 +104,15 @@ pub trait Registers: Copy {
         }
         if machine.runs() && !ran_before {
             machine.count = 0;
+            self.count_run(machine);
         }
         self.leave_stopped_phase(machine);
+    }
+
+    /// "The run number rises by 1 whenever RUN goes 0 to 1, stays at its largest
+    /// value".
+    fn count_run(self, machine: &mut Machine) {
+        machine.run_number = machine.run_number.saturating_add(1);
     }
 
     /// "RUN 0 in Ended or Halted goes to Rest with BUSY 0."
@@ -114,6 +126,7 @@ pub trait Registers: Copy {
     fn go_to_rest(self, machine: &mut Machine) {
         machine.phase = Phase::Rest;
         machine.status &= !status::BUSY;
+        self.empty_slot(machine, Emptying::Rest);
     }
 
     /// "Each event pends only under its own enable."

@@ -1,8 +1,8 @@
 //! Steps and runs.
 
 use super::{
-    control, descriptor_control, status, Descriptor, Descriptors, Fault, Kept, Ledger, Ledgers,
-    Machine, Mode, Phase, Registers, DESCRIPTOR_SIZE,
+    control, descriptor_control, status, Descriptor, Emptying, Fault, Kept, Ledger, Ledgers,
+    Machine, Mode, Phase, Registers, Slot, SlotKind, Slots, DESCRIPTOR_SIZE,
 };
 
 /// What is lent to a run, and how far it has come in the two streams and in the
@@ -120,7 +120,7 @@ pub struct Report {
     pub used: u32,
 }
 
-pub trait Steps: Registers + Descriptors + Ledgers {
+pub trait Steps: Registers + Slots + Ledgers {
     /// "A run takes steps until one cannot be taken or the budget (32 bits) is
     /// spent, and its answer is the reason found there: .. Budget is given only if
     /// another step was possible."
@@ -213,30 +213,35 @@ pub trait Steps: Registers + Descriptors + Ledgers {
         machine.fault_code = fault.code;
         machine.fault_address = fault.address as u32;
         machine.kept = Kept::default();
+        self.empty_slot(machine, Emptying::Faulted);
     }
 
-    /// "Fetch. RUN 0: Rest, BUSY 0. Otherwise read 32 bytes at the pointer".
-    /// "A descriptor is read only in its own Fetch."
+    /// "Fetch. RUN 0: Rest, BUSY 0. Otherwise read 32 bytes at the pointer", where
+    /// they were not read ahead.
     fn fetch(self, machine: &mut Machine, memory: &[u8]) -> Result<(), Fault> {
         if !machine.runs() {
             self.go_to_rest(machine);
             return Ok(());
         }
-        let place = self.fetch_place(machine)?;
-        let mut bytes = [0; DESCRIPTOR_SIZE];
-        bytes.copy_from_slice(&memory[place..place + DESCRIPTOR_SIZE]);
-        self.accept(machine, &self.read_fields(&bytes))
+        let found = self.looked_at(machine, memory);
+        self.check_found(machine, &found)?;
+        self.accept(machine, &self.read_fields(&found.bytes))?;
+        if machine.phase == Phase::Move {
+            self.read_ahead(machine, memory);
+        }
+        Ok(())
     }
 
-    /// "misaligned, fault 10; not wholly in the window, fault 11"
-    fn fetch_place(self, machine: &Machine) -> Result<usize, Fault> {
+    /// "misaligned, fault 10; not wholly in the window, fault 11", with "the
+    /// pointer" as their address.
+    fn check_found(self, machine: &Machine, found: &Slot) -> Result<(), Fault> {
         let address = u64::from(machine.pointer);
-        let fault = |code| Fault { code, address };
-        if !self.is_aligned(machine.window, machine.pointer) {
-            return Err(fault(Fault::MISALIGNED));
+        let fault = |code| Err(Fault { code, address });
+        match found.kind {
+            SlotKind::Misaligned => fault(Fault::MISALIGNED),
+            SlotKind::Outside => fault(Fault::DESCRIPTOR_OUTSIDE),
+            SlotKind::Descriptor | SlotKind::Empty => Ok(()),
         }
-        self.place(machine.window, address, DESCRIPTOR_SIZE as u64)
-            .ok_or(fault(Fault::DESCRIPTOR_OUTSIDE))
     }
 
     /// What Fetch does with the descriptor it has read: unowned, the chain ends;
@@ -261,6 +266,7 @@ pub trait Steps: Registers + Descriptors + Ledgers {
     fn end_chain(self, machine: &mut Machine, _read: &Descriptor) {
         self.signal(machine, status::CHAIN_COMPLETED, control::IE_CHAIN);
         machine.phase = Phase::Ended;
+        self.empty_slot(machine, Emptying::Ended);
     }
 
     /// "Otherwise keep the fields, set the pointer to next_desc_ptr, go to Move."
@@ -456,6 +462,7 @@ pub trait Steps: Registers + Descriptors + Ledgers {
         } else if errors && machine.controls(control::STOP_DMA_ER) {
             machine.phase = Phase::Halted;
             machine.status &= !status::BUSY;
+            self.empty_slot(machine, Emptying::Halted);
         } else {
             machine.phase = Phase::Fetch;
         }

@@ -47,7 +47,7 @@ fn the_slips_are_many_and_different() {
     slips.extend(slips::timers::slips());
     let different: BTreeSet<&String> = slips.iter().map(|(text, _)| text).collect();
     assert_eq!(different.len(), slips.len());
-    assert!(slips.len() >= 460, "only {} slips", slips.len());
+    assert!(slips.len() >= 550, "only {} slips", slips.len());
 }
 
 #[test]

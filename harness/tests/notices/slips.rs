@@ -7,31 +7,34 @@ use harness::model::{ImageRule, Images};
 /// Takes the rules of every other trait as they stand in the paper.
 macro_rules! paper_otherwise {
     (Windows for $model:ident) => {
-        paper_otherwise!(Registers, Descriptors, Ledgers, Steps, Images, Controllers, Timers, Calls: $model);
+        paper_otherwise!(Registers, Descriptors, Slots, Ledgers, Steps, Images, Controllers, Timers, Calls: $model);
     };
     (Registers for $model:ident) => {
-        paper_otherwise!(Windows, Descriptors, Ledgers, Steps, Images, Controllers, Timers, Calls: $model);
+        paper_otherwise!(Windows, Descriptors, Slots, Ledgers, Steps, Images, Controllers, Timers, Calls: $model);
     };
     (Descriptors for $model:ident) => {
-        paper_otherwise!(Windows, Registers, Ledgers, Steps, Images, Controllers, Timers, Calls: $model);
+        paper_otherwise!(Windows, Registers, Slots, Ledgers, Steps, Images, Controllers, Timers, Calls: $model);
+    };
+    (Slots for $model:ident) => {
+        paper_otherwise!(Windows, Registers, Descriptors, Ledgers, Steps, Images, Controllers, Timers, Calls: $model);
     };
     (Ledgers for $model:ident) => {
-        paper_otherwise!(Windows, Registers, Descriptors, Steps, Images, Controllers, Timers, Calls: $model);
+        paper_otherwise!(Windows, Registers, Descriptors, Slots, Steps, Images, Controllers, Timers, Calls: $model);
     };
     (Steps for $model:ident) => {
-        paper_otherwise!(Windows, Registers, Descriptors, Ledgers, Images, Controllers, Timers, Calls: $model);
+        paper_otherwise!(Windows, Registers, Descriptors, Slots, Ledgers, Images, Controllers, Timers, Calls: $model);
     };
     (Images for $model:ident) => {
-        paper_otherwise!(Windows, Registers, Descriptors, Ledgers, Steps, Controllers, Timers, Calls: $model);
+        paper_otherwise!(Windows, Registers, Descriptors, Slots, Ledgers, Steps, Controllers, Timers, Calls: $model);
     };
     (Calls for $model:ident) => {
-        paper_otherwise!(Windows, Registers, Descriptors, Ledgers, Steps, Images, Controllers, Timers: $model);
+        paper_otherwise!(Windows, Registers, Descriptors, Slots, Ledgers, Steps, Images, Controllers, Timers: $model);
     };
     (Controllers for $model:ident) => {
-        paper_otherwise!(Windows, Registers, Descriptors, Ledgers, Steps, Images, Timers, Calls: $model);
+        paper_otherwise!(Windows, Registers, Descriptors, Slots, Ledgers, Steps, Images, Timers, Calls: $model);
     };
     (Timers for $model:ident) => {
-        paper_otherwise!(Windows, Registers, Descriptors, Ledgers, Steps, Images, Controllers, Calls: $model);
+        paper_otherwise!(Windows, Registers, Descriptors, Slots, Ledgers, Steps, Images, Controllers, Calls: $model);
     };
     ($($rules:ident),*: $model:ident) => {
         $(impl harness::model::$rules for $model {})*
@@ -93,6 +96,7 @@ mod descriptors;
 mod images;
 mod ledgers;
 mod registers;
+mod slots;
 mod steps;
 pub mod timers;
 mod windows;
@@ -106,6 +110,7 @@ pub fn all() -> Vec<Slip> {
         windows::slips(),
         registers::slips(),
         descriptors::slips(),
+        slots::slips(),
         ledgers::slips(),
         steps::slips(),
         images::slips(),

@@ -10,10 +10,10 @@ use Rattle.image.proofs.first_false.Statement.{statement}
 use Rattle.image.proofs.first_false.Tie as tie
 
 abbrev Inv-loop : tie.InvT-loop
-Inv-loop kept i₀ i = (i ≤ 22) × (firstFalse 1 kept ≡ firstFalse (i + 1) (drop i kept))
+Inv-loop kept i₀ i = (i ≤ 27) × (firstFalse 1 kept ≡ firstFalse (i + 1) (drop i kept))
 
 abbrev μ-loop : tie.MeasureT-loop
-μ-loop kept i₀ i = 22 - i
+μ-loop kept i₀ i = 27 - i
 
 loop-holds : tie.Need-loop-holds Inv-loop μ-loop
 loop-holds c = (search needs, refl)
@@ -51,7 +51,7 @@ returns-2 : tie.Need-returns-2 Inv-loop μ-loop
 returns-2 c =
     let at = c .before in
     let bs = at .before .args .t1 in
-    let l : length bs ≡ 22 = search needs in
+    let l : length bs ≡ 27 = search needs in
     sym (at .loop .inv .1 ∙ none bs (at .loop .i) (omega arith))
 
 pub first-false-spec : {M : Type 1} → statement M

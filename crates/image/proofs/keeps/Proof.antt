@@ -1,49 +1,24 @@
-use Rattle.image.proofs.ByPhase.{always-broken, phase-decides}
 use mathlib.Core.Path.{sym, _∙_}
-use borrow.Author.Tests.{not-true, not-false, ne-eqb}
+use Rattle.image.proofs.ByPhase.{kept-in-parts}
 use borrow.Author.Needs.{needs}
 use Rattle.image.proofs.keeps.Statement.{statement}
 use Rattle.image.proofs.keeps.Tie as tie
 
-always-kept-requires : tie.Need-always-kept-requires
-always-kept-requires c κs = search needs
+core-kept-requires : tie.Need-core-kept-requires
+core-kept-requires c κs = search needs
+
+slot-bytes-kept-requires : tie.Need-slot-bytes-kept-requires
+slot-bytes-kept-requires c κs = search needs
+
+slot-kept-requires : tie.Need-slot-kept-requires
+slot-kept-requires c κs = search needs
 
 returns : tie.Need-returns
-returns c = record { value = sym (always-broken _ (sym (c .before .always-kept .ensures) ∙ not-true _ (c .if1 .taken))) }
-
-hand-kept-requires : tie.Need-hand-kept-requires
-hand-kept-requires c κs = (c .if2 .taken, search needs)
-
-returns-2 : tie.Need-returns-2
-returns-2 c =
-    let kept = c .before .before .before in
-    record { value = c .hand-kept .ensures ∙ sym (phase-decides _ (sym (kept .before .always-kept .ensures) ∙ not-false _ (kept .if1 .left))) }
-
-hand-kept-requires-2 : tie.Need-hand-kept-requires-2
-hand-kept-requires-2 c κs = (c .if3 .taken, search needs)
-
-returns-3 : tie.Need-returns-3
-returns-3 c =
-    let kept = c .before .before .before .before .before in
-    record { value = c .hand-kept2 .ensures ∙ sym (phase-decides _ (sym (kept .before .always-kept .ensures) ∙ not-false _ (kept .if1 .left))) }
-
-idle-kept-requires : tie.Need-idle-kept-requires
-idle-kept-requires c κs = rw (ne-eqb _ _ (c .before .before .if2 .left), ne-eqb _ _ (c .if3 .left))
-
-returns-4 : tie.Need-returns-4
-returns-4 c =
-    let kept = c .before .before .before .before .before in
-    record { value = c .idle-kept .ensures ∙ sym (phase-decides _ (sym (kept .before .always-kept .ensures) ∙ not-false _ (kept .if1 .left))) }
+returns c =
+    let bytes = c .before in
+    let core = bytes .before in
+    record { value = rw (core .core-kept .ensures, c .slot-kept .ensures, bytes .slot-bytes-kept .ensures) (sym (kept-in-parts _ _)) }
 
 pub keeps-spec : {M : Type 1} → statement M
 keeps-spec =
-    tie.close
-    (tie.spec
-    always-kept-requires
-    returns
-    hand-kept-requires
-    returns-2
-    hand-kept-requires-2
-    returns-3
-    idle-kept-requires
-    returns-4)
+    tie.close (tie.spec core-kept-requires slot-bytes-kept-requires slot-kept-requires returns)

@@ -1,7 +1,14 @@
-use Rattle.image.specs.Rules.{rules}
+use Prim.Native.Nat.{ℕ}
+use mathlib.Core.Bool.{Bool}
+use mathlib.Core.List.{List, _∷_}
+use mathlib.Core.Path.{_≡_, refl, ap, _∙_}
+use Rattle.image.specs.Rules.{movedKept, eopKept, rules}
 use borrow.Author.Needs.{needs}
 use Rattle.image.proofs.kept.Statement.{statement}
 use Rattle.image.proofs.kept.Tie as tie
+
+next : {a b : Bool} {cs ds : List Bool} → a ≡ b → cs ≡ ds → a ∷ cs ≡ b ∷ ds
+next p q = rw (p, q)
 
 whole-requires : tie.Need-whole-requires
 whole-requires c κs = search needs
@@ -45,10 +52,21 @@ moved-kept-requires c κs = search needs
 eop-kept-requires : tie.Need-eop-kept-requires
 eop-kept-requires c κs = search needs
 
+held-kept-requires : tie.Need-held-kept-requires
+held-kept-requires c κs = search needs
+
+slot-at-kept-requires : tie.Need-slot-at-kept-requires
+slot-at-kept-requires c κs = search needs
+
+slot-bytes-kept-requires : tie.Need-slot-bytes-kept-requires
+slot-bytes-kept-requires c κs = search needs
+
 returns : tie.Need-returns
 unfolding rules
 returns c =
-    let eop = c .before .before .before in
+    let at = c .before in
+    let kind = at .before .before in
+    let eop = kind .before .before .before .before in
     let moved = eop .before in
     let errors = moved .before in
     let dcontrol = errors .before in
@@ -62,22 +80,35 @@ returns c =
     let fault = status .before in
     let phase = fault .before in
     let whole = phase .before .before .before in
-    rw (
-      phase .phase-kept .ensures,
-      fault .fault-kept .ensures,
-      status .status-kept .ensures,
-      control .control-kept .ensures,
-      limits .limits-kept .ensures,
-      address .address-kept .ensures,
-      source .zero-outside .ensures,
-      destination .zero-outside2 .ensures,
-      size .size-kept .ensures,
-      dcontrol .dcontrol-kept .ensures,
-      errors .errors-kept .ensures,
-      moved .moved-kept .ensures,
-      eop .eop-kept .ensures,
-      whole .whole .ensures,
-    )
+    let asks = whole .whole .ensures in
+    let f = whole .before .before .before .args .f in
+    next refl
+    (next refl
+    (next (phase .phase-kept .ensures)
+    (next refl
+    (next refl
+    (next (fault .fault-kept .ensures)
+    (next (status .status-kept .ensures)
+    (next refl
+    (next (control .control-kept .ensures)
+    (next refl
+    (next refl
+    (next (limits .limits-kept .ensures)
+    (next (address .address-kept .ensures)
+    (next (source .zero-outside .ensures)
+    (next (destination .zero-outside2 .ensures)
+    (next (size .size-kept .ensures)
+    (next (dcontrol .dcontrol-kept .ensures)
+    (next (errors .errors-kept .ensures)
+    (next (moved .moved-kept .ensures ∙ ap (λ (n : ℕ). movedKept (f .phase) n (f .errors) (f .moved)) asks)
+    (next (eop .eop-kept .ensures ∙ ap (λ (n : ℕ). eopKept (f .mode) (f .phase) n (f .moved) (f .eop)) asks)
+    (next refl
+    (next refl
+    (next (kind .held-kept .ensures)
+    (next refl
+    (next (at .slot-at-kept .ensures)
+    (next (c .slot-bytes-kept .ensures)
+    (next refl refl))))))))))))))))))))))))))
 
 pub kept-spec : {M : Type 1} → statement M
 kept-spec =
@@ -97,4 +128,7 @@ kept-spec =
     errors-kept-requires
     moved-kept-requires
     eop-kept-requires
+    held-kept-requires
+    slot-at-kept-requires
+    slot-bytes-kept-requires
     returns)

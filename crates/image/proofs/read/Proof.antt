@@ -1,11 +1,23 @@
 use Rattle.image.specs.declared.ReadImage.the-variants.{Good}
+use Rattle.image.specs.declared.Fields.{Fields}
+use Rattle.image.specs.Layout.{fields, tail}
+use Rattle.image.specs.Rules.{keepsRules}
+use Rattle.image.specs.Helpers.ByPhase.{coreKept, slotKeptOf}
 use Rattle.image.proofs.Answers.{was-read, read-size, read-broken, read-good}
-use Rattle.image.specs.Rules.{lowestBroken, keepsRules}
+use Rattle.image.proofs.ByPhase.{kept-in-parts}
 use borrow.Author.Tests.{not-true, not-false}
-use mathlib.Core.Path.{sym, ap, _∙_}
+use mathlib.Core.Bool.{Bool, _&&_}
+use Prim.Native.Nat.{ℕ}
+use mathlib.Core.List.{List}
+use mathlib.Core.Path.{_≡_, sym, ap, _∙_}
 use borrow.Author.Needs.{needs}
 use Rattle.image.proofs.read.Statement.{statement}
 use Rattle.image.proofs.read.Tie as tie
+
+-- the two tests, of the fields that were read
+kept-is : (xs : List ℕ) {f : Fields} {a b : Bool} → f ≡ fields xs → a ≡ coreKept f → b ≡ slotKeptOf (fields xs) (tail xs)
+    → keepsRules (fields xs) (tail xs) ≡ (a && b)
+kept-is xs e p q = kept-in-parts (fields xs) (tail xs) ∙ rw (p, q, e)
 
 returns : tie.Need-returns
 returns c = was-read (sym (read-size _ (c .if1 .taken)))
@@ -13,23 +25,53 @@ returns c = was-read (sym (read-size _ (c .if1 .taken)))
 unpack-requires : tie.Need-unpack-requires
 unpack-requires c κs = search needs
 
-keeps-requires : tie.Need-keeps-requires
-keeps-requires c κs = search needs
+core-kept-requires : tie.Need-core-kept-requires
+core-kept-requires c κs = search needs
+
+slot-kept-in-requires : tie.Need-slot-kept-in-requires
+slot-kept-in-requires c κs = search needs
+
+tail-in-requires : tie.Need-tail-in-requires
+tail-in-requires c κs = search needs
 
 broken-requires : tie.Need-broken-requires
 broken-requires c κs = search needs
 
 returns-2 : tie.Need-returns-2
 returns-2 c =
-    let tested = c .before in
-    let f = tested .before .before .unpack .ensures .value in
+    let last = c .before in
+    let tested = last .before in
+    let slot = tested .before in
+    let core = slot .before in
+    let read = core .before in
+    let f = read .unpack .ensures .value in
     was-read
     (sym
-    (read-broken _ (tested .before .before .before .if1 .left) (sym (tested .before .keeps .ensures .value ∙ ap keepsRules f) ∙ not-true _ (tested .if2 .taken))
-    (c .broken .ensures .value ∙ ap lowestBroken f)))
+    (read-broken _ (read .before .if1 .left)
+    (kept-is _ f (core .core-kept .ensures) (slot .slot-kept-in .ensures) ∙ not-true _ (tested .if2 .taken))
+    (c .broken .ensures .value ∙ rw (f, last .tail-in .ensures .value))))
 
 returns-3 : tie.Need-returns-3
-returns-3 c = was-read (ap Good (c .before .before .unpack .ensures .value) ∙ sym (read-good _ (c .before .before .before .if1 .left) (sym (c .before .keeps .ensures .value ∙ ap keepsRules (c .before .before .unpack .ensures .value)) ∙ not-false _ (c .if2 .left))))
+returns-3 c =
+    let slot = c .before in
+    let core = slot .before in
+    let read = core .before in
+    let f = read .unpack .ensures .value in
+    was-read
+    (ap Good f
+    ∙ sym
+    (read-good _ (read .before .if1 .left)
+    (kept-is _ f (core .core-kept .ensures) (slot .slot-kept-in .ensures) ∙ not-false _ (c .if2 .left))))
 
 pub read-spec : {M : Type 1} → statement M
-read-spec = tie.close (tie.spec returns unpack-requires keeps-requires broken-requires returns-2 returns-3)
+read-spec =
+    tie.close
+    (tie.spec
+    returns
+    unpack-requires
+    core-kept-requires
+    slot-kept-in-requires
+    tail-in-requires
+    broken-requires
+    returns-2
+    returns-3)

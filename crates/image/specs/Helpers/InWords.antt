@@ -5,7 +5,15 @@ use mathlib.Core.List.{List, [], _∷_, _++_}
 use Rattle.words.specs.Numbers.{split}
 use Rattle.words.specs.Slices.{part}
 use Rattle.image.specs.declared.Fields.{Fields}
-use Rattle.image.specs.Layout.{widths, fromNumbers}
+use Rattle.image.specs.declared.Tail.{Tail}
+use Rattle.image.specs.Layout.{values, widths, fromNumbers}
+
+-- the lines before the slot's bytes
+abbrev pub frontWidths : List ℕ
+frontWidths = part widths 0 25
+
+abbrev pub frontValues : Fields → Tail → List ℕ
+frontValues f t = part (values f t) 0 25
 
 -- the widths in those words that hold several fields: the first, the ninth and the tenth
 abbrev pub headWidths : List ℕ

@@ -8,7 +8,7 @@ use Rattle.bus.specs.declared.Window.{Window}
 use Rattle.bus.specs.Window.{inWindow, placeOf}
 use Rattle.regs.specs.declared.Mode.{Mode}
 use Rattle.flow.specs.Rows.{extent}
-use Rattle.machine.specs.declared.Machine.{Machine}
+use Rattle.machine.specs.declared.Core.{Core}
 use Rattle.machine.specs.declared.Work.{Work}
 use Rattle.machine.specs.declared.Phase.the-variants.{Move}
 use Rattle.machine.specs.declared.bursts.Reach.{Reach}
@@ -31,7 +31,7 @@ movedBy k n errors =
     }
 
 -- a machine in Move, in this mode and over this window, with this work in hand, of which so many bytes are left
-pub record Moving (mode : Mode) (window : Window) (k : Work) (most : ℕ) (m : Machine) : Type 0 where
+pub record Moving (mode : Mode) (window : Window) (k : Work) (most : ℕ) (m : Core) : Type 0 where
   pub mode-is : m .mode ≡ mode
   pub window-is : m .window ≡ window
   pub phase-is : m .phase ≡ Move k
@@ -43,7 +43,7 @@ pub record Moving (mode : Mode) (window : Window) (k : Work) (most : ℕ) (m : M
 abbrev pub Bursts : Mode → Window → Work → (most n errors : ℕ) (window beats : List ℕ) (took : ℕ) (out : List ℕ)
     (made took' made' : ℕ) (window' out' : List ℕ) → Type 0
 Bursts mode place k most n errors window beats took out made took' made' window' out' =
-    (m : Machine) → Moving mode place k most m
+    (m : Core) → Moving mode place k most m
     → Went (λ (w : World). steps n w) m window beats took out made (reachedAs (onward m (movedBy k n errors)) took' made') window' out'
 
 -- n bytes from the address a on stand at places from `at` on, or all at one where the address is fixed

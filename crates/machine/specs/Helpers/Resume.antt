@@ -5,7 +5,12 @@ use mathlib.Core.Path.{_≡_}
 use mathlib.Core.Bool.{Bool, true, false, not, cond, _&&_}
 use lib.Dec.{eqb, ltb}
 use Rattle.bus.specs.Window.{inWindow}
+use Rattle.descriptor.specs.declared.Look.{Look}
+use Rattle.descriptor.specs.declared.Look.the-variants.{Misaligned, Outside, There}
+use Rattle.machine.specs.declared.Core.{Core}
 use Rattle.machine.specs.declared.Machine.{Machine}
+use Rattle.machine.specs.declared.Slot.{Slot}
+use Rattle.machine.specs.declared.Slot.the-variants.{Empty, Ahead}
 use Rattle.machine.specs.declared.Phase.{Phase}
 use Rattle.machine.specs.declared.Phase.the-variants.{Rest, Fetch, Move, WriteBack, Ended, Halted, Faulted}
 use Rattle.machine.specs.declared.Ran.{Ran}
@@ -19,7 +24,7 @@ use Rattle.machine.specs.Run.{Lent, Returned, servedIf, Runs}
 -- ---- what a step needs of a machine
 
 -- in Move there is a byte left to move, and no EOP was seen
-abbrev pub Left : Machine → Phase → Type 0
+abbrev pub Left : Core → Phase → Type 0
 Left m Rest = Unit {0}
 Left m Fetch = Unit {0}
 Left m (Move k) = (k .moved < whole m k) × (k .eop ≡ false)
@@ -29,7 +34,7 @@ Left m Halted = Unit {0}
 Left m (Faulted f) = Unit {0}
 
 -- the descriptor in hand lies in the window
-abbrev pub Placed : Machine → Phase → Type 0
+abbrev pub Placed : Core → Phase → Type 0
 Placed m Rest = Unit {0}
 Placed m Fetch = Unit {0}
 Placed m (Move k) = inWindow (home m) (k .at) 32 ≡ true
@@ -38,14 +43,24 @@ Placed m Ended = Unit {0}
 Placed m Halted = Unit {0}
 Placed m (Faulted f) = Unit {0}
 
+-- what is read ahead, if it is a descriptor, lies there too: the pointer is its address
+abbrev pub SeatedAs : Core → Look → Type 0
+SeatedAs m Misaligned = Unit {0}
+SeatedAs m Outside = Unit {0}
+SeatedAs m (There r) = inWindow (home m) (m .pointer .0) 32 ≡ true
+
+abbrev pub Seated : Core → Slot → Type 0
+Seated m Empty = Unit {0}
+Seated m (Ahead look) = SeatedAs m look
+
 -- and the lent window is the machine's
-pub record Ready (m : Machine) (lent : ℕ) : Type 0 where
+pub record Ready (m : Core) (lent : ℕ) : Type 0 where
   pub size : m .window .length ≡ lent
   pub left : Left m (m .phase)
   pub placed : Placed m (m .phase)
 
 -- the same as a test, but for the lent window. A machine that keeps the rules passes it
-abbrev pub readyIn : Machine → Phase → Bool
+abbrev pub readyIn : Core → Phase → Bool
 readyIn m Rest = true
 readyIn m Fetch = true
 readyIn m (Move k) = ltb (k .moved) (whole m k) && not (k .eop) && inWindow (home m) (k .at) 32
@@ -54,8 +69,21 @@ readyIn m Ended = true
 readyIn m Halted = true
 readyIn m (Faulted f) = true
 
+abbrev pub seatedAs : Core → Look → Bool
+seatedAs m Misaligned = true
+seatedAs m Outside = true
+seatedAs m (There r) = inWindow (home m) (m .pointer .0) 32
+
+abbrev pub seatedIn : Core → Slot → Bool
+seatedIn m Empty = true
+seatedIn m (Ahead look) = seatedAs m look
+
+unfoldable pub coreReady : Core → Bool
+coreReady m = readyIn m (m .phase)
+
 unfoldable pub readyOf : Machine → Bool
-readyOf m = readyIn m (m .phase)
+unfolding coreReady
+readyOf m = seatedIn (m .core) (m .slot) && coreReady (m .core)
 
 -- ---- a run
 

@@ -6,12 +6,15 @@ use mathlib.Core.List.{List, [], _∷_, _++_}
 use lib.ListN.{length}
 use Rattle.words.specs.Slices.{put}
 use Rattle.flow.specs.Beats.{beatBytes}
-use Rattle.machine.specs.declared.Machine.{Machine}
+use Rattle.machine.specs.declared.Core.{Core}
+use Rattle.machine.specs.declared.Slot.{Slot}
+use Rattle.machine.specs.declared.fetch.Fetched.{Fetched}
 use Rattle.machine.specs.declared.Work.{Work}
 use Rattle.machine.specs.declared.runs.Advanced.{Advanced}
 use Rattle.machine.specs.declared.steps.Reached.{Reached}
-use Rattle.machine.specs.Step.{World, Answer, taken, stopped, stored, noted, entryFor, backTo, step}
-use Rattle.machine.specs.Helpers.Worlds.{worldAt, midway, reachedAs, Within}
+use Rattle.machine.specs.Step.{World, Answer, taken, stopped, stored, noted, holding, entryFor, backTo, settle, step}
+use Rattle.machine.specs.State.{settled}
+use Rattle.machine.specs.Helpers.Worlds.{worldAt, midway, Within}
 
 -- n steps after an answer; no step after one that could not be taken
 abbrev pub stepsOn : ℕ → Answer → Answer
@@ -24,28 +27,45 @@ unfoldable pub steps : ℕ → World → Answer
 steps n w = stepsOn n (taken w)
 
 -- a rule that can be applied, and touches neither beats nor output
-abbrev pub Still : (World → Answer) → Machine → (window : List ℕ) → Machine → (window' : List ℕ) → Type 0
+abbrev pub Still : (World → Answer) → Core → (window : List ℕ) → Core → (window' : List ℕ) → Type 0
 Still rule m window m' window' =
     (w : World) → rule (stored w m window) ≡ taken (stored w m' window')
 
 -- a rule that can be applied, in the middle of lent slices: `new` are the beats that it made
-pub record Went (rule : World → Answer) (m : Machine) (window beats : List ℕ) (took : ℕ) (out : List ℕ) (made : ℕ) (r : Reached)
+pub record Went (rule : World → Answer) (m : Core) (window beats : List ℕ) (took : ℕ) (out : List ℕ) (made : ℕ) (r : Reached)
     (window' out' : List ℕ) : Type 0 where
   pub new : List ℕ
   pub counted : r .made ≡ made + length new
   pub wrote : out' ≡ put out (2 * made) (beatBytes new)
   pub goes : (w : World)
       → rule (midway w m window beats took out made)
-      ≡ taken (worldAt w (r .machine) window' beats (r .taken) (w .output ++ new) (length out / 2 - r .made))
+      ≡ taken (worldAt w (r .core) window' beats (r .taken) (w .output ++ new) (length out / 2 - r .made))
 
--- several at once: where they led, and how many they were
-abbrev pub Advances : Machine → (window beats : List ℕ) (took : ℕ) (out : List ℕ) (made : ℕ) → Advanced → (window' out' : List ℕ) → Type 0
-Advances m window beats took out made r window' out' =
-    Within beats out (r .taken) (r .made)
-    × Went (λ (w : World). steps (r .steps) w) m window beats took out made (reachedAs (r .machine) (r .taken) (r .made)) window' out'
+-- several steps at once: where they led, and how many they were; the slot is as the last of them leaves it
+pub record Advances (m : Core) (window beats : List ℕ) (took : ℕ) (out : List ℕ) (made : ℕ) (r : Advanced) (window' out' : List ℕ) : Type 0 where
+  pub within : Within beats out (r .taken) (r .made)
+  pub new : List ℕ
+  pub counted : r .made ≡ made + length new
+  pub wrote : out' ≡ put out (2 * made) (beatBytes new)
+  pub goes : (w : World)
+      → steps (r .steps) (midway w m window beats took out made)
+      ≡ taken (worldAt (holding w (settled (r .core .phase) (w .slot))) (r .core) window' beats (r .taken) (w .output ++ new) (length out / 2 - r .made))
+
+-- a rule of Fetch, applied and settled: the core and the slot change
+abbrev pub Looks : (World → Answer) → Core → Slot → (window : List ℕ) → Fetched → Type 0
+Looks rule c slot window r =
+    (w : World)
+    → settle (rule (holding (stored w c window) slot)) ≡ taken (holding (stored w (r .core) window) (settled (r .core .phase) (r .slot)))
+
+-- a step out of Rest or Fetch
+abbrev pub Begun : Core → Slot → (window : List ℕ) → Fetched → Type 0
+Begun c slot window r =
+    (w : World)
+    → step (holding (stored w c window) (settled (c .phase) slot))
+    ≡ taken (holding (stored w (r .core) window) (settled (r .core .phase) (r .slot)))
 
 -- a write-back, and the record that it makes
-abbrev pub Backs : Machine → Work → (window : List ℕ) → Machine → (window' : List ℕ) → Type 0
+abbrev pub Backs : Core → Work → (window : List ℕ) → Core → (window' : List ℕ) → Type 0
 Backs m k window m' window' =
     (w : World) (left : ℕ)
     → backTo (stored w m window) k (suc left) ≡ taken (noted (stored w m' window') (w .records ++ entryFor m k ∷ []) left)

@@ -6,7 +6,7 @@ use mathlib.Core.Bool.{Bool, true, false}
 use mathlib.Core.List.{List, [], _∷_}
 use lib.Dec.{ltb}
 use Rattle.regs.specs.Control.{run}
-use Rattle.machine.specs.declared.Machine.{Machine}
+use Rattle.machine.specs.declared.Core.{Core}
 use Rattle.machine.specs.declared.Phase.the-variants.{Rest, Fetch}
 use Rattle.machine.specs.declared.steps.Wait.{Wait}
 use Rattle.machine.specs.declared.steps.Wait.the-variants.{Go, Stop}
@@ -22,16 +22,16 @@ some [] = false
 some (b ∷ bs) = true
 
 -- what a rule's waiting depends on: whether there is a beat, whether there is room for one, and whether there is for a record
-abbrev pub Waits : (World → Answer) → Machine → (more room keeps : Bool) → Wait → Type 0
+abbrev pub Waits : (World → Answer) → Core → (more room keeps : Bool) → Wait → Type 0
 Waits rule m more room keeps r =
     (w : World) → more ≡ some (w .input) → room ≡ ltb 0 (w .room) → keeps ≡ ltb 0 (w .left) → r ≡ waitOf (rule (became w m))
 
 -- a rule can be applied, in the middle of lent slices, in some world
-pub record Goes (rule : World → Answer) (m : Machine) (window beats : List ℕ) (took : ℕ) (out : List ℕ) (made : ℕ) : Type 0 where
+pub record Goes (rule : World → Answer) (m : Core) (window beats : List ℕ) (took : ℕ) (out : List ℕ) (made : ℕ) : Type 0 where
   pub around : World
   pub can : waitOf (rule (midway around m window beats took out made)) ≡ Go
 
 -- a step can be taken out of Rest or Fetch
-pub data Begins (m : Machine) : Type 0 where
+pub data Begins (m : Core) : Type 0 where
   rests : m .phase ≡ Rest → run (m .control) ≡ true → Begins m
   fetches : m .phase ≡ Fetch → Begins m

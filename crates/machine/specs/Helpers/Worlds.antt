@@ -5,7 +5,7 @@ use mathlib.Core.Bool.{Bool, true, false}
 use mathlib.Core.List.{List}
 use lib.ListN.{length, drop}
 use Rattle.flow.specs.Beats.{beatsIn}
-use Rattle.machine.specs.declared.Machine.{Machine}
+use Rattle.machine.specs.declared.Core.{Core}
 use Rattle.machine.specs.declared.Phase.{Phase}
 use Rattle.machine.specs.declared.Phase.the-variants.{Rest, Fetch, Move, WriteBack, Ended, Halted, Faulted}
 use Rattle.machine.specs.declared.steps.Reached.{Reached}
@@ -18,15 +18,15 @@ use Rattle.machine.specs.Run.{Served, serves, refused}
 -- ---- worlds
 
 -- the world w in the middle of lent beats, of which so many are taken
-abbrev pub worldAt : World → Machine → (window beats : List ℕ) (took : ℕ) (output : List ℕ) (room : ℕ) → World
+abbrev pub worldAt : World → Core → (window beats : List ℕ) (took : ℕ) (output : List ℕ) (room : ℕ) → World
 worldAt w m window beats took output room = laid w m window (drop took (beatsIn beats)) output room
 
 -- and of a lent output, in which so many are made: those made before are w's
-abbrev pub midway : World → Machine → (window beats : List ℕ) (took : ℕ) (out : List ℕ) (made : ℕ) → World
+abbrev pub midway : World → Core → (window beats : List ℕ) (took : ℕ) (out : List ℕ) (made : ℕ) → World
 midway w m window beats took out made = worldAt w m window beats took (w .output) (length out / 2 - made)
 
-abbrev pub reachedAs : Machine → (took made : ℕ) → Reached
-reachedAs m took made = record { machine = m; taken = took; made = made }
+abbrev pub reachedAs : Core → (took made : ℕ) → Reached
+reachedAs m took made = record { core = m; taken = took; made = made }
 
 -- ---- what is lent
 
@@ -41,7 +41,7 @@ pub record Within (beats out : List ℕ) (took made : ℕ) : Type 0 where
 
 -- ---- the machine in a fault
 
-abbrev pub inFault : Machine → (code address : ℕ) → Machine
+abbrev pub inFault : Core → (code address : ℕ) → Core
 inFault m code address = withPhase (Faulted (record { code = code; address = address })) (withBusy false m)
 
 -- ---- the phases that stand until RUN is written 0

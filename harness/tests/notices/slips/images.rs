@@ -2,7 +2,8 @@
 
 use super::Slip;
 use harness::model::{
-    Fault, Image, ImageRule, Images, Machine, Paper, Phase, Refused, Steps, IMAGE_SIZE,
+    descriptor_control, Fault, Image, ImageRule, Images, Machine, Paper, Phase, Refused, Slot,
+    SlotKind, Steps, IMAGE_SIZE,
 };
 
 slips! { Images;
@@ -13,6 +14,30 @@ save(machine: &Machine) -> [u8; IMAGE_SIZE] {
     }
     "the edition is saved as 0" => {
         Image { edition: 0, ..Image::of_machine(machine) }.pack()
+    }
+    "the edition is saved as 1" => {
+        Image { edition: 1, ..Image::of_machine(machine) }.pack()
+    }
+    "the slot is not saved" => {
+        Image { slot: Slot::default(), ..Image::of_machine(machine) }.pack()
+    }
+    "the slot's bytes are saved least significant first" => {
+        let mut image = Image::of_machine(machine);
+        image.slot.bytes.reverse();
+        image.pack()
+    }
+    "the slot's address is saved least significant first" => {
+        let mut image = Image::of_machine(machine);
+        image.slot.address = image.slot.address.swap_bytes();
+        image.pack()
+    }
+    "the kind of the slot is saved in the low bits" => {
+        let mut bytes = Paper.save(machine);
+        bytes[44] >>= 6;
+        bytes
+    }
+    "the run number is not saved" => {
+        Image { run_number: 0, ..Image::of_machine(machine) }.pack()
     }
     "the pointer is saved least significant first" => {
         let pointer = machine.pointer.swap_bytes();
@@ -44,7 +69,55 @@ field_told(bytes: &[u8; IMAGE_SIZE]) -> u8 {
     }
 }
 
+field_of(rule: ImageRule) -> u8 {
+    "the kind of a slot counts against the kind" => {
+        match rule {
+            ImageRule::SlotKindOfItsAddress => 23,
+            _ => Paper.field_of(rule),
+        }
+    }
+    "a held slot in another phase counts against the phase" => {
+        match rule {
+            ImageRule::HeldOnlyInFetchMoveWriteBack => 3,
+            _ => Paper.field_of(rule),
+        }
+    }
+    "the address of a held slot counts against the pointer" => {
+        match rule {
+            ImageRule::HeldSlotAtPointer => 10,
+            _ => Paper.field_of(rule),
+        }
+    }
+    "an empty slot with bytes counts against its address" => {
+        match rule {
+            ImageRule::EmptySlotWithoutBytes => 25,
+            _ => Paper.field_of(rule),
+        }
+    }
+}
+
 load(bytes: &[u8; IMAGE_SIZE]) -> Result<Machine, Refused> {
+    "an empty slot is refused in Move" => {
+        let machine = Paper.load(bytes)?;
+        let odd = machine.phase == Phase::Move && !machine.slot.is_held();
+        if odd { Err(Refused::for_field(23)) } else { Ok(machine) }
+    }
+    "an unowned descriptor in the slot is refused" => {
+        let machine = Paper.load(bytes)?;
+        let unowned = machine.slot.bytes[31] & descriptor_control::OWNED_BY_HW == 0;
+        let odd = machine.slot.kind == SlotKind::Descriptor && unowned;
+        if odd { Err(Refused::for_field(26)) } else { Ok(machine) }
+    }
+    "a descriptor in the slot with an actual count is refused" => {
+        let machine = Paper.load(bytes)?;
+        let odd = machine.slot.bytes[28..30] != [0, 0];
+        if odd { Err(Refused::for_field(26)) } else { Ok(machine) }
+    }
+    "the largest run number is refused" => {
+        let machine = Paper.load(bytes)?;
+        let largest = machine.run_number == u32::MAX;
+        if largest { Err(Refused::for_field(27)) } else { Ok(machine) }
+    }
     "an image with a count above MAX is refused" => {
         let machine = Paper.load(bytes)?;
         let sound = machine.count == 0 || machine.count < machine.max_descriptors();

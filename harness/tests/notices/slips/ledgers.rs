@@ -73,6 +73,9 @@ run_number(machine: &Machine) -> u32 {
     "the run number is 1" => {
         1
     }
+    "records are dated" => {
+        machine.run_number
+    }
 }
 
 record_bytes(record: &Record) -> [u8; RECORD_SIZE] {

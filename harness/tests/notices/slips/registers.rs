@@ -1,7 +1,9 @@
 //! Errors in registers and interrupts.
 
 use super::Slip;
-use harness::model::{control, offset, status, Machine, Paper, Phase, Refusal, Registers};
+use harness::model::{
+    control, offset, status, Emptying, Machine, Paper, Phase, Refusal, Registers, Slots,
+};
 
 slips! { Registers;
 
@@ -24,6 +26,18 @@ write_pointer(machine: &mut Machine, value: u32) -> () {
             Paper.write_pointer(machine, value);
         }
     }
+    "a pointer write of the number that is there leaves the slot" => {
+        if value != machine.pointer {
+            Paper.write_pointer(machine, value);
+        }
+    }
+    "a pointer write empties the slot in Fetch alone" => {
+        let slot = machine.slot;
+        Paper.write_pointer(machine, value);
+        if machine.phase != Phase::Fetch {
+            machine.slot = slot;
+        }
+    }
     "the pointer loses its two low bits" => {
         Paper.write_pointer(machine, value & !3);
     }
@@ -43,6 +57,26 @@ reset(machine: &mut Machine, value: u32) -> () {
         let pending = machine.pending;
         Paper.reset(machine, value);
         machine.pending = pending;
+    }
+    "a reset keeps the slot" => {
+        let slot = machine.slot;
+        Paper.reset(machine, value);
+        machine.slot = slot;
+    }
+    "a reset clears the run number" => {
+        Paper.reset(machine, value);
+        machine.run_number = 0;
+    }
+    "a reset counts a run" => {
+        Paper.reset(machine, value);
+        Paper.count_run(machine);
+    }
+    "RUN in the resetting write counts a run" => {
+        let rises = value & control::RUN != 0 && !machine.runs();
+        Paper.reset(machine, value);
+        if rises {
+            Paper.count_run(machine);
+        }
     }
     "a reset keeps the pointer" => {
         let pointer = machine.pointer;
@@ -74,7 +108,67 @@ reset(machine: &mut Machine, value: u32) -> () {
     }
 }
 
+count_run(machine: &mut Machine) -> () {
+    "the run number wraps" => {
+        machine.run_number = machine.run_number.wrapping_add(1);
+    }
+    "the run number is not counted" => {
+    }
+    "the run number has 16 bits" => {
+        Paper.count_run(machine);
+        machine.run_number &= 0xFFFF;
+    }
+    "the largest run number is not given" => {
+        machine.run_number = machine.run_number.saturating_add(1).min(u32::MAX - 1);
+    }
+    "only runs from Rest are counted" => {
+        if machine.phase == Phase::Rest {
+            Paper.count_run(machine);
+        }
+    }
+    "RUN that rises in Faulted counts no run" => {
+        if machine.phase != Phase::Faulted {
+            Paper.count_run(machine);
+        }
+    }
+}
+
 store_control(machine: &mut Machine, value: u32) -> () {
+    "clearing RUN empties the slot" => {
+        Paper.store_control(machine, value);
+        if !machine.runs() {
+            Paper.empty_slot(machine, Emptying::Rest);
+        }
+    }
+    "setting RUN empties the slot" => {
+        let ran_before = machine.runs();
+        Paper.store_control(machine, value);
+        if machine.runs() && !ran_before {
+            Paper.empty_slot(machine, Emptying::Rest);
+        }
+    }
+    "every write with RUN 1 counts a run" => {
+        let ran_before = machine.runs();
+        Paper.store_control(machine, value);
+        if machine.runs() && ran_before {
+            Paper.count_run(machine);
+        }
+    }
+    "the arming write counts no run" => {
+        let number = machine.run_number;
+        let armed_before = machine.controls(control::SW_RESET);
+        Paper.store_control(machine, value);
+        if machine.controls(control::SW_RESET) && !armed_before {
+            machine.run_number = number;
+        }
+    }
+    "RUN that falls counts a run" => {
+        let ran_before = machine.runs();
+        Paper.store_control(machine, value);
+        if !machine.runs() && ran_before {
+            Paper.count_run(machine);
+        }
+    }
     "writing SW_RESET as 0 does not disarm" => {
         let armed = machine.control & control::SW_RESET;
         Paper.store_control(machine, value);

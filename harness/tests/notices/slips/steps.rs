@@ -3,8 +3,8 @@
 use super::Slip;
 use harness::model::{
     control, descriptor_control, status, Descriptor, Descriptors, Fault, InputBeat, Kept, Ledger,
-    Ledgers, Machine, Mode, Paper, Phase, Ports, Reason, Registers, Report, Steps, Windows,
-    DESCRIPTOR_SIZE, RECORD_SIZE,
+    Ledgers, Machine, Mode, Paper, Phase, Ports, Reason, Registers, Report, Slot, Slots, Steps,
+    Windows, DESCRIPTOR_SIZE, RECORD_SIZE,
 };
 
 /// WriteBack as it is but for the ledger, which stays as it is.
@@ -81,6 +81,16 @@ run(machine: &mut Machine, ports: &mut Ports, budget: u32) -> Report {
         let used = ports.ledger.used;
         let report = Paper.run(machine, ports, budget);
         Report { used: report.used - used, ..report }
+    }
+    "a run begins with an empty slot" => {
+        machine.slot = Slot::default();
+        Paper.run(machine, ports, budget)
+    }
+    "a run reads again what is in the slot" => {
+        if machine.slot.is_held() {
+            Paper.read_ahead(machine, ports.memory);
+        }
+        Paper.run(machine, ports, budget)
     }
     "a run begins its ledger anew" => {
         ports.ledger.used = 0;
@@ -170,6 +180,33 @@ fetch(machine: &mut Machine, memory: &[u8]) -> Result<(), Fault> {
         machine.control = control;
         outcome
     }
+    "a bad address faults in the Fetch that links to it" => {
+        Paper.fetch(machine, memory)?;
+        Paper.check_found(machine, &machine.slot)
+    }
+    "a fault in the slot comes before RUN 0" => {
+        Paper.check_found(machine, &machine.slot)?;
+        Paper.fetch(machine, memory)
+    }
+    "what is in the slot is fetched with RUN 0 too" => {
+        let (control, held) = (machine.control, machine.slot.is_held());
+        machine.control |= control::RUN * u32::from(held);
+        let outcome = Paper.fetch(machine, memory);
+        machine.control = control;
+        outcome
+    }
+    "a descriptor without length is found where it is linked to" => {
+        let fetching = machine.runs();
+        Paper.fetch(machine, memory)?;
+        let ahead = Paper.read_fields(&machine.slot.bytes);
+        let owned = ahead.control & descriptor_control::OWNED_BY_HW != 0;
+        let from_memory = machine.mode != Mode::StreamToMemory;
+        if fetching && owned && ahead.length == 0 && from_memory {
+            let address = u64::from(machine.pointer);
+            return Err(Fault { code: Fault::NO_LENGTH, address });
+        }
+        Ok(())
+    }
     "only the first byte of a descriptor must be inside" => {
         let mut longer = memory.to_vec();
         longer.resize(memory.len() + DESCRIPTOR_SIZE, 0);
@@ -230,12 +267,18 @@ fail(machine: &mut Machine, fault: Fault) -> () {
     }
 }
 
-fetch_place(machine: &Machine) -> Result<usize, Fault> {
-    "fault 11 comes before fault 10" => {
-        let address = u64::from(machine.pointer);
-        let outside = Fault { code: Fault::DESCRIPTOR_OUTSIDE, address };
-        Paper.place(machine.window, address, DESCRIPTOR_SIZE as u64).ok_or(outside)?;
-        Paper.fetch_place(machine)
+check_found(machine: &Machine, found: &Slot) -> Result<(), Fault> {
+    "a fault from the slot has the address of the window" => {
+        let address = machine.window.base;
+        Paper.check_found(machine, found).map_err(|fault| {
+            if machine.slot.is_held() { Fault { address, ..fault } } else { fault }
+        })
+    }
+    "fault 10 from the slot is fault 11" => {
+        let code = Fault::DESCRIPTOR_OUTSIDE;
+        Paper.check_found(machine, found).map_err(|fault| {
+            if machine.slot.is_held() { Fault { code, ..fault } } else { fault }
+        })
     }
 }
 
@@ -308,6 +351,13 @@ keep(machine: &mut Machine, read: &Descriptor) -> () {
 }
 
 move_byte(machine: &mut Machine, ports: &mut Ports) -> Result<(), Fault> {
+    "data changes what is in the slot" => {
+        Paper.move_byte(machine, ports)?;
+        if machine.slot.is_held() {
+            Paper.read_ahead(machine, ports.memory);
+        }
+        Ok(())
+    }
     "RUN 0 stops Move" => {
         if machine.runs() {
             return Paper.move_byte(machine, ports);
@@ -453,8 +503,23 @@ count_byte(machine: &mut Machine) -> () {
 write_back(machine: &mut Machine, ports: &mut Ports) -> () {
     "where RUN is 0 the rest of the chain loses OWNED" => {
         Paper.write_back(machine, ports);
-        if let (Phase::Rest, Ok(place)) = (machine.phase, Paper.fetch_place(machine)) {
+        let next = u64::from(machine.pointer);
+        let place = Paper.place(machine.window, next, DESCRIPTOR_SIZE as u64);
+        if let (Phase::Rest, Some(place)) = (machine.phase, place) {
             ports.memory[place + 31] &= !descriptor_control::OWNED_BY_HW;
+        }
+    }
+    "a write-back changes what is in the slot" => {
+        let itself = machine.slot.is_held() && machine.slot.address == machine.kept.address;
+        Paper.write_back(machine, ports);
+        if itself && machine.slot.is_held() {
+            Paper.read_ahead(machine, ports.memory);
+        }
+    }
+    "the slot is filled where Fetch is entered" => {
+        Paper.write_back(machine, ports);
+        if machine.slot.is_held() {
+            Paper.read_ahead(machine, ports.memory);
         }
     }
     "the length is told as actual" => {

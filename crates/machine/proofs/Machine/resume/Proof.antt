@@ -1,5 +1,5 @@
 use mathlib.Core.Path.{sym, _∙_}
-use Rattle.machine.proofs.Readiness.{tested-ready}
+use Rattle.machine.proofs.Readiness.{tested-ready, tested-seated}
 use Rattle.machine.proofs.Outcomes.{runs-as}
 use borrow.Author.Needs.{needs}
 use Rattle.machine.proofs.Machine.resume.Statement.{statement}
@@ -9,7 +9,10 @@ ready-requires : tie.Need-ready-requires
 ready-requires c κs = search needs
 
 run-if-requires : tie.Need-run-if-requires
-run-if-requires c κs = λ e. tested-ready (c .before .before .before .before .before .before .before .before .args .self) (sym (c .before .before .before .ready .ensures) ∙ e)
+run-if-requires c κs =
+    let m = c .before .before .before .before .before .before .before .before .args .self in
+    let told = c .before .before .before .ready .ensures in
+    ((λ e. tested-ready m (sym told ∙ e)), (λ e. tested-seated m (sym told ∙ e)))
 
 same-length : tie.Need-same-length
 same-length c = search needs

@@ -1,6 +1,6 @@
 use mathlib.Core.Path.{refl, sym, _∙_}
 use Rattle.machine.specs.Run.{servedOf}
-use Rattle.machine.proofs.Readiness.{keeps-ready}
+use Rattle.machine.proofs.Readiness.{keeps-ready, keeps-seated}
 use Rattle.machine.proofs.Outcomes.{runs-as}
 use borrow.Author.Needs.{needs}
 use Rattle.machine.proofs.Machine.run.Statement.{statement}
@@ -10,7 +10,10 @@ keeps-requires : tie.Need-keeps-requires
 keeps-requires c κs = search needs
 
 run-if-requires : tie.Need-run-if-requires
-run-if-requires c κs = λ e. keeps-ready (c .before .before .before .before .before .before .before .before .args .self) _ (sym (c .before .before .before .keeps .ensures) ∙ e) refl
+run-if-requires c κs =
+    let m = c .before .before .before .before .before .before .before .before .args .self in
+    let told = c .before .before .before .keeps .ensures in
+    ((λ e. keeps-ready m _ (sym told ∙ e) refl), (λ e. keeps-seated m (sym told ∙ e)))
 
 same-length : tie.Need-same-length
 same-length c = search needs

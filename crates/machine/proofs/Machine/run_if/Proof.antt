@@ -39,8 +39,11 @@ run-on-requires : tie.Need-run-on-requires
 run-on-requires c κs =
     let s = c .before .before .before .before .before .before .before .before .before .before .before .before .before in
     let good = s .args .good in (
-      good-ready good (s .args .self) (lends s) (s .pre) (serving (c .before .before .before)),
-      serves-good good (s .args .self) (lends s) (serving (c .before .before .before)) .2,
+      good-ready good (s .args .self) (lends s) (s .pre .0) (serving (c .before .before .before)),
+      (
+        s .pre .1 (serves-good good (s .args .self) (lends s) (serving (c .before .before .before)) .0),
+        serves-good good (s .args .self) (lends s) (serving (c .before .before .before)) .2,
+      ),
     )
 
 same-length-4 : tie.Need-same-length-4

@@ -13,7 +13,7 @@ use Rattle.machine.proofs.Machine.served.Tie as tie
 
 -- past the ledger the window decides
 decided : (s : tie.Start) {same : Bool} → s .args .good ≡ true → (even (s .args .beats .now) && even (s .args .out .now)) ≡ true
-    → isLedger (length (s .args .ledger .now)) (s .args .used) ≡ true → {size : ℕ} → size ≡ s .args .self .window .length → eqb (length (s .args .window .now)) size ≡ same
+    → isLedger (length (s .args .ledger .now)) (s .args .used) ≡ true → {size : ℕ} → size ≡ s .args .self .core .window .length → eqb (length (s .args .window .now)) size ≡ same
     → cond same serves (refused OtherWindow)
     ≡ servedIf (s .args .good) (s .args .self) (lent (s .args .window .now) (s .args .beats .now) (s .args .out .now) (s .args .ledger .now) (s .args .used))
 decided s good evens whole told window = rw (good, evens, whole, ← told, window) refl

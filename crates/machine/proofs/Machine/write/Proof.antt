@@ -13,7 +13,7 @@ written-requires c κs = search needs
 returns : tie.Need-returns
 returns c =
     let a = c .before .before .before .args in
-    record { value = wrote-done (a .self) (a .offset) (a .value) (sym (c .before .before .is-register .ensures .value) ∙ c .before .if1 .taken) (c .written .ensures .value) }
+    record { value = wrote-done (a .self) (a .offset) (a .value) (sym (c .before .before .is-register .ensures .value) ∙ c .before .if1 .taken) (c .written .ensures) }
 
 returns-2 : tie.Need-returns-2
 returns-2 c =

@@ -38,13 +38,17 @@ of-requires c κs = search needs
 phase-of-requires : tie.Need-phase-of-requires
 phase-of-requires c κs = search needs
 
+slot-of-requires : tie.Need-slot-of-requires
+slot-of-requires c κs = search needs
+
 returns-2 : tie.Need-returns-2
 returns-2 c =
-    let mode = c .before .before .before in
+    let mode = c .before .before .before .before in
     let window = mode .before .before in
     rw (
-      c .phase-of .ensures,
-      c .before .of .ensures .value,
+      c .slot-of .ensures,
+      c .before .phase-of .ensures,
+      c .before .before .of .ensures .value,
       mode .mode-of .ensures,
       checked-is _ _ _ (sym (window .before .before .checked .ensures .answer) ∙ window .window .given .1) .1,
     )
@@ -63,4 +67,5 @@ machine-of-spec =
     cast-of
     of-requires
     phase-of-requires
+    slot-of-requires
     returns-2)

@@ -1,0 +1,58 @@
+-- The machine of demand 3 after its two writes, and after the step out of Rest.
+-- Assumes nothing.
+use Prim.Native.Nat.{ℕ, _/_, _%_}
+use mathlib.Core.Path.{_≡_, refl, ap}
+use mathlib.Core.Bool.{true, false, and-false}
+use native.Mathlib.Omega.{arith}
+use Rattle.words.specs.Bits.{bit}
+use Rattle.regs.specs.declared.Mode.the-variants.{StreamToMemory}
+use Rattle.regs.specs.Control.{asControl, run, park, stopDmaEr, runFrom}
+use Rattle.machine.specs.declared.Core.{Core}
+use Rattle.machine.specs.declared.Slot.the-variants.{Empty}
+use Rattle.machine.specs.declared.Machine.{Machine}
+use Rattle.machine.specs.declared.Phase.the-variants.{Fetch}
+use Rattle.machine.specs.State.{withPointer, withPhase, withBusy, freshCore, machineWith}
+use Rattle.machine.specs.Registers.{controlStored}
+use Rattle.machine.specs.Step.{World, became, opened, seenIn, seen}
+use Rattle.machine.proofs.Writes.{write-runs}
+use Rattle.chain.specs.Chain.{Given, worldFor}
+use Rattle.chain.proofs.Rules.{Set, SeesMemory}
+
+-- RUN, STOP_DMA_ER and PARK are stored as written
+stored-5 : (c : ℕ) → c % 262144 / 32 % 2 ≡ c / 32 % 2
+stored-5 c = omega arith
+
+stored-6 : (c : ℕ) → c % 262144 / 64 % 2 ≡ c / 64 % 2
+stored-6 c = omega arith
+
+stored-17 : (c : ℕ) → c % 262144 / 131072 % 2 ≡ c / 131072 % 2
+stored-17 c = omega arith
+
+pub nothing-ahead : (w : World) → w .slot ≡ Empty → SeesMemory w
+unfolding seen
+nothing-ahead w e = ap (seenIn w) e
+
+module _ (g : Given) where
+  abbrev m0 : Machine
+  m0 = machineWith (controlStored (g .control) (withPointer (g .pointer) (freshCore StreamToMemory (g .window)))) Empty (runFrom (g .control) (record { 0 = 0 }) 0)
+
+  abbrev pub resting : World
+  resting = opened m0 (g .memory) (g .beats) (g .room) (g .left)
+
+  abbrev pub fetching : World
+  fetching = became resting (withPhase Fetch (withBusy true (m0 .core)))
+
+  pub starts : run (asControl (g .control)) ≡ true → worldFor g ≡ resting
+  starts h =
+      ap (λ (c : Core). opened (machineWith c Empty (runFrom (g .control) (record { 0 = 0 }) 0)) (g .memory) (g .beats) (g .room) (g .left))
+      (write-runs (g .control) (withPointer (g .pointer) (freshCore StreamToMemory (g .window))) (and-false (bit 16 (g .control))) h)
+
+  pub set-so : run (asControl (g .control)) ≡ true → park (asControl (g .control)) ≡ false → stopDmaEr (asControl (g .control)) ≡ false
+      → Set (fetching .core)
+  set-so r p s =
+      record {
+        mode-is = refl;
+        runs = rw (stored-5 (g .control)) r;
+        unparked = rw (stored-17 (g .control)) p;
+        unstopped = rw (stored-6 (g .control)) s;
+      }
