@@ -7,6 +7,7 @@
 #include "shared.h"
 #include "show.h"
 #include "stall.h"
+#include "sums.h"
 
 #include <inttypes.h>
 #include <stdio.h>
@@ -120,19 +121,17 @@ static const struct scene SCENES[] = {
     },
 };
 
-/* Three more are played by themselves. */
-enum { SCENE_COUNT = sizeof SCENES / sizeof *SCENES, ALL_SCENES = SCENE_COUNT + 3 };
+/* Four more are played by themselves. */
+enum { SCENE_COUNT = sizeof SCENES / sizeof *SCENES, ALL_SCENES = SCENE_COUNT + 4 };
 
 /* What came of a scene. */
 struct outcome {
     uint32_t reason;
     uint32_t status;
-    uint32_t taken; /* beats, in all slices */
     bool recorded;  /* after each slice, as many descriptors were done as records used */
     bool mended;    /* of a spoiled image the fields were told, the lowest first */
     struct fault fault;
     struct found found[DESCRIPTORS];
-    struct ledger ledger;
 };
 
 static void prepare(struct firmware *firmware, const struct scene *scene)
@@ -168,6 +167,7 @@ static void move_over(struct firmware *to, struct firmware *from)
     memcpy(to->memory, from->memory, sizeof to->memory);
     memcpy(to->records, from->records, recorded(from));
     to->ledger.used = from->ledger.used;
+    to->taken = from->taken;
     memset(from->core.image, 0xFF, sizeof from->core.image);
     memset(from->memory, 0xFF, sizeof from->memory);
     memset(from->records, 0xFF, sizeof from->records);
@@ -231,14 +231,13 @@ static struct firmware *run(const struct scene *scene, struct firmware both[2],
     size_t number = 0;
 
     show_slice_heading();
-    outcome->status = outcome->taken = 0;
+    outcome->status = 0;
     outcome->recorded = outcome->mended = true;
     do {
         slice = firmware_slice(firmware);
         number++;
         show_slice(number, &slice);
         outcome->status |= slice.status;
-        outcome->taken += slice.ran.taken;
         outcome->recorded &= firmware_done(firmware) == slice.ran.used;
         if (number == scene->saved_after) {
             move_over(&both[1], firmware);
@@ -249,7 +248,6 @@ static struct firmware *run(const struct scene *scene, struct firmware both[2],
     } while (goes_on(firmware, slice.ran.reason));
     outcome->reason = slice.ran.reason;
     outcome->fault = core_fault(&firmware->core);
-    outcome->ledger = firmware->ledger;
     return firmware;
 }
 
@@ -299,7 +297,8 @@ static bool found_as(const struct found *found, const struct must *must)
            found->d.status == must->status && found->fresh == must->fresh;
 }
 
-/* Whether the record at this place tells of this descriptor what it must. */
+/* Whether the record at this place tells of this descriptor what it must. RUN is set
+   once in these scenes. */
 static bool recorded_as(struct ledger ledger, size_t place, uint32_t descriptor,
                         const struct must *must)
 {
@@ -308,7 +307,7 @@ static bool recorded_as(struct ledger ledger, size_t place, uint32_t descriptor,
     if (place >= ledger.used)
         return false;
     record = record_at(ledger, place);
-    return record.run == 0 && record.descriptor == descriptor &&
+    return record.run == 1 && record.descriptor == descriptor &&
            record.actual == must->count && record.status == must->status &&
            record.eop == must->eop;
 }
@@ -317,7 +316,8 @@ static bool recorded_as(struct ledger ledger, size_t place, uint32_t descriptor,
  * Each descriptor is as it must be, and a record is there for each that is done
  * and for no other. Every beat taken is a fresh byte of one of them.
  */
-static bool chain_as(const struct outcome *outcome, const struct must *must)
+static bool chain_as(const struct firmware *end, const struct outcome *outcome,
+                     const struct must *must)
 {
     bool as = true;
     size_t records = 0, fresh = 0;
@@ -327,20 +327,21 @@ static bool chain_as(const struct outcome *outcome, const struct must *must)
 
         as = as && found_as(found, &must[i]);
         if (must[i].done)
-            as = as && recorded_as(outcome->ledger, records++, found->address, &must[i]);
+            as = as && recorded_as(end->ledger, records++, found->address, &must[i]);
         fresh += must[i].fresh;
     }
-    return as && outcome->recorded && outcome->ledger.used == records &&
-           outcome->taken == fresh;
+    return as && outcome->recorded && end->ledger.used == records &&
+           end->taken == fresh;
 }
 
-static bool as_it_must_be(const struct scene *scene, const struct outcome *outcome)
+static bool as_it_must_be(const struct scene *scene, const struct firmware *end,
+                          const struct outcome *outcome)
 {
     return outcome->reason == scene->reason &&
            outcome->status == scene->status && outcome->mended &&
            outcome->fault.code == scene->fault.code &&
            outcome->fault.address == scene->fault.address &&
-           chain_as(outcome, scene->found);
+           chain_as(end, outcome, scene->found);
 }
 
 static bool play(size_t number, const struct scene *scene)
@@ -353,14 +354,12 @@ static bool play(size_t number, const struct scene *scene)
     printf("\n%zu.  %s\n    %s\n\n", number, scene->title, scene->see);
     prepare(&both[0], scene);
     end = run(scene, both, &outcome);
-    if (outcome.fault.code)
-        printf("    fault %" PRIu32 " at 0x%04" PRIX32 "\n", outcome.fault.code,
-               outcome.fault.address);
+    show_fault(outcome.fault);
     printf("\n");
     walk(&end->core, &outcome);
     printf("\n");
-    show_ledger(outcome.ledger, outcome.taken);
-    as = as_it_must_be(scene, &outcome);
+    show_ledger(end);
+    as = as_it_must_be(scene, end, &outcome);
     if (scene->saved_after || scene->spoiled_after)
         as = same_end(scene, end) && as;
     return show_verdict(as);
@@ -376,6 +375,7 @@ int main(void)
     good += play_late(SCENE_COUNT + 1, ENABLES);
     good += play_stall(SCENE_COUNT + 2, ENABLES);
     good += play_shared(SCENE_COUNT + 3, ENABLES);
+    good += play_sums(SCENE_COUNT + 4, ENABLES);
     printf("\n%zu of %d scenes are as they must be\n", good, ALL_SCENES);
     return good == ALL_SCENES ? 0 : 1;
 }

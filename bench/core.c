@@ -13,6 +13,13 @@ void must_be_done(const char *call, uint32_t number)
     }
 }
 
+uint32_t value_of(const char *call, uint32_t number,
+                  const uint8_t value[SGDMA_VALUE_SIZE])
+{
+    must_be_done(call, number);
+    return number_at(value, SGDMA_VALUE_SIZE);
+}
+
 uint32_t number_at(const uint8_t *bytes, size_t size)
 {
     uint32_t number = 0;
@@ -56,6 +63,15 @@ struct record record_at(struct ledger ledger, size_t place)
     return record;
 }
 
+uint32_t ledger_bytes(struct ledger ledger)
+{
+    uint32_t bytes = 0;
+
+    for (size_t i = 0; i < ledger.used; i++)
+        bytes += record_at(ledger, i).actual;
+    return bytes;
+}
+
 void core_create(struct core *core, uint32_t mode, uint32_t base,
                  uint8_t *memory, size_t length)
 {
@@ -70,10 +86,9 @@ uint32_t core_read(const struct core *core, uint32_t offset)
 {
     uint8_t value[SGDMA_VALUE_SIZE];
 
-    must_be_done("sgdma_read_register",
-                 sgdma_read_register(core->image, sizeof core->image, offset,
-                                     value, sizeof value));
-    return number_at(value, sizeof value);
+    return value_of("sgdma_read_register",
+                    sgdma_read_register(core->image, sizeof core->image, offset,
+                                        value, sizeof value), value);
 }
 
 void core_write(struct core *core, uint32_t offset, uint32_t value)
@@ -87,9 +102,8 @@ bool core_line(const struct core *core)
 {
     uint8_t value[SGDMA_VALUE_SIZE];
 
-    must_be_done("sgdma_line", sgdma_line(core->image, sizeof core->image,
-                                          value, sizeof value));
-    return number_at(value, sizeof value) == 1;
+    return value_of("sgdma_line", sgdma_line(core->image, sizeof core->image,
+                                             value, sizeof value), value) == 1;
 }
 
 struct ran core_run(struct core *core, struct stream in, struct stream out,
@@ -129,6 +143,16 @@ struct slot core_slot(const struct core *core)
     slot.kind = core->image[SGDMA_IMAGE_SLOT_AT] >> SGDMA_IMAGE_SLOT_KIND_SHIFT;
     slot.address = number_at(core->image + SGDMA_IMAGE_SLOT_ADDRESS_AT, 4);
     return slot;
+}
+
+uint32_t core_run_number(const struct core *core)
+{
+    return number_at(core->image + SGDMA_IMAGE_RUN_NUMBER_AT, 4);
+}
+
+uint32_t core_in_hand(const struct core *core)
+{
+    return number_at(core->image + SGDMA_IMAGE_MOVED_AT, 2);
 }
 
 uint32_t core_look(const struct core *core)

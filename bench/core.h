@@ -77,6 +77,10 @@ struct slot {
 /* Ends the program, and tells the call, where the number is a refusal. */
 void must_be_done(const char *call, uint32_t number);
 
+/* The value that a call has written, which must have been done. */
+uint32_t value_of(const char *call, uint32_t number,
+                  const uint8_t value[SGDMA_VALUE_SIZE]);
+
 /* A number of `size` bytes, the most significant first. */
 uint32_t number_at(const uint8_t *bytes, size_t size);
 
@@ -87,8 +91,9 @@ void put_beat(struct stream stream, size_t place, uint32_t beat);
 /* What is left of a stream after its first beats. */
 struct stream stream_from(struct stream stream, size_t beats);
 
-/* Record `place` of a ledger. */
+/* Record `place` of a ledger, and the bytes of all that are used. */
 struct record record_at(struct ledger ledger, size_t place);
+uint32_t ledger_bytes(struct ledger ledger);
 
 void core_create(struct core *core, uint32_t mode, uint32_t base,
                  uint8_t *memory, size_t length);
@@ -99,6 +104,11 @@ struct ran core_run(struct core *core, struct stream in, struct stream out,
                     struct ledger ledger, uint32_t budget);
 struct fault core_fault(const struct core *core);
 struct slot core_slot(const struct core *core);
+
+/* How often RUN has gone from 0 to 1; and the bytes moved of the descriptor in
+   hand, 0 where there is none. */
+uint32_t core_run_number(const struct core *core);
+uint32_t core_in_hand(const struct core *core);
 
 /*
  * Looks whether the image is good, and nothing else: SGDMA_DONE, or the refusal

@@ -44,6 +44,7 @@ void firmware_begin(struct firmware *firmware, uint32_t control)
     firmware->ledger.bytes = firmware->records;
     firmware->ledger.room = DESCRIPTORS;
     firmware->ledger.used = 0;
+    firmware->taken = 0;
     firmware->control = control;
     firmware->in.bytes = firmware->beats;
     firmware->in.beats = SAMPLES;
@@ -80,6 +81,7 @@ struct ran firmware_run(struct firmware *firmware)
                               firmware->ledger, SLICE);
 
     firmware->in = stream_from(firmware->in, ran.taken);
+    firmware->taken += ran.taken;
     firmware->ledger.used = ran.used;
     return ran;
 }

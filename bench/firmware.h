@@ -36,6 +36,7 @@ struct firmware {
     struct ledger ledger; /* those of them that are lent, and how many are used */
     uint8_t beats[SGDMA_BEAT_SIZE * SAMPLES];
     struct stream in; /* the beats not taken yet */
+    uint32_t taken;   /* beats, in all runs so far */
     uint32_t control; /* what the control register is to hold */
 };
 

@@ -72,7 +72,10 @@ static bool play_half(uint32_t enables, bool pointer_too, size_t fresh)
     while (run_slice(&firmware, ++number))
         ;
     printf("\n");
-    return chain_as(&firmware, fresh) && as && firmware.ledger.used == DESCRIPTORS;
+    as = chain_as(&firmware, fresh) && as;
+    printf("\n");
+    show_ledger(&firmware);
+    return as && firmware.ledger.used == DESCRIPTORS;
 }
 
 bool play_late(size_t number, uint32_t enables)

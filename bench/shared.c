@@ -160,5 +160,9 @@ bool play_shared(size_t number, uint32_t enables)
         ;
     printf("\n    done: %zu descriptors of A, %zu of B, whose stream stopped short\n",
            firmware_done(&bench.cores[0]), firmware_done(&bench.cores[1]));
+    for (size_t i = 0; i < CORES; i++) {
+        printf("\n    %s\n", NAMES[i]);
+        show_ledger(&bench.cores[i]);
+    }
     return show_verdict(served_as(&bench));
 }

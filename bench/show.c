@@ -117,8 +117,9 @@ void show_legend(void)
            "    %c  the sample of this stream that belongs there\n"
            "    %c  a sample of an old stream: stale\n"
            "    %c  anything else\n"
-           "The ledger has a record of each descriptor written back. The number of records\n"
-           "is handed on from slice to slice; the run in a record is 0 as yet.\n",
+           "The ledger has a record of each descriptor written back, dated with the run: how\n"
+           "often RUN had gone from 0 to 1 by then. The number of records is handed on from\n"
+           "slice to slice.\n",
            MEMORY, DESCRIPTORS, PACKET, SLICE, FRESH, OLD, STRANGE);
 }
 
@@ -194,6 +195,13 @@ void show_refused(uint32_t number)
     printf("\n");
 }
 
+void show_fault(struct fault fault)
+{
+    if (fault.code)
+        printf("    fault %" PRIu32 " at 0x%04" PRIX32 "\n", fault.code,
+               fault.address);
+}
+
 static void show_record(size_t number, const struct record *record)
 {
     unsigned actual = record->actual, errors = record->status;
@@ -203,19 +211,18 @@ static void show_record(size_t number, const struct record *record)
            record->eop ? "yes" : "no");
 }
 
-void show_ledger(struct ledger ledger, uint32_t taken)
+void show_ledger(const struct firmware *firmware)
 {
-    uint32_t bytes = 0;
+    struct ledger ledger = firmware->ledger;
 
     printf("    ledger  run  descriptor  bytes  errors  EOP\n");
     for (size_t i = 0; i < ledger.used; i++) {
         struct record record = record_at(ledger, i);
 
         show_record(i + 1, &record);
-        bytes += record.actual;
     }
     printf("       sum                   %5" PRIu32 "  of %" PRIu32 " beats taken\n",
-           bytes, taken);
+           ledger_bytes(ledger), firmware->taken);
 }
 
 bool show_verdict(bool as)

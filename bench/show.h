@@ -37,10 +37,13 @@ void show_found(const struct found *found);
 /* A refusal; where it is that of an image, with the field in words. */
 void show_refused(uint32_t number);
 
+/* The code and address of a fault, where there is one. */
+void show_fault(struct fault fault);
+
 /* Whether a scene is as it must be, which is told where it is not. */
 bool show_verdict(bool as);
 
 /* The records used, and the sum of their bytes beside the beats taken. */
-void show_ledger(struct ledger ledger, uint32_t taken);
+void show_ledger(const struct firmware *firmware);
 
 #endif

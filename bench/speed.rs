@@ -10,6 +10,7 @@
 //! missed; nothing fails by it.
 
 mod choices;
+mod findings;
 mod timers;
 
 use harness::bulk::Bulk;
@@ -493,6 +494,7 @@ fn main() -> ExitCode {
     compare_calls(library.as_ref());
     choices::compare_choices(library.as_ref());
     timers::compare_timers(library.as_ref());
+    findings::compare_findings(library.as_ref());
     show_growth(library.as_ref());
     ExitCode::SUCCESS
 }

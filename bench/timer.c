@@ -10,10 +10,9 @@ uint32_t timer_read(const struct timer *timer, uint32_t offset)
 {
     uint8_t value[SGDMA_VALUE_SIZE];
 
-    must_be_done("sgdma_timer_read",
-                 sgdma_timer_read(timer->bytes, sizeof timer->bytes, offset,
-                                  value, sizeof value));
-    return number_at(value, sizeof value);
+    return value_of("sgdma_timer_read",
+                    sgdma_timer_read(timer->bytes, sizeof timer->bytes, offset,
+                                     value, sizeof value), value);
 }
 
 void timer_write(struct timer *timer, uint32_t offset, uint32_t value)
@@ -27,20 +26,18 @@ bool timer_line(const struct timer *timer)
 {
     uint8_t value[SGDMA_VALUE_SIZE];
 
-    must_be_done("sgdma_timer_line",
-                 sgdma_timer_line(timer->bytes, sizeof timer->bytes, value,
-                                  sizeof value));
-    return number_at(value, sizeof value) == 1;
+    return value_of("sgdma_timer_line",
+                    sgdma_timer_line(timer->bytes, sizeof timer->bytes, value,
+                                     sizeof value), value) == 1;
 }
 
 uint32_t timer_run(struct timer *timer, uint32_t ticks)
 {
     uint8_t value[SGDMA_VALUE_SIZE];
 
-    must_be_done("sgdma_timer_run",
-                 sgdma_timer_run(timer->bytes, sizeof timer->bytes, ticks, value,
-                                 sizeof value));
-    return number_at(value, sizeof value);
+    return value_of("sgdma_timer_run",
+                    sgdma_timer_run(timer->bytes, sizeof timer->bytes, ticks, value,
+                                    sizeof value), value);
 }
 
 uint32_t timer_snapshot(struct timer *timer)
@@ -54,8 +51,7 @@ uint32_t timer_elapsed(const struct timer *timer, uint32_t earlier, uint32_t lat
 {
     uint8_t value[SGDMA_VALUE_SIZE];
 
-    must_be_done("sgdma_timer_elapsed",
-                 sgdma_timer_elapsed(timer->bytes, sizeof timer->bytes, earlier,
-                                     later, value, sizeof value));
-    return number_at(value, sizeof value);
+    return value_of("sgdma_timer_elapsed",
+                    sgdma_timer_elapsed(timer->bytes, sizeof timer->bytes, earlier,
+                                        later, value, sizeof value), value);
 }

@@ -12,6 +12,7 @@
  *   sgdma_line                whether the interrupt line is up
  *   sgdma_read_register       what has happened
  *   sgdma_read_descriptor     what was done with each descriptor
+ *   sgdma_find_record         what the ledger tells of a descriptor in one run
  *
  * Several cores can share an interrupt controller (chapter 29, Vectored
  * Interrupt Controller Core):
@@ -62,8 +63,8 @@
  *
  *   Numbers in lent bytes have the most significant byte first, in the image,
  *   the report, the value, the descriptor answer, the beats, the records of the
- *   ledger, the controller and its answer, and the timer. Descriptors in the
- *   window are little-endian, as the core has them.
+ *   ledger and what it tells, the controller and its answer, and the timer.
+ *   Descriptors in the window are little-endian, as the core has them.
  */
 #ifndef SGDMA_H
 #define SGDMA_H
@@ -83,6 +84,7 @@ extern "C" {
 #define SGDMA_VALUE_SIZE              4
 #define SGDMA_REPORT_SIZE             18
 #define SGDMA_DESCRIPTOR_ANSWER_SIZE  18
+#define SGDMA_FINDING_SIZE            4
 #define SGDMA_VIC_SIZE                88
 #define SGDMA_VIC_ANSWER_SIZE         12
 #define SGDMA_TIMER_SIZE              14
@@ -249,7 +251,8 @@ extern "C" {
  *
  * The run number counts how often RUN has gone from 0 to 1, in every phase. It is
  * 0 in a core as it is created, stays at 4,294,967,295 once it is there, and outlives
- * a reset. No register tells it; the image does.
+ * a reset. No register tells it; the image does, and so does each record of the
+ * ledger.
  */
 #define SGDMA_SLOT_EMPTY       0
 #define SGDMA_SLOT_DESCRIPTOR  1
@@ -273,31 +276,57 @@ extern "C" {
  * The ledger
  *
  * What the core has done, in the order in which it did it: each WriteBack leaves
- * a record of 12 bytes, which tells the descriptor and what was written there.
- * That is so in every mode, and under PARK: a descriptor that is written back
- * again has another record each time. The ledger is a lent slice of whole
+ * a record of 12 bytes, which tells the run, the descriptor and what was written
+ * there. That is so in every mode, and under PARK: a descriptor that is written
+ * back again has another record each time. The ledger is a lent slice of whole
  * records. It belongs to the caller and is no part of the core; what stands in
  * its bytes before is never looked at.
  *
- * The caller keeps the number of records used, 0 at first. Each run is told it,
+ * A done mark does not tell when it was made: a descriptor that nobody has handed
+ * over again still reads as done from the last time. The record does tell: its run is
+ * the core's run number at that WriteBack. A run by this number goes from one setting
+ * of RUN to the next, over all calls of sgdma_run between them; what was done in the
+ * last is what has a record with the number that the image tells now. The WriteBack
+ * counts, and not the Fetch: where RUN goes off and on while a descriptor is in hand,
+ * its record is of the new run; where RUN is cleared and the core finishes the
+ * descriptor, of the run that was. A reset takes nothing out of the ledger, and the
+ * runs after it are counted on. The first run is 1. Records of run 0 are those of an
+ * image that tells run number 0 while RUN is 1, which no core does that sgdma_create
+ * has made. At 4,294,967,295 runs can no longer be told apart.
+ *
+ * The caller keeps the number of records used, 0 at first. Each call is told it,
  * appends its records behind those used and reports the new number, which is
- * handed on to the next run:
+ * handed on to the next call:
  *
  *   sgdma_run(.., ledger, ledger_len, used, budget, report, ..);
  *   used = the 32 bits of the report at SGDMA_REPORT_USED_AT;
  *
  * The records used before are unchanged, and so are the bytes past the last.
  *
+ * No beat is lost. From a core as it is created, in mode 2, with a ledger that is
+ * empty at first and each number handed on, over all register writes and runs:
+ *
+ *   the bytes of all records  +  those in hand  +  those abandoned
+ *     =  the beats taken in all these runs
+ *
+ * In hand is what the core has moved of its descriptor in Move or WriteBack (the 16
+ * bits of the image at SGDMA_IMAGE_MOVED_AT); abandoned is what was in hand at each
+ * reset, and at each SGDMA_FAULT_DESTINATION_OUTSIDE.
+ *
  * A WriteBack that finds no room is not made: the run stops before it, with
- * SGDMA_REASON_LEDGER_FULL, and the descriptor is still owned. So the core marks
- * no descriptor done without a record of it. Nothing is lost by that, and the core
- * goes on in the next run that is lent room: a longer ledger that begins with
- * the same records, or the same one with used 0, once its records are kept
- * elsewhere. NULL with length 0 is a ledger without room; the largest number,
+ * SGDMA_REASON_LEDGER_FULL, and the descriptor is still owned. So no done mark that
+ * the core writes there stands without a dated record behind it. Nothing is lost by
+ * that, and the core goes on in the next call that is lent room: a longer ledger that
+ * begins with the same records, or the same one with used 0, once its records are
+ * kept elsewhere. NULL with length 0 is a ledger without room; the largest number,
  * 4,294,967,295 used, has no room behind it either, however long the ledger is.
+ *
+ * sgdma_find_record asks it whether a descriptor was written back in a run, and
+ * for the latest byte count there. A descriptor that was written back several
+ * times in that run has several records, and the last of them is told.
  */
 #define SGDMA_RECORD_SIZE           12
-#define SGDMA_RECORD_RUN_AT         0  /* 32 bits: 0 in every record for now */
+#define SGDMA_RECORD_RUN_AT         0  /* 32 bits: the run number at its WriteBack */
 #define SGDMA_RECORD_DESCRIPTOR_AT  4  /* 32 bits: the bus address of the descriptor */
 #define SGDMA_RECORD_ACTUAL_AT      8  /* 16 bits: as in actual_bytes_transferred */
 #define SGDMA_RECORD_STATUS_AT      10 /* 8 bits: as in desc_status, errors of its beats */
@@ -305,15 +334,22 @@ extern "C" {
 #define SGDMA_RECORD_EOP            SGDMA_BIT(0) /* a beat with EOP ended it; modes 0 and 1: 0 */
 
 /*
+ * The answer of sgdma_find_record, 4 bytes: where each number stands.
+ */
+#define SGDMA_FINDING_FOUND_AT   0 /* 16 bits: 1 where there is a record, else 0 */
+#define SGDMA_FINDING_ACTUAL_AT  2 /* 16 bits: that of the last one; 0 where there is none */
+
+/*
  * What a done mark tells
  *
- * Descriptors are memory, and the core writes where they say: a byte that lands
- * on the control byte of another descriptor can clear its OWNED_BY_HW, and then
- * it reads as done with no sample behind it, and without a record in the ledger.
- * The one that is in the slot by then is processed all the same, and has its
- * record when it is written back. Any other one ends the chain, and never has one.
- * Firmware that trusts a done mark alone sees to it, on a fresh core in mode 2
- * and before it sets RUN, that
+ * A done mark that a WriteBack has written has its dated record. But descriptors are
+ * memory, and the core writes where they say: a byte that lands on the control byte
+ * of another descriptor can clear its OWNED_BY_HW, and then it reads as done with no
+ * sample behind it, and without a record in the ledger. The one that is in the slot
+ * by then is processed all the same, and has its record when it is written back. Any
+ * other one ends the chain, and never has one. Firmware that looks for the record is
+ * not misled by that; firmware that trusts a done mark alone sees to it, on a fresh
+ * core in mode 2 and before it sets RUN, that
  *   - the descriptors of the chain are multiples of 4, in the window, and apart
  *     from each other, the one that is not owned at the end too;
  *   - PARK and STOP_DMA_ER are 0;
@@ -324,8 +360,10 @@ extern "C" {
  * after every step the descriptors marked done are the first few of the chain,
  * each with the count of bytes that the stream gave it; the core ends after 2
  * steps and, for each of them, its bytes and 2 more; every landing place holds
- * the last byte sent there; and nothing else has changed but the last four bytes
- * of each descriptor. A budget of 4,294,967,295 is enough for every such chain.
+ * the last byte sent there; nothing else in memory has changed but the last four
+ * bytes of each descriptor; and the ledger has a record of each, in the order of the
+ * chain and dated with run 1. A budget of 4,294,967,295 is enough for every such
+ * chain.
  */
 
 /*
@@ -360,9 +398,9 @@ extern "C" {
 
 /*
  * The image, 85 bytes, edition 2. Firmware keeps it, copies it and lends it; the
- * fault, the slot and the run number are what it may want to read there. An image
- * of edition 1, which had 44 bytes, is refused as one of another size. For the
- * reader of a dump, its 27 fields in order: the byte in which each begins, its
+ * bytes moved, the fault, the slot and the run number are what it may want to read
+ * there. An image of edition 1, which had 44 bytes, is refused as one of another size.
+ * For the reader of a dump, its 27 fields in order: the byte in which each begins, its
  * width in bits, the most significant first, and the rule by which a call knows
  * that it is wrong. The phases are numbered from Rest, 0, to Faulted, 6, in the
  * order above, and the kinds of the slot as SGDMA_SLOT_EMPTY and so on are.
@@ -451,6 +489,7 @@ extern "C" {
 
 #define SGDMA_IMAGE_FAULT_AT          1    /* 8 bits, of which the code is those of the mask */
 #define SGDMA_IMAGE_FAULT_MASK        0x1F
+#define SGDMA_IMAGE_MOVED_AT          36   /* 16 bits: of the descriptor in hand, else 0 */
 #define SGDMA_IMAGE_FAULT_ADDRESS_AT  40   /* 32 bits: for 10, 11 and 12 the pointer; */
                                            /* for 13 and 14 the byte's, modulo 2^32 */
 #define SGDMA_IMAGE_SLOT_AT           44   /* 8 bits, of which the kind is the upper two */
@@ -624,6 +663,7 @@ extern "C" {
 #define SGDMA_ODD_STREAM    UINT32_C(9)  /* an odd number of beat bytes, in or out */
 #define SGDMA_NO_TIMER_REGISTER  UINT32_C(16) /* offset is above 5 */
 #define SGDMA_NOT_FULL_PERIOD    UINT32_C(17) /* the timer's period is not 4,294,967,295 */
+#define SGDMA_RUN_UNKNOWN   UINT32_C(18) /* the run asked for is 4,294,967,295 */
 #define SGDMA_BAD_LEDGER    UINT32_C(19) /* part of a record, or fewer records than are used */
 #define SGDMA_NO_PORT       UINT32_C(21) /* the controller lacks the port; or a count not 1 to 32 */
 #define SGDMA_ADDRESS_TOO_LARGE  UINT32_C(22) /* the chosen port's handler is past 32 bits */
@@ -759,6 +799,28 @@ uint32_t sgdma_build_descriptor(uint8_t *window, size_t window_len,
 uint32_t sgdma_read_descriptor(const uint8_t *window, size_t window_len,
                                uint64_t base, uint32_t address,
                                uint8_t *answer, size_t answer_len);
+
+/*
+ * Tells whether the descriptor at a bus address was written back in a run, and its
+ * latest byte count there.
+ *
+ * Reads    ledger: the `used` first records, whatever they hold; what lies past
+ *          them does not matter, nor do the seven bits of a record that are 0
+ * Writes   answer: found and the count, 4 bytes
+ * Returns  SGDMA_BAD_SIZE     answer_len is not 4
+ *          SGDMA_BAD_LEDGER   ledger_len is not a multiple of 12, or is less than
+ *                             12 times used
+ *          SGDMA_RUN_UNKNOWN  run is 4,294,967,295, whatever the ledger holds
+ *          SGDMA_DONE
+ *
+ * That there is no record is an answer, and no refusal. A count of 0 with found 1
+ * is one that a record tells. The run number stays at 4,294,967,295 once it is
+ * there, so that records with this number may be of several runs. The records are
+ * looked at from the last used one back, up to the first that is asked for.
+ */
+uint32_t sgdma_find_record(const uint8_t *ledger, size_t ledger_len, uint32_t used,
+                           uint32_t run, uint32_t address,
+                           uint8_t *answer, size_t answer_len);
 
 /*
  * Makes a controller of so many ports: no line up, nothing triggered, enabled or

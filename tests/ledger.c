@@ -46,11 +46,11 @@ static const uint8_t ITS_RECORD[SGDMA_RECORD_SIZE] = {RECORD_OF_D(4, 0, 0)};
 
 enum { BEFORE_BACK = 6 }; /* its steps before WriteBack: Rest, Fetch, four in Move */
 
-/* Each byte of each field is another one, but for the run number, which is 0. */
+/* Each byte of each field is another one. The run number is put into the image. */
 static void check_layout(void)
 {
     enum { BASE = 0x1A2B3C00, AT = 0x40, BEATS = 0x0506 };
-    static const uint8_t wanted[] = {0,    0,    0,    0,    0x1A, 0x2B,
+    static const uint8_t wanted[] = {0x61, 0x72, 0x83, 0x94, 0x1A, 0x2B,
                                      0x3C, 0x40, 0x05, 0x06, 0x53, 0x01};
     static uint8_t beats[SGDMA_BEAT_SIZE * BEATS];
     uint8_t memory[ROW_LENGTH] = {0}, records[2 * SGDMA_RECORD_SIZE] = {0};
@@ -67,10 +67,11 @@ static void check_layout(void)
     core_build(&core, BASE + AT, &d);
     core_write(&core, SGDMA_REGISTER_NEXT_DESCRIPTOR_POINTER, BASE + AT);
     core_write(&core, SGDMA_REGISTER_CONTROL, SGDMA_CONTROL_RUN);
+    memcpy(core.image + SGDMA_IMAGE_RUN_NUMBER_AT, wanted, 4);
     check("records used", core_run(&core, in, none, ledger, UINT32_MAX).used, 1);
     check_bytes("record", records, wanted, sizeof wanted);
     record = record_at(ledger, 0);
-    check("run", record.run, 0);
+    check("run", record.run, 0x61728394);
     check("descriptor", record.descriptor, BASE + AT);
     check("actual", record.actual, BEATS);
     check("status", record.status, 0x53);

@@ -44,6 +44,12 @@ uint32_t lent_read_descriptor(struct lent *l)
                                  l->answer, l->answer_len);
 }
 
+uint32_t lent_find_record(struct lent *l)
+{
+    return sgdma_find_record(l->ledger, l->ledger_len, l->used, l->run, l->address,
+                             l->answer, l->answer_len);
+}
+
 static void start(struct lent *l)
 {
     check("create", lent_create(l), SGDMA_DONE);

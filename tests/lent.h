@@ -15,10 +15,10 @@ struct lent {
     uint8_t beats[8];
     uint8_t out[8];
     uint8_t ledger[3 * SGDMA_RECORD_SIZE];
-    uint8_t answer[SGDMA_DESCRIPTOR_ANSWER_SIZE + 2]; /* or value, or report */
+    uint8_t answer[SGDMA_DESCRIPTOR_ANSWER_SIZE + 2]; /* or value, report, finding */
     size_t image_len, window_len, beats_len, out_len, ledger_len, answer_len;
     uint64_t base;
-    uint32_t mode, offset, address, used;
+    uint32_t mode, offset, address, used, run;
 };
 
 typedef uint32_t lent_call(struct lent *);
@@ -30,6 +30,7 @@ lent_call lent_line;
 lent_call lent_run;
 lent_call lent_build_descriptor;
 lent_call lent_read_descriptor;
+lent_call lent_find_record;
 
 /* What a call with no error is given, over a core that has steps to take, up to
    the write-back of a descriptor. */

@@ -11,7 +11,10 @@ int main(void)
     test_interrupts();
     test_layouts();
     test_ledger();
+    test_dates();
+    test_sums();
     test_largest_ledger();
+    test_finding();
     test_refusals();
     test_fields();
     test_ahead();

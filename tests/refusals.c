@@ -18,6 +18,7 @@ static void odd_out(struct lent *l) { l->out_len -= 1; }
 static void part_of_a_record(struct lent *l) { l->ledger_len -= 1; }
 static void one_record_short(struct lent *l) { l->used = 4; }
 static void most_used(struct lent *l) { l->used = UINT32_MAX; }
+static void last_run(struct lent *l) { l->run = UINT32_MAX; }
 static void bad_mode(struct lent *l) { l->mode += 1; }
 static void bad_base(struct lent *l) { l->base += UINT64_C(1) << 32; }
 static void other_window(struct lent *l) { l->window_len -= 1; }
@@ -54,6 +55,10 @@ static const struct call CALLS[] = {
      {{short_answer, SGDMA_BAD_SIZE}, {long_answer, SGDMA_BAD_SIZE},
       {bad_base, SGDMA_BAD_WINDOW}, {misaligned, SGDMA_MISALIGNED},
       {outside, SGDMA_OUTSIDE}}},
+    {"sgdma_find_record", lent_find_record, SGDMA_FINDING_SIZE,
+     {{short_answer, SGDMA_BAD_SIZE}, {long_answer, SGDMA_BAD_SIZE},
+      {part_of_a_record, SGDMA_BAD_LEDGER}, {one_record_short, SGDMA_BAD_LEDGER},
+      {most_used, SGDMA_BAD_LEDGER}, {last_run, SGDMA_RUN_UNKNOWN}}},
 };
 
 /* An image of the size that edition 1 had: "7 means 85 bytes for edition 2". */
@@ -66,7 +71,8 @@ static void check_edition_1(void)
     for (size_t i = 0; i < COUNT(CALLS); i++) {
         struct lent l;
 
-        if (CALLS[i].make == lent_build_descriptor || CALLS[i].make == lent_read_descriptor)
+        if (CALLS[i].make == lent_build_descriptor ||
+            CALLS[i].make == lent_read_descriptor || CALLS[i].make == lent_find_record)
             continue;
         lent_prepare(&l, CALLS[i].answer_len);
         l.image[0] = (uint8_t)((l.image[0] & 0x0F) | ITS_EDITION);
@@ -86,6 +92,7 @@ static void check_null(void)
     check("window, built", sgdma_build_descriptor(NULL, 0, 0, 0, 0, 0, 0, 0, 0),
           SGDMA_OUTSIDE);
     check("answer", sgdma_read_descriptor(NULL, 0, 0, 0, NULL, 0), SGDMA_BAD_SIZE);
+    check("finding", sgdma_find_record(NULL, 0, 0, 0, 0, NULL, 0), SGDMA_BAD_SIZE);
     check("no window", sgdma_create(image, sizeof image, 0, 0, 0), SGDMA_DONE);
     check("window, streams and ledger",
           sgdma_run(image, sizeof image, NULL, 0, NULL, 0, NULL, 0, NULL, 0, 0, 9,
@@ -93,6 +100,8 @@ static void check_null(void)
     check("a ledger without the record that is used",
           sgdma_run(image, sizeof image, NULL, 0, NULL, 0, NULL, 0, NULL, 0, 1, 9,
                     report, sizeof report), SGDMA_BAD_LEDGER);
+    check("an empty ledger, asked",
+          sgdma_find_record(NULL, 0, 0, 0, 0, report, SGDMA_FINDING_SIZE), SGDMA_DONE);
 }
 
 void test_refusals(void)

@@ -59,9 +59,9 @@ struct row {
     .d.control = 0x80, .pointer = 4096, .control = 0x20, .budget = 100,        \
     .beats = {0x0011, 0x0022, 0x0033, 0x0044}, .beat_count = 4
 
-/* The bytes of a record: run number 0, address 4096, and the rest as said. */
+/* The bytes of a record: RUN was set once, address 4096, and the rest as said. */
 #define RECORD_OF_D(actual, errors, eop)                                       \
-    0, 0, 0, 0, 0x00, 0x00, 0x10, 0x00, 0, (actual), (errors), (eop)
+    0, 0, 0, 1, 0x00, 0x00, 0x10, 0x00, 0, (actual), (errors), (eop)
 
 #define RUN_1                                                                  \
     .ran.reason = 1, .ran.steps = 8, .ran.taken = 4, .ran.used = 1,            \

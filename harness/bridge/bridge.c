@@ -25,6 +25,7 @@ enum function {
     RUN,
     BUILD_DESCRIPTOR,
     READ_DESCRIPTOR,
+    FIND_RECORD,
     VIC_CREATE,
     VIC_CONFIGURE,
     VIC_ENABLE,
@@ -110,6 +111,8 @@ static uint32_t call_core(uint64_t function, const uint64_t *number, const struc
                                       number[4], number[5], number[6]);
     case READ_DESCRIPTOR:
         return sgdma_read_descriptor(SLICE(0), number[0], number[1], SLICE(1));
+    case FIND_RECORD:
+        return sgdma_find_record(SLICE(0), number[0], number[1], number[2], SLICE(1));
     }
     fail("no such function");
     return 0;

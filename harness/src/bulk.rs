@@ -8,8 +8,9 @@
 pub mod rows;
 
 use crate::model::{
-    descriptor_control, Calls, Controllers, Descriptors, Fault, Images, Ledgers, Machine, Mode,
-    Phase, Ports, Reason, Registers, Report, Slots, Steps, Timers, Windows, OUTPUT_EOP, OUTPUT_SOP,
+    descriptor_control, Calls, Controllers, Descriptors, Fault, Findings, Images, Ledgers, Machine,
+    Mode, Phase, Ports, Reason, Registers, Report, Slots, Steps, Timers, Windows, OUTPUT_EOP,
+    OUTPUT_SOP,
 };
 use rows::Row;
 
@@ -21,6 +22,7 @@ impl Registers for Bulk {}
 impl Descriptors for Bulk {}
 impl Slots for Bulk {}
 impl Ledgers for Bulk {}
+impl Findings for Bulk {}
 impl Images for Bulk {}
 impl Controllers for Bulk {}
 impl Timers for Bulk {}

@@ -88,6 +88,7 @@ pub enum Function {
     Run,
     BuildDescriptor,
     ReadDescriptor,
+    FindRecord,
     VicCreate,
     VicConfigure,
     VicEnable,
@@ -156,6 +157,13 @@ pub enum Call {
     ReadDescriptor {
         window: Lent,
         base: u64,
+        address: u32,
+        answer: Lent,
+    },
+    FindRecord {
+        ledger: Lent,
+        used: u32,
+        run: u32,
         address: u32,
         answer: Lent,
     },
@@ -231,6 +239,7 @@ impl Call {
             Call::Run { .. } => Function::Run,
             Call::BuildDescriptor { .. } => Function::BuildDescriptor,
             Call::ReadDescriptor { .. } => Function::ReadDescriptor,
+            Call::FindRecord { .. } => Function::FindRecord,
             Call::Vic(call) => call.function(),
             Call::Timer(call) => call.function(),
         }
@@ -282,6 +291,9 @@ impl Call {
                      Long(destination), Long(next), Short(length), Byte(control)],
             Call::ReadDescriptor { window, base, address, answer } =>
                 vec![Lent("window", window), Wide(base), Long(address), Lent("answer", answer)],
+            Call::FindRecord { ledger, used, run, address, answer } =>
+                vec![Lent("ledger", ledger), Long(used), Long(run), Long(address),
+                     Lent("answer", answer)],
             Call::Vic(call) => call.arguments(),
             Call::Timer(call) => call.arguments(),
         }
@@ -299,6 +311,7 @@ impl Display for Call {
             Function::Run => "run",
             Function::BuildDescriptor => "build_descriptor",
             Function::ReadDescriptor => "read_descriptor",
+            Function::FindRecord => "find_record",
             Function::VicCreate => "vic_create",
             Function::VicConfigure => "vic_configure",
             Function::VicEnable => "vic_enable",
@@ -381,6 +394,8 @@ impl<Model: Calls> Party for Model {
                                             *length, *control),
             Call::ReadDescriptor { window, base, address, answer } =>
                 self.sgdma_read_descriptor(window, *base, *address, answer),
+            Call::FindRecord { ledger, used, run, address, answer } =>
+                self.sgdma_find_record(ledger, *used, *run, *address, answer),
             Call::Vic(call) => call.answer(*self),
             Call::Timer(call) => call.answer(*self),
         }

@@ -6,6 +6,7 @@
 
 pub mod controllers;
 mod counts;
+pub mod findings;
 mod ledgers;
 mod observe;
 mod refusals;
@@ -13,7 +14,7 @@ mod slots;
 pub mod timers;
 
 pub use counts::{compare_and_cover, Coverage, Numbered, Reachable};
-pub use ledgers::{LedgerFlaw, LedgerUse};
+pub use ledgers::{DateCase, LedgerFlaw, LedgerUse};
 pub use refusals::{applying, first_applying};
 pub use slots::{RunNumberCase, SlotCase};
 
@@ -143,6 +144,8 @@ pub enum Point {
         errors: bool,
         eop: bool,
     },
+    /// A record of this mode was dated so.
+    Dated(Mode, DateCase),
     /// A run of this mode used its ledger in this way.
     Ledger(Mode, LedgerUse),
     /// A run was refused for this flaw of its ledger.

@@ -67,6 +67,15 @@ pub mod c {
             answer: *mut u8,
             answer_len: usize,
         ) -> u32;
+        pub fn sgdma_find_record(
+            ledger: *const u8,
+            ledger_len: usize,
+            used: u32,
+            run: u32,
+            address: u32,
+            answer: *mut u8,
+            answer_len: usize,
+        ) -> u32;
         pub fn sgdma_vic_create(
             vic: *mut u8,
             vic_len: usize,
@@ -171,6 +180,9 @@ pub(crate) fn answer(library: Library, call: &mut Call) -> u32 {
             Call::ReadDescriptor { window, base, address, answer } =>
                 c::sgdma_read_descriptor(library.lend(window), window.len(), *base, *address,
                                          library.lend_mut(answer), answer.len()),
+            Call::FindRecord { ledger, used, run, address, answer } =>
+                c::sgdma_find_record(library.lend(ledger), ledger.len(), *used, *run, *address,
+                                     library.lend_mut(answer), answer.len()),
             Call::Vic(call) => answer_controller(library, call),
             Call::Timer(call) => answer_timer(library, call),
         }

@@ -7,7 +7,9 @@
 //! a descriptor written over while the core holds it, images that differ from a
 //! good one in a field or two.
 
+mod beside;
 mod controllers;
+mod findings;
 mod images;
 mod layout;
 mod ledgers;
@@ -16,6 +18,7 @@ mod slots;
 mod timers;
 
 pub use controllers::ControllerHost;
+pub use findings::FindingHost;
 pub use rng::Rng;
 pub use timers::TimerHost;
 

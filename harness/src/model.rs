@@ -12,6 +12,7 @@
 mod calls;
 mod controllers;
 mod descriptors;
+mod findings;
 mod images;
 mod ledgers;
 mod machine;
@@ -26,6 +27,7 @@ pub use controllers::{
     Choice, Config, Controller, Controllers, CHOICE_SIZE, CONTROLLER_FIELDS, CONTROLLER_SIZE, PORTS,
 };
 pub use descriptors::{descriptor_control, Descriptor, Descriptors, DESCRIPTOR_SIZE};
+pub use findings::{Findings, FINDING_SIZE};
 pub use images::{Image, ImageRule, Images, IMAGE_SIZE};
 pub use ledgers::{Ledger, Ledgers, Record, RECORD_SIZE};
 pub use machine::{Fault, Kept, Machine, Mode, Phase};
@@ -46,6 +48,7 @@ impl Registers for Paper {}
 impl Descriptors for Paper {}
 impl Slots for Paper {}
 impl Ledgers for Paper {}
+impl Findings for Paper {}
 impl Steps for Paper {}
 impl Images for Paper {}
 impl Controllers for Paper {}

@@ -39,9 +39,14 @@ pub fn image(mode: Mode, phase: Phase) -> Image {
     image
 }
 
-/// A record of the descriptor at this address: "run number 32", which is 0,
-/// "descriptor address 32", and then "actual 16, status 8, zero 7, EOP 1".
-pub const fn record(address: u32, [high, low, status, eop]: [u8; 4]) -> [u8; RECORD_SIZE] {
+/// A record of this run, of the descriptor at this address: "run number 32,
+/// descriptor address 32", and then "actual 16, status 8, zero 7, EOP 1".
+pub const fn record(
+    run: u32,
+    address: u32,
+    [high, low, status, eop]: [u8; 4],
+) -> [u8; RECORD_SIZE] {
+    let [p, q, r, s] = run.to_be_bytes();
     let [a, b, c, d] = address.to_be_bytes();
-    [0, 0, 0, 0, a, b, c, d, high, low, status, eop]
+    [p, q, r, s, a, b, c, d, high, low, status, eop]
 }

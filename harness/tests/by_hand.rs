@@ -257,7 +257,7 @@ const WRITTEN: Step = Step {
     phase: WriteBack,
     image_after: |i| leave(i, Fetch, 0x14),
     memory_after: |m| done(m, 0, 0),
-    recorded: Some(record(4096, [0, 4, 0, 0])),
+    recorded: Some(record(0, 4096, [0, 4, 0, 0])),
     ..STEP
 };
 
@@ -275,19 +275,19 @@ const WRITE_BACKS: [Step; 16] = [
         ..WRITTEN },
     Step { name: "errors set ERROR and go on without STOP_DMA_ER",
         given: |i| i.kept.errors = 0x7F, image_after: |i| leave(i, Fetch, 0x15),
-        memory_after: |m| done(m, 0x7F, 0), recorded: Some(record(4096, [0, 4, 0x7F, 0])),
+        memory_after: |m| done(m, 0x7F, 0), recorded: Some(record(0, 4096, [0, 4, 0x7F, 0])),
         ..WRITTEN },
     Step { name: "errors with STOP_DMA_ER halt",
         given: |i| { i.kept.errors = 1; i.control |= STOP_DMA_ER },
         image_after: |i| leave(i, Halted, 0x05), memory_after: |m| done(m, 1, 0),
-        told: (Reason::Halted, 1, 0), recorded: Some(record(4096, [0, 4, 1, 0])), ..WRITTEN },
+        told: (Reason::Halted, 1, 0), recorded: Some(record(0, 4096, [0, 4, 1, 0])), ..WRITTEN },
     Step { name: "RUN 0 comes before STOP_DMA_ER",
         given: |i| { i.kept.errors = 1; i.control = STOP_DMA_ER },
         image_after: |i| leave(i, Rest, 0x05), memory_after: |m| done(m, 1, 0),
-        told: (Reason::Rest, 1, 0), recorded: Some(record(4096, [0, 4, 1, 0])), ..WRITTEN },
+        told: (Reason::Rest, 1, 0), recorded: Some(record(0, 4096, [0, 4, 1, 0])), ..WRITTEN },
     Step { name: "EOP sets EOP_ENCOUNTERED",
         given: |i| i.kept.eop_seen = true, image_after: |i| leave(i, Fetch, 0x16),
-        recorded: Some(record(4096, [0, 4, 0, 1])), ..WRITTEN },
+        recorded: Some(record(0, 4096, [0, 4, 0, 1])), ..WRITTEN },
     Step { name: "no event pends under the enable of another",
         given: |i| i.control |= 0x9B, image_after: |i| leave(i, Fetch, 0x14), ..WRITTEN },
     Step { name: "an event pends again where its bit is 1, without IE_GLOBAL",
@@ -296,11 +296,11 @@ const WRITE_BACKS: [Step; 16] = [
     Step { name: "errors pend under IE_ERROR",
         given: |i| { i.kept.errors = 2; i.control |= 1 },
         image_after: |i| { leave(i, Fetch, 0x15); i.pending = true },
-        memory_after: |m| done(m, 2, 0), recorded: Some(record(4096, [0, 4, 2, 0])), ..WRITTEN },
+        memory_after: |m| done(m, 2, 0), recorded: Some(record(0, 4096, [0, 4, 2, 0])), ..WRITTEN },
     Step { name: "EOP pends under IE_EOP",
         given: |i| { i.kept.eop_seen = true; i.control |= 2 },
         image_after: |i| { leave(i, Fetch, 0x16); i.pending = true },
-        recorded: Some(record(4096, [0, 4, 0, 1])), ..WRITTEN },
+        recorded: Some(record(0, 4096, [0, 4, 0, 1])), ..WRITTEN },
     Step { name: "the count goes up below MAX",
         given: |i| { i.count = 1; i.control |= 0x0380 },
         image_after: |i| { leave(i, Fetch, 0x14); i.count = 2 }, ..WRITTEN },
@@ -315,6 +315,35 @@ const WRITE_BACKS: [Step; 16] = [
         image_after: |i| { leave(i, Fetch, 0x14); i.count = 0 }, ..WRITTEN },
 ];
 
+/// The machine's run number is that of the record, and the step leaves it.
+#[rustfmt::skip]
+const DATES: [Step; 8] = [
+    Step { name: "a date has the most significant byte first",
+        given: |i| i.run_number = 0x0102_0304,
+        recorded: Some([1, 2, 3, 4, 0, 0, 0x10, 0, 0, 4, 0, 0]), ..WRITTEN },
+    Step { name: "a machine that has counted no run dates with 0",
+        given: |i| i.run_number = 0, ..WRITTEN },
+    Step { name: "the first run is 1",
+        given: |i| i.run_number = 1, recorded: Some(record(1, 4096, [0, 4, 0, 0])), ..WRITTEN },
+    Step { name: "the largest number is a date",
+        given: |i| i.run_number = u32::MAX, recorded: Some(record(u32::MAX, 4096, [0, 4, 0, 0])),
+        ..WRITTEN },
+    Step { name: "in mode 0, and under PARK",
+        mode: M0, given: |i| { i.run_number = 7; i.control |= PARK },
+        memory_after: |m| done(m, 0, 0x80), recorded: Some(record(7, 4096, [0, 4, 0, 0])),
+        ..WRITTEN },
+    Step { name: "in mode 1, and armed",
+        mode: M1, given: |i| { i.run_number = 7; arm(i) },
+        recorded: Some(record(7, 4096, [0, 4, 0, 0])), ..WRITTEN },
+    Step { name: "RUN 0 at the write-back: the run that was",
+        given: |i| { i.run_number = 7; i.control = 0 }, image_after: |i| leave(i, Rest, 0x04),
+        told: (Reason::Rest, 1, 0), recorded: Some(record(7, 4096, [0, 4, 0, 0])), ..WRITTEN },
+    Step { name: "errors and EOP stand beside the date",
+        given: |i| { i.run_number = 0x0101_0000; i.kept.errors = 3; i.kept.eop_seen = true },
+        image_after: |i| leave(i, Fetch, 0x17), memory_after: |m| done(m, 3, 0),
+        recorded: Some(record(0x0101_0000, 4096, [0, 4, 3, 1])), ..WRITTEN },
+];
+
 #[rustfmt::skip]
 const RECORDS: [Step; 6] = [
     Step { name: "a record has the most significant byte first",
@@ -322,14 +351,14 @@ const RECORDS: [Step; 6] = [
                      i.kept.errors = 0x55 },
         image_after: |i| leave(i, Fetch, 0x17),
         memory_after: |m| m[28..32].copy_from_slice(&[2, 1, 0x55, 0]),
-        recorded: Some(record(4096, [1, 2, 0x55, 1])), ..WRITTEN },
+        recorded: Some(record(0, 4096, [1, 2, 0x55, 1])), ..WRITTEN },
     Step { name: "a record has the address on the bus, of the descriptor itself",
         given: |i| i.kept.address = 4128, memory_after: |m| done(&mut m[32..], 0, 0),
         recorded: Some([0, 0, 0, 0, 0, 0, 0x10, 0x20, 0, 4, 0, 0]), ..WRITTEN },
     Step { name: "length 0 is recorded as the bytes that were moved",
         given: |i| (i.kept.length, i.kept.moved) = (0, 65_535),
         memory_after: |m| m[28..32].copy_from_slice(&[0xFF, 0xFF, 0, 0]),
-        recorded: Some(record(4096, [0xFF, 0xFF, 0, 0])), ..WRITTEN },
+        recorded: Some(record(0, 4096, [0xFF, 0xFF, 0, 0])), ..WRITTEN },
     Step { name: "a record is made in mode 0",
         mode: M0, ..WRITTEN },
     Step { name: "a generated EOP is not recorded",
@@ -337,7 +366,7 @@ const RECORDS: [Step; 6] = [
     Step { name: "a parked descriptor is recorded with errors and EOP",
         given: |i| { i.control |= PARK; i.kept.errors = 3; i.kept.eop_seen = true },
         image_after: |i| leave(i, Fetch, 0x17), memory_after: |m| done(m, 3, 0x80),
-        recorded: Some(record(4096, [0, 4, 3, 1])), ..WRITTEN },
+        recorded: Some(record(0, 4096, [0, 4, 3, 1])), ..WRITTEN },
 ];
 
 /// A step that finds no room for a record.
@@ -463,14 +492,14 @@ const BESIDE_SLOT: [Step; 9] = [
     Step { name: "the write-back of one that links to itself leaves the slot",
         given: |i| { i.kept.address = 4128; i.slot = laid(4) },
         memory: |m| lay(m, 4), memory_after: |m| done(&mut m[32..], 0, 0),
-        recorded: Some(record(4128, [0, 4, 0, 0])), ..WRITTEN },
+        recorded: Some(record(0, 4128, [0, 4, 0, 0])), ..WRITTEN },
     Step { name: "Rest empties the slot",
         given: |i| { i.control = 0; i.slot = laid(4) }, image_after: |i| leave(i, Rest, 0x04),
         told: (Reason::Rest, 1, 0), ..WRITTEN },
     Step { name: "Halted empties the slot",
         given: |i| { i.kept.errors = 1; i.control |= STOP_DMA_ER; i.slot = laid(4) },
         image_after: |i| leave(i, Halted, 0x05), memory_after: |m| done(m, 1, 0),
-        told: (Reason::Halted, 1, 0), recorded: Some(record(4096, [0, 4, 1, 0])), ..WRITTEN },
+        told: (Reason::Halted, 1, 0), recorded: Some(record(0, 4096, [0, 4, 1, 0])), ..WRITTEN },
     Step { name: "no room for a record, and the slot stays",
         given: |i| { i.control = 0; i.slot = laid(4) }, ..FULL },
 ];
@@ -559,6 +588,11 @@ fn records() {
 }
 
 #[test]
+fn dates() {
+    check_steps(&DATES);
+}
+
+#[test]
 fn full_ledgers() {
     check_steps(&FULL_LEDGERS);
 }
@@ -589,6 +623,16 @@ struct Write {
     after: EditImage,
 }
 
+/// A write of RUN alone that changes nothing, in any phase.
+const WRITE: Write = Write {
+    name: "",
+    phases: &ALL,
+    given: |_| (),
+    offset: offset::CONTROL,
+    value: RUN,
+    after: |_| (),
+};
+
 const MOVING: [Phase; 4] = [Rest, Fetch, Move, WriteBack];
 const ALL: [Phase; 7] = Phase::ALL;
 
@@ -610,88 +654,84 @@ fn arm(image: &mut Image) {
 #[rustfmt::skip]
 const WRITES: [Write; 17] = [
     Write { name: "writing 1 clears bits 0 to 3",
-        phases: &ALL, given: |i| i.status |= 0x0F, offset: offset::STATUS, value: 0x05,
-        after: |i| i.status &= !0x05 },
+        given: |i| i.status |= 0x0F, offset: offset::STATUS, value: 0x05,
+        after: |i| i.status &= !0x05, ..WRITE },
     Write { name: "other written bits do nothing",
-        phases: &ALL, given: |i| { i.status |= 0x0F; i.pending = true }, offset: offset::STATUS,
-        value: 0xFFFF_FFF0, after: |_| () },
+        given: |i| { i.status |= 0x0F; i.pending = true }, offset: offset::STATUS,
+        value: 0xFFFF_FFF0, ..WRITE },
     Write { name: "the pointer may be written in any phase",
-        phases: &ALL, given: |_| (), offset: offset::NEXT_DESCRIPTOR_POINTER, value: 0xFFFF_FFFF,
-        after: |i| i.pointer = 0xFFFF_FFFF },
+        offset: offset::NEXT_DESCRIPTOR_POINTER, value: 0xFFFF_FFFF,
+        after: |i| i.pointer = 0xFFFF_FFFF, ..WRITE },
     Write { name: "bits 0 to 17 are stored, bits 18 to 30 are not",
-        phases: &ALL, given: |_| (), offset: offset::CONTROL, value: 0x7FFE_FFFF,
-        after: |i| i.control = 0x2_FFFF },
+        value: 0x7FFE_FFFF, after: |i| i.control = 0x2_FFFF, ..WRITE },
     Write { name: "bit 31 clears the pending interrupt",
-        phases: &ALL, given: |i| i.pending = true, offset: offset::CONTROL, value: 0x8000_0020,
-        after: |i| i.pending = false },
+        given: |i| i.pending = true, value: 0x8000_0020, after: |i| i.pending = false, ..WRITE },
     Write { name: "without bit 31 it stays",
-        phases: &ALL, given: |i| i.pending = true, offset: offset::CONTROL, value: RUN,
-        after: |_| () },
+        given: |i| i.pending = true, ..WRITE },
     Write { name: "the first write of bit 16 arms and is a write like any other",
-        phases: &ALL, given: |i| (i.pending, i.count) = (true, 7), offset: offset::CONTROL,
-        value: 0x8001_0120, after: |i| { i.control = 0x120; i.pending = false; arm(i) } },
+        given: |i| (i.pending, i.count) = (true, 7), value: 0x8001_0120,
+        after: |i| { i.control = 0x120; i.pending = false; arm(i) }, ..WRITE },
     Write { name: "the second resets and ignores the rest",
-        phases: &ALL, given: |i| { arm(i); (i.pending, i.count) = (true, 7); i.status |= 0x0F },
-        offset: offset::CONTROL, value: 0x8003_FFFF, after: fresh },
+        given: |i| { arm(i); (i.pending, i.count) = (true, 7); i.status |= 0x0F },
+        value: 0x8003_FFFF, after: fresh, ..WRITE },
     Write { name: "writing bit 16 as 0 disarms",
-        phases: &ALL, given: arm, offset: offset::CONTROL, value: RUN,
-        after: |i| (i.control, i.armed) = (RUN, false) },
+        given: arm, after: |i| (i.control, i.armed) = (RUN, false), ..WRITE },
     Write { name: "RUN going 0 to 1 zeroes the count",
-        phases: &MOVING, given: |i| (i.control, i.count) = (0, 7), offset: offset::CONTROL,
-        value: RUN, after: |i| (i.control, i.count, i.run_number) = (RUN, 0, 1) },
+        phases: &MOVING, given: |i| (i.control, i.count) = (0, 7),
+        after: |i| (i.control, i.count, i.run_number) = (RUN, 0, 1), ..WRITE },
     Write { name: "in Faulted too",
-        phases: &[Faulted], given: |i| (i.control, i.count) = (0, 7), offset: offset::CONTROL,
-        value: RUN, after: |i| (i.control, i.count, i.run_number) = (RUN, 0, 1) },
+        phases: &[Faulted], given: |i| (i.control, i.count) = (0, 7),
+        after: |i| (i.control, i.count, i.run_number) = (RUN, 0, 1), ..WRITE },
     Write { name: "RUN staying 1 does not",
-        phases: &ALL, given: |i| i.count = 7, offset: offset::CONTROL, value: RUN | 1,
-        after: |i| i.control = RUN | 1 },
+        given: |i| i.count = 7, value: RUN | 1, after: |i| i.control = RUN | 1, ..WRITE },
     Write { name: "RUN going 1 to 0 does not",
-        phases: &MOVING, given: |i| i.count = 7, offset: offset::CONTROL, value: 0,
-        after: |i| i.control = 0 },
+        phases: &MOVING, given: |i| i.count = 7, value: 0, after: |i| i.control = 0, ..WRITE },
     Write { name: "RUN 0 in Ended goes to Rest with BUSY 0",
-        phases: &[Ended], given: |i| (i.status, i.count) = (0x1F, 7), offset: offset::CONTROL,
-        value: 0, after: |i| (i.control, i.phase, i.status) = (0, 0, 0x0F) },
+        phases: &[Ended], given: |i| (i.status, i.count) = (0x1F, 7), value: 0,
+        after: |i| (i.control, i.phase, i.status) = (0, 0, 0x0F), ..WRITE },
     Write { name: "and in Halted",
-        phases: &[Halted], given: |i| (i.status, i.count) = (0x0F, 7), offset: offset::CONTROL,
-        value: 0, after: |i| (i.control, i.phase) = (0, 0) },
+        phases: &[Halted], given: |i| (i.status, i.count) = (0x0F, 7), value: 0,
+        after: |i| (i.control, i.phase) = (0, 0), ..WRITE },
     Write { name: "only reset leaves Faulted",
-        phases: &[Faulted], given: |_| (), offset: offset::CONTROL, value: 0,
-        after: |i| i.control = 0 },
+        phases: &[Faulted], value: 0, after: |i| i.control = 0, ..WRITE },
     Write { name: "RUN 0 with bit 16 leaves Ended armed",
-        phases: &[Ended, Halted], given: |i| i.count = 7, offset: offset::CONTROL, value: SW_RESET,
-        after: |i| { (i.control, i.phase, i.status) = (0, 0, 0); arm(i) } },
+        phases: &[Ended, Halted], given: |i| i.count = 7, value: SW_RESET,
+        after: |i| { (i.control, i.phase, i.status) = (0, 0, 0); arm(i) }, ..WRITE },
 ];
 
-const HOLDING: [Phase; 3] = [Fetch, Move, WriteBack];
+/// The same where a descriptor is in the slot.
+const HELD: Write = Write {
+    phases: &[Fetch, Move, WriteBack],
+    given: |i| i.slot = laid(4),
+    ..WRITE
+};
 
 /// "a host pointer write" and a reset empty the slot; nothing else that a host
 /// writes does.
 #[rustfmt::skip]
 const SLOT_WRITES: [Write; 8] = [
     Write { name: "a pointer write empties the slot",
-        phases: &HOLDING, given: |i| i.slot = laid(4), offset: offset::NEXT_DESCRIPTOR_POINTER,
-        value: 4160, after: |i| { i.pointer = 4160; i.slot = Slot::default() } },
+        offset: offset::NEXT_DESCRIPTOR_POINTER, value: 4160,
+        after: |i| { i.pointer = 4160; i.slot = Slot::default() }, ..HELD },
     Write { name: "of the number that is there too",
-        phases: &HOLDING, given: |i| i.slot = laid(4), offset: offset::NEXT_DESCRIPTOR_POINTER,
-        value: 4128, after: |i| i.slot = Slot::default() },
+        offset: offset::NEXT_DESCRIPTOR_POINTER, value: 4128, after: |i| i.slot = Slot::default(),
+        ..HELD },
     Write { name: "a bad address goes as well",
-        phases: &HOLDING, given: |i| { i.pointer = 4090; i.slot = bad_slot(SlotKind::Misaligned, 4090) },
-        offset: offset::NEXT_DESCRIPTOR_POINTER, value: 4090, after: |i| i.slot = Slot::default() },
+        given: |i| { i.pointer = 4090; i.slot = bad_slot(SlotKind::Misaligned, 4090) },
+        offset: offset::NEXT_DESCRIPTOR_POINTER, value: 4090, after: |i| i.slot = Slot::default(),
+        ..HELD },
     Write { name: "RUN cleared leaves the slot",
-        phases: &HOLDING, given: |i| i.slot = laid(4), offset: offset::CONTROL, value: 0,
-        after: |i| i.control = 0 },
+        value: 0, after: |i| i.control = 0, ..HELD },
     Write { name: "RUN set again leaves the slot, and a run is counted",
-        phases: &HOLDING, given: |i| { i.control = 0; i.slot = laid(4) }, offset: offset::CONTROL,
-        value: RUN, after: |i| (i.control, i.run_number) = (RUN, 1) },
+        given: |i| { i.control = 0; i.slot = laid(4) },
+        after: |i| (i.control, i.run_number) = (RUN, 1), ..HELD },
     Write { name: "a status write leaves the slot",
-        phases: &HOLDING, given: |i| { i.status |= 4; i.slot = laid(4) }, offset: offset::STATUS,
-        value: u32::MAX, after: |i| i.status = BUSY },
+        given: |i| { i.status |= 4; i.slot = laid(4) }, offset: offset::STATUS, value: u32::MAX,
+        after: |i| i.status = BUSY, ..HELD },
     Write { name: "the arming write leaves the slot",
-        phases: &HOLDING, given: |i| i.slot = laid(4), offset: offset::CONTROL,
-        value: SW_RESET | RUN, after: arm },
+        value: SW_RESET | RUN, after: arm, ..HELD },
     Write { name: "a reset empties the slot",
-        phases: &HOLDING, given: |i| { arm(i); i.slot = laid(4) }, offset: offset::CONTROL,
-        value: SW_RESET, after: fresh },
+        given: |i| { arm(i); i.slot = laid(4) }, value: SW_RESET, after: fresh, ..HELD },
 ];
 
 const RISING: [Phase; 5] = [Rest, Fetch, Move, WriteBack, Faulted];
@@ -701,30 +741,26 @@ const RISING: [Phase; 5] = [Rest, Fetch, Move, WriteBack, Faulted];
 #[rustfmt::skip]
 const RUN_WRITES: [Write; 8] = [
     Write { name: "RUN going 0 to 1 counts a run",
-        phases: &RISING, given: |i| (i.control, i.run_number) = (0, 0xFFFF), offset: offset::CONTROL,
-        value: RUN, after: |i| (i.control, i.run_number) = (RUN, 0x1_0000) },
+        phases: &RISING, given: |i| (i.control, i.run_number) = (0, 0xFFFF),
+        after: |i| (i.control, i.run_number) = (RUN, 0x1_0000), ..WRITE },
     Write { name: "in the write that arms too",
-        phases: &RISING, given: |i| (i.control, i.run_number) = (0, 7), offset: offset::CONTROL,
-        value: RUN | SW_RESET, after: |i| { (i.control, i.run_number) = (RUN, 8); arm(i) } },
+        phases: &RISING, given: |i| (i.control, i.run_number) = (0, 7), value: RUN | SW_RESET,
+        after: |i| { (i.control, i.run_number) = (RUN, 8); arm(i) }, ..WRITE },
     Write { name: "the largest number is reached",
         phases: &RISING, given: |i| (i.control, i.run_number) = (0, u32::MAX - 1),
-        offset: offset::CONTROL, value: RUN,
-        after: |i| (i.control, i.run_number) = (RUN, u32::MAX) },
+        after: |i| (i.control, i.run_number) = (RUN, u32::MAX), ..WRITE },
     Write { name: "and stays",
         phases: &RISING, given: |i| (i.control, i.run_number) = (0, u32::MAX),
-        offset: offset::CONTROL, value: RUN, after: |i| i.control = RUN },
+        after: |i| i.control = RUN, ..WRITE },
     Write { name: "RUN staying 1 counts none",
-        phases: &ALL, given: |i| i.run_number = 7, offset: offset::CONTROL, value: RUN | 2,
-        after: |i| i.control = RUN | 2 },
+        given: |i| i.run_number = 7, value: RUN | 2, after: |i| i.control = RUN | 2, ..WRITE },
     Write { name: "RUN going 1 to 0 counts none",
-        phases: &RISING, given: |i| i.run_number = 7, offset: offset::CONTROL, value: 0,
-        after: |i| i.control = 0 },
+        phases: &RISING, given: |i| i.run_number = 7, value: 0, after: |i| i.control = 0, ..WRITE },
     Write { name: "a reset keeps the number",
-        phases: &ALL, given: |i| { arm(i); i.run_number = 7 }, offset: offset::CONTROL,
-        value: SW_RESET, after: fresh },
+        given: |i| { arm(i); i.run_number = 7 }, value: SW_RESET, after: fresh, ..WRITE },
     Write { name: "and counts none, though RUN is written over a 0",
         phases: &RISING, given: |i| { i.control = 0; arm(i); i.run_number = 7 },
-        offset: offset::CONTROL, value: SW_RESET | RUN, after: fresh },
+        value: SW_RESET | RUN, after: fresh, ..WRITE },
 ];
 
 #[test]

@@ -69,7 +69,7 @@ struct Expected {
 type Record = [u8; RECORD_SIZE];
 
 /// The record of a D that has moved its four bytes.
-const FOUR_MOVED: Record = record(D, [0, 4, 0, 0]);
+const FOUR_MOVED: Record = record(1, D, [0, 4, 0, 0]);
 
 const RUN_1: Expected = Expected {
     reason: Reason::Ended,
@@ -152,7 +152,7 @@ const RUNS: [(&str, Given, Expected); 15] = [
             status: 0x1E,
             last_four: [2, 0, 0, 0],
             landed: &[0x11, 0x22, 0, 0],
-            records: &[record(D, [0, 2, 0, 1])],
+            records: &[record(1, D, [0, 2, 0, 1])],
             ..RUN_1
         },
     ),
@@ -196,7 +196,7 @@ const RUNS: [(&str, Given, Expected); 15] = [
             steps: 7,
             status: 0x05,
             last_four: [4, 0, 3, 0],
-            records: &[record(D, [0, 4, 3, 0])],
+            records: &[record(1, D, [0, 4, 3, 0])],
             ..RUN_1
         },
     ),
@@ -279,7 +279,7 @@ const RUNS: [(&str, Given, Expected); 15] = [
             made: &[0x02AA, 0x01BB],
             last_four: [2, 0, 0, 0x05],
             landed: &[0xAA, 0xBB, 0, 0],
-            records: &[record(D, [0, 2, 0, 0])],
+            records: &[record(1, D, [0, 2, 0, 0])],
             ..RUN_1
         },
     ),
@@ -298,7 +298,7 @@ const RUNS: [(&str, Given, Expected); 15] = [
             made: &[0x03AA],
             last_four: [1, 0, 0, 0x05],
             landed: &[0xAA, 0xBB, 0, 0],
-            records: &[record(D, [0, 1, 0, 0])],
+            records: &[record(1, D, [0, 1, 0, 0])],
             ..RUN_1
         },
     ),

@@ -61,7 +61,7 @@ fn length_zero_takes_65_535_beats_without_eop() {
         started(&mut core, BASE);
         let ran = core.run(&plain_beats(65_540), 0, u32::MAX);
         assert_eq!(ran, ended(65_539, 65_535, 1), "{}", party.name());
-        assert_eq!(core.records(), [record(BASE, [0xFF, 0xFF, 0, 0])]);
+        assert_eq!(core.records(), [record(1, BASE, [0xFF, 0xFF, 0, 0])]);
         assert_eq!(core.bytes(BASE + 28, 4), [0xFF, 0xFF, 0, 0x04]);
         assert_eq!(core.bytes(BASE + 64, 2), [data(65_534), 0]);
         assert_eq!(core.read(offset::STATUS), 0x1C);
@@ -127,7 +127,7 @@ fn a_full_window_is_filled() {
         started(&mut core, TOP);
         let ran = core.run(&plain_beats(65_535), 0, u32::MAX);
         assert_eq!(ran, ended(65_539, 65_535, 1), "{}", party.name());
-        assert_eq!(core.records(), [record(TOP, [0xFF, 0xFF, 0, 0])]);
+        assert_eq!(core.records(), [record(1, TOP, [0xFF, 0xFF, 0, 0])]);
         let mut expected = vec![0xC9];
         expected.extend((0..FULL - 1).map(data));
         expected[28..32].copy_from_slice(&[0xFF, 0xFF, 0, 0x28]);
@@ -225,7 +225,7 @@ fn a_chain_of_2047_descriptors_is_done() {
             let (bytes, eop) = (bytes_of(number), u8::from(ends_early(number)));
             let mark = (done.actual, done.status, done.control);
             assert_eq!(mark, (u16::from(bytes), 0, 0), "descriptor {number}");
-            assert_eq!(*found, record(address, [0, bytes, 0, eop]));
+            assert_eq!(*found, record(1, address, [0, bytes, 0, eop]));
         }
         // MAX_DESC_PROCESSED 255 was reached eight times.
         assert_eq!(u32::from(core.image[3]), CHAIN - 8 * 255);
@@ -290,7 +290,10 @@ fn a_record_is_appended_beyond_4_gib() {
             unreachable!("a call stays what it is");
         };
         assert_eq!(Told::of(&report).used, RECORDS_OF_4_GIB + 1);
-        assert_eq!(ledger[length - RECORD_SIZE..], record(4096, [0, 4, 0, 0]));
+        assert_eq!(
+            ledger[length - RECORD_SIZE..],
+            record(0, 4096, [0, 4, 0, 0])
+        );
         // Where 32 bits would have led.
         assert_eq!(ledger[..20], [0; 20]);
         assert!(ledger.canaries_live());
@@ -335,7 +338,7 @@ fn copy_half(party: &dyn Party, next: u32, records: usize) -> (Ran, Vec<[u8; REC
 fn half_a_window_is_copied() {
     for party in parties() {
         let found = copy_half(party.as_ref(), NOT_OWNED, 1);
-        let record = record(BASE, [0x7F, 0xF0, 0, 0]);
+        let record = record(1, BASE, [0x7F, 0xF0, 0, 0]);
         let due = (ended(32_756, 0, 1), vec![record]);
         assert_eq!(found, due, "{}", party.name());
     }
@@ -347,7 +350,7 @@ fn half_a_window_is_copied() {
 fn half_a_window_is_copied_twice() {
     for party in parties() {
         let found = copy_half(party.as_ref(), BASE, 2);
-        let record = record(BASE, [0x7F, 0xF0, 0, 0]);
+        let record = record(1, BASE, [0x7F, 0xF0, 0, 0]);
         let due = (ended(65_510, 0, 2), vec![record; 2]);
         assert_eq!(found, due, "{}", party.name());
     }
@@ -399,6 +402,6 @@ fn a_full_window_is_streamed_out() {
         expected[65_534] |= 0x0100;
         assert_eq!((ran.reason, ran.steps), (Reason::Ended as u16, 65_539));
         assert!(ran.made == expected, "{}", party.name());
-        assert_eq!(core.records(), [record(BASE, [0xFF, 0xFF, 0, 0])]);
+        assert_eq!(core.records(), [record(1, BASE, [0xFF, 0xFF, 0, 0])]);
     }
 }

@@ -6,8 +6,8 @@ use harness::compare::{ask, drive, Answer};
 use harness::firmware::{Firmware, Ran};
 use harness::gen::Rng;
 use harness::model::{
-    control, descriptor_control, offset, Descriptor, Descriptors, Fault, Image, Images, Ledger,
-    Machine, Paper, Ports, Reason, Steps, DESCRIPTOR_SIZE, IMAGE_SIZE, RECORD_SIZE,
+    control, descriptor_control, offset, Descriptor, Descriptors, Fault, Image, Images, Kept,
+    Ledger, Machine, Paper, Ports, Reason, Steps, DESCRIPTOR_SIZE, IMAGE_SIZE, RECORD_SIZE,
 };
 use std::convert::Infallible;
 
@@ -92,7 +92,8 @@ fn done_calls_leave_images_and_refused_calls_nothing() {
     }
 }
 
-/// "Records are appended .. and bytes past them stay": the used ones stay too.
+/// "Records are appended .. and bytes past them stay": the used ones stay too. Each
+/// appended one is of the run that the image tells.
 #[test]
 fn all_of_a_ledger_stays_but_the_records_appended() {
     for party in parties() {
@@ -123,7 +124,18 @@ fn check_appended(party: &dyn Party, call: &Call, after: &Call) -> u32 {
     let [begin, end] = [*used, told].map(|records| records as usize * RECORD_SIZE);
     let stays = left[..begin] == ledger[..begin] && left[end..] == ledger[end..];
     assert!(stays, "{} changed more in\n{call}", party.name());
+    let run = image_of(call).map(|image| Image::unpack(&image).run_number);
+    let dated = records_in(&left[begin..end]).all(|record| Some(run_of(record)) == run);
+    assert!(dated, "{} dated otherwise in\n{call}", party.name());
     told - used
+}
+
+fn records_in(bytes: &[u8]) -> impl Iterator<Item = &[u8; RECORD_SIZE]> {
+    bytes.as_chunks().0.iter()
+}
+
+fn run_of(record: &[u8; RECORD_SIZE]) -> u32 {
+    u32::from_be_bytes([record[0], record[1], record[2], record[3]])
 }
 
 /// A run of a + b steps is a run of a steps and then one of b, with what the first
@@ -312,12 +324,17 @@ const BASE: u32 = 4096;
 const SLOTS: u32 = 8;
 const WINDOW: usize = 512;
 
-/// A core of mode 2, from fresh on, with an account of the beats it has taken.
+/// A core of mode 2, from fresh on, with an account of the beats it has taken and
+/// of its runs.
 struct Account<'party> {
     core: Firmware<'party>,
     taken: u32,
     /// The bytes of descriptors that a reset or fault 14 has dropped.
     abandoned: u32,
+    /// How often RUN has gone from 0 to 1.
+    runs: u32,
+    /// Whether it last did so with a descriptor in hand.
+    rose_in_hand: bool,
     met: Met,
 }
 
@@ -328,6 +345,10 @@ struct Met {
     full_ledgers: u32,
     resets: u32,
     faults: u32,
+    /// Records of a run that began when their descriptor was in hand.
+    redated: usize,
+    /// .. of a run after a reset that dropped a descriptor.
+    after_reset: usize,
 }
 
 impl Account<'_> {
@@ -336,19 +357,25 @@ impl Account<'_> {
             core: Firmware::new(party, 2, BASE, WINDOW),
             taken: 0,
             abandoned: 0,
+            runs: 0,
+            rose_in_hand: false,
             met: Met::default(),
         }
     }
 
     /// Writes a register. A write of SW_RESET that finds it 1 drops what is in
-    /// hand.
+    /// hand; any other that has RUN 1 where it was 0 begins a run.
     fn write(&mut self, offset: u32, value: u32) {
         let before = image_in(&self.core);
-        let asks = offset == offset::CONTROL && value & control::SW_RESET != 0;
+        let sets = |bit| offset == offset::CONTROL && value & bit != 0;
         self.core.write(offset, value);
-        if asks && before.armed {
+        if sets(control::SW_RESET) && before.armed {
             self.abandoned += u32::from(before.kept.moved);
             self.met.resets += u32::from(before.kept.moved > 0);
+            self.rose_in_hand = false;
+        } else if sets(control::RUN) && before.control & control::RUN == 0 {
+            self.runs += 1;
+            self.rose_in_hand = before.kept != Kept::default();
         }
     }
 
@@ -369,6 +396,7 @@ impl Account<'_> {
     /// run shows that when its last step, the fault, is left out.
     fn run(&mut self, beats: &[u16], budget: u32) {
         let mut before_fault = self.core.clone();
+        let recorded = self.core.records().len();
         let Ran {
             reason,
             steps,
@@ -382,6 +410,21 @@ impl Account<'_> {
             let dropped = image_in(&before_fault).kept.moved;
             self.abandoned += u32::from(dropped);
             self.met.faults += u32::from(dropped > 0);
+        }
+        self.check_dates(recorded);
+    }
+
+    /// The records behind so many are of this run.
+    fn check_dates(&mut self, recorded: usize) {
+        let new = &self.core.records()[recorded..];
+        assert!(new.iter().all(|record| run_of(record) == self.runs));
+        if new.is_empty() {
+            return;
+        }
+        self.met.redated += usize::from(self.rose_in_hand);
+        self.rose_in_hand = false;
+        if self.met.resets > 0 {
+            self.met.after_reset += new.len();
         }
     }
 
@@ -466,7 +509,8 @@ fn take_turn(account: &mut Account, rng: &mut Rng) {
 }
 
 /// The sum law: from fresh in mode 2, the ledger empty at first and each number
-/// handed on, no beat is lost or told twice.
+/// handed on, no beat is lost or told twice. Each record is of the run in which it
+/// was made.
 #[test]
 fn the_ledger_sums_to_the_beats_taken() {
     for party in parties() {
@@ -483,8 +527,11 @@ fn the_ledger_sums_to_the_beats_taken() {
             met.full_ledgers += account.met.full_ledgers;
             met.resets += account.met.resets;
             met.faults += account.met.faults;
+            met.redated += account.met.redated;
+            met.after_reset += account.met.after_reset;
         }
         let enough = met.records > 4_000 && met.full_ledgers > 500;
         assert!(enough && met.resets > 250 && met.faults > 250, "{met:?}");
+        assert!(met.redated > 100 && met.after_reset > 500, "{met:?}");
     }
 }

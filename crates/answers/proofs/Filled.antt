@@ -2,18 +2,20 @@
 -- Assumes nothing.
 use Prim.Native.Nat.{ℕ, _+_, _*_, _^_, _<_}
 use mathlib.Core.Path.{_≡_, refl, sym, ap, _∙_}
+use mathlib.Core.Bool.{Bool}
 use mathlib.Core.List.{List, [], _∷_, _++_}
 use native.Mathlib.Omega.{arith}
 use lib.ListN.{length, length-append}
 use borrow.Author.Tests.{eq-eqb, ne-eqb}
 use Rattle.words.specs.declared.Order.the-variants.{MostFirst}
+use Rattle.words.specs.Bits.{flag}
 use Rattle.words.specs.Numbers.{bytes}
 use Rattle.words.specs.Orders.{bytesOf, wordBytes}
 use Rattle.words.specs.Slices.{put, putAt}
 use Rattle.words.proofs.Recode.{split-append}
 use Rattle.words.proofs.Slices.{put-in, put-put, put-all, length-put}
 use Rattle.descriptor.specs.declared.Descriptor.{Descriptor}
-use Rattle.answers.specs.Answers.{valueBytes, reportBytes, descriptorBytes, answerPut}
+use Rattle.answers.specs.Answers.{valueBytes, reportBytes, descriptorBytes, findingBytes, answerPut}
 
 -- an answer of the slice's size is left in it; of another size it is not
 module _ (answer xs : List ℕ) where
@@ -61,3 +63,8 @@ descriptor-filled xs d l h i =
     (ap (λ (ys : List ℕ). ys ++ bytesOf MostFirst 2 (d .status * 256 + d .control .0)) counts
     ∙ ap (λ (ys : List ℕ). bytesOf MostFirst 2 (d .length) ++ bytesOf MostFirst 2 (d .actual) ++ ys) last)
     ∙ sym (is-put (descriptorBytes d) xs l)
+
+-- what the ledger tells, from its two numbers
+pub finding-filled : (xs : List ℕ) (found : Bool) (count : ℕ) → length xs ≡ 4
+    → putAt (putAt xs 0 (bytesOf MostFirst 2 (flag found))) 2 (bytesOf MostFirst 2 count) ≡ answerPut (findingBytes found count) xs
+finding-filled xs found count l = filled xs _ _ 2 refl l ∙ sym (is-put (findingBytes found count) xs l)

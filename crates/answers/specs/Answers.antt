@@ -1,11 +1,12 @@
 -- The answers of the C calls as bytes, the most significant byte of each number first.
 -- Assumes nothing.
 use Prim.Native.Nat.{ℕ}
-use mathlib.Core.Bool.{cond}
+use mathlib.Core.Bool.{Bool, cond}
 use mathlib.Core.List.{List, [], _∷_}
 use lib.Dec.{eqb}
 use lib.ListN.{length}
 use Rattle.words.specs.declared.Order.the-variants.{MostFirst}
+use Rattle.words.specs.Bits.{flag}
 use Rattle.words.specs.Orders.{bytesOf, rowBytes}
 use Rattle.descriptor.specs.declared.Descriptor.{Descriptor}
 
@@ -46,6 +47,18 @@ abbrev pub descriptorBytes : Descriptor → List ℕ
 descriptorBytes d =
     rowBytes MostFirst descriptorWidths
     (d .source ∷ d .destination ∷ d .next ∷ d .length ∷ d .actual ∷ d .status ∷ d .control .0 ∷ [])
+
+-- ---- what the ledger tells of a descriptor in a run
+
+-- how many bytes each number has, in order
+abbrev pub findingWidths : List ℕ
+findingWidths =
+    2  -- found: 1, or 0
+    ∷ 2  -- its latest byte count there
+    ∷ []
+
+abbrev pub findingBytes : (found : Bool) (count : ℕ) → List ℕ
+findingBytes found count = rowBytes MostFirst findingWidths (flag found ∷ count ∷ [])
 
 -- ---- what is left in a lent slice
 

@@ -2,9 +2,10 @@
 //
 // Every call is total: where the lent slice is not of the answer's size nothing is written.
 ghost use Rattle.words.specs.Promise.{Leaves};
-ghost use Rattle.answers.specs.Answers.{valueBytes, reportBytes, descriptorBytes, answerPut};
+ghost use Rattle.answers.specs.Answers.{valueBytes, reportBytes, descriptorBytes, findingBytes, answerPut};
 use descriptor::Descriptor;
 use words::Order;
+use words::flag;
 use words::put_u16;
 use words::put_u32;
 use words::put_words;
@@ -15,6 +16,8 @@ pub const VALUE: usize = 4;
 pub const REPORT: usize = 18;
 
 pub const DESCRIPTOR: usize = 18;
+
+pub const FINDING: usize = 4;
 
 // The 4 bytes of a register's value, or of the interrupt line.
 pub fn put_value(value: &mut [u8], v: u32)
@@ -50,4 +53,15 @@ pub fn put_descriptor(answer: &mut [u8], d: Descriptor)
     let last = d.status as u16 * 256 + d.control.0 as u16;
     put_words(Order::MostFirst, answer, 0, &words);
     put_u16(Order::MostFirst, answer, 16, last);
+}
+
+// The 4 bytes of what the ledger tells of a descriptor: whether it was found, and its latest byte count.
+pub fn put_finding(answer: &mut [u8], found: bool, count: u16)
+    ensures { λ _. ⌜ Leaves (answerPut (findingBytes found count) (now (answer .entry))) (now (answer .exit)) ⌝ }
+{
+    if answer.len() != FINDING {
+        return;
+    }
+    put_u16(Order::MostFirst, answer, 0, flag(found) as u16);
+    put_u16(Order::MostFirst, answer, 2, count);
 }

@@ -3,7 +3,7 @@
 -- Assumes nothing.
 use Prim.Native.Nat.{ℕ, _+_, _*_}
 use Rattle.bus.specs.declared.Refusal.{Refusal}
-use Rattle.bus.specs.declared.Refusal.the-variants.{NoRegister, BadMode, BadWindow, OtherWindow, Misaligned, Outside, BadSize, BadImage, OddStream, NoTimerRegister, NotFullPeriod, BadLedger, NoPort, AddressTooLarge}
+use Rattle.bus.specs.declared.Refusal.the-variants.{NoRegister, BadMode, BadWindow, OtherWindow, Misaligned, Outside, BadSize, BadImage, OddStream, NoTimerRegister, NotFullPeriod, RunUnknown, BadLedger, NoPort, AddressTooLarge}
 
 abbrev pub refusalNumber : Refusal → ℕ
 refusalNumber NoRegister = 1
@@ -17,6 +17,7 @@ refusalNumber (BadImage field) = 8 + 256 * field
 refusalNumber OddStream = 9
 refusalNumber NoTimerRegister = 16
 refusalNumber NotFullPeriod = 17
+refusalNumber RunUnknown = 18
 refusalNumber BadLedger = 19
 refusalNumber NoPort = 21
 refusalNumber AddressTooLarge = 22

@@ -12,3 +12,4 @@ pub mod Twice
 pub mod OfRun
 pub mod Instances
 pub mod Enough
+pub mod Found

@@ -129,7 +129,7 @@ module _ {window : Window} {pointer control : ℕ} {l : Lent} {budget : ℕ} {r 
   m2-is : c .m2 ≡ machineFor g
   m2-is = wrote-done (c .m1) (c .m2) 4 control refl (c .started .answer) .1 ∙ ap (λ (m : Machine). writtenTo m 4 control) m1-is
 
-  limits : keepsLimits (window .base) (window .length) ≡ true
+  pub limits : keepsLimits (window .base) (window .length) ≡ true
   limits =
       limits-kept (fieldsOf (freshCore StreamToMemory window)) (tailOf (fresh StreamToMemory window))
       (subst (λ (m : Machine). keeps m ≡ true) (c .made .value) (wrote-done (c .m0) (c .m1) 8 pointer refl (c .pointed .answer) .0))

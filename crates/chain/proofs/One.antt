@@ -110,7 +110,7 @@ module _ (w : World) (l : Link) (r : AtOne w l) where
       let n : k w l .moved ≡ length t = worked-moved (begins w l) t ∙ omega arith in
       rw (worked-at (begins w l) t, n, worked-errors (begins w l) t, worked-control (begins w l) t)
 
-  pub mark-records : afterMark w l .records ≡ w .records ++ recordOf share ∷ []
+  pub mark-records : afterMark w l .records ≡ w .records ++ recordOf (w .run) share ∷ []
   mark-records =
       let n : k w l .moved ≡ length t = worked-moved (begins w l) t ∙ omega arith in
       rw (worked-at (begins w l) t, n, worked-errors (begins w l) t, worked-eop (begins w l) t)

@@ -140,7 +140,7 @@ markedBy w k left =
     noted
     (stored w (remade (n .status) (m .control) (m .pointer) Fetch (n .pending) (n .count) m)
     (putAt (w .memory) (placeOf (m .window) (k .at) + 28) (lastFour (k .moved) (k .errors) (k .control .0 % 128))))
-    (w .records ++ entryFor m k ∷ []) left
+    (w .records ++ entryFor (w .run) k ∷ []) left
 
 abbrev pub markedWorld : World → Work → World
 markedWorld w k = markedBy w k (w .left - 1)

@@ -1,7 +1,7 @@
 -- The machine of demand 3 after its two writes, and after the step out of Rest.
 -- Assumes nothing.
 use Prim.Native.Nat.{ℕ, _/_, _%_}
-use mathlib.Core.Path.{_≡_, refl, ap}
+use mathlib.Core.Path.{_≡_, refl, ap, ap₂}
 use mathlib.Core.Bool.{true, false, and-false}
 use native.Mathlib.Omega.{arith}
 use Rattle.words.specs.Bits.{bit}
@@ -28,13 +28,17 @@ stored-6 c = omega arith
 stored-17 : (c : ℕ) → c % 262144 / 131072 % 2 ≡ c / 131072 % 2
 stored-17 c = omega arith
 
+-- it is the first run
+first-run : (c : ℕ) → run (asControl c) ≡ true → runFrom c (record { 0 = 0 }) 0 ≡ 1
+first-run c h = rw (and-false (bit 16 c), h)
+
 pub nothing-ahead : (w : World) → w .slot ≡ Empty → SeesMemory w
 unfolding seen
 nothing-ahead w e = ap (seenIn w) e
 
 module _ (g : Given) where
   abbrev m0 : Machine
-  m0 = machineWith (controlStored (g .control) (withPointer (g .pointer) (freshCore StreamToMemory (g .window)))) Empty (runFrom (g .control) (record { 0 = 0 }) 0)
+  m0 = machineWith (controlStored (g .control) (withPointer (g .pointer) (freshCore StreamToMemory (g .window)))) Empty 1
 
   abbrev pub resting : World
   resting = opened m0 (g .memory) (g .beats) (g .room) (g .left)
@@ -44,8 +48,9 @@ module _ (g : Given) where
 
   pub starts : run (asControl (g .control)) ≡ true → worldFor g ≡ resting
   starts h =
-      ap (λ (c : Core). opened (machineWith c Empty (runFrom (g .control) (record { 0 = 0 }) 0)) (g .memory) (g .beats) (g .room) (g .left))
+      ap₂ (λ (c : Core) (number : ℕ). opened (machineWith c Empty number) (g .memory) (g .beats) (g .room) (g .left))
       (write-runs (g .control) (withPointer (g .pointer) (freshCore StreamToMemory (g .window))) (and-false (bit 16 (g .control))) h)
+      (first-run (g .control) h)
 
   pub set-so : run (asControl (g .control)) ≡ true → park (asControl (g .control)) ≡ false → stopDmaEr (asControl (g .control)) ≡ false
       → Set (fetching .core)

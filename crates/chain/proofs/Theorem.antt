@@ -33,7 +33,7 @@ pub length-links : (w : Window) (m : List ℕ) (a n : ℕ) → length (linksFrom
 length-links w m a zero = refl
 length-links w m a (suc n) = ap suc (length-links w m _ n)
 
-length-records : (ls : List Link) (bs : List ℕ) → length (recordsOf (sharesOf ls bs)) ≡ length ls
+pub length-records : (ls : List Link) (bs : List ℕ) → length (recordsOf 1 (sharesOf ls bs)) ≡ length ls
 length-records [] bs = refl
 length-records (l ∷ ls) bs = ap suc (length-records ls _)
 

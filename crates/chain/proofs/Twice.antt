@@ -156,8 +156,8 @@ module _ (g : Given) (h : LinksToItself g) where
       let two = takes-fit (taking w2 l again) in
       let all-taken : takenSince (resting g) end ≡ given (twice g) =
       omega (arith, length-drop (length (itsBeats w1 l)) (g .beats), length-drop (length (itsBeats w2 l)) (w2 .input)) in
-      let noted : end .records ≡ recordOf s1 ∷ recordOf s2 ∷ [] =
-      mark-records w2 l again ∙ ap (λ (rs : List Entry). rs ++ recordOf s2 ∷ []) (mark-records w1 l first) in
+      let noted : end .records ≡ recordOf 1 s1 ∷ recordOf 1 s2 ∷ [] =
+      mark-records w2 l again ∙ ap (λ (rs : List Entry). rs ++ recordOf 1 s2 ∷ []) (mark-records w1 l first) in
       record {
         reason = refl;
         steps = refl;

@@ -55,7 +55,7 @@ pub record Walked (w : World) (ls : List Link) (e : Link) : Type 0 where
   pub stops : step last ≡ stopped Ended
   pub taken : length (w .input) ≡ given (sharesOf ls (w .input)) + length (last .input)
   pub made : last .output ≡ w .output
-  pub records : last .records ≡ w .records ++ recordsOf (sharesOf ls (w .input))
+  pub records : last .records ≡ w .records ++ recordsOf (w .run) (sharesOf ls (w .input))
   pub pointer : last .core .pointer .0 ≡ e .at
   pub done : All (Done (w .core .window) (last .memory)) (sharesOf ls (w .input))
   pub size : length (last .memory) ≡ length (w .memory)
@@ -241,7 +241,7 @@ module _ (w : World) (l : Link) (ls : List Link) (e : Link) (r : AtChain w (l �
         stops = z .stops;
         taken = (let f = takes-fit (taking w l one) in omega (arith, z .taken, length-drop (length (itsBeats w l)) (w .input)));
         made = z .made;
-        records = z .records ∙ ap (λ (l : List Entry). l ++ recordsOf others) (mark-records w l one) ∙ append-assoc (w .records) (recordOf share ∷ []) (recordsOf others);
+        records = z .records ∙ ap (λ (l : List Entry). l ++ recordsOf (w .run) others) (mark-records w l one) ∙ append-assoc (w .records) (recordOf (w .run) share ∷ []) (recordsOf (w .run) others);
         pointer = z .pointer;
         done = (stays-done (z .last .memory) (along-last (z .along)), z .done);
         size = z .size ∙ mark-size w l one;

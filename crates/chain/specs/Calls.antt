@@ -58,4 +58,4 @@ pub record Finished (g : Given) (l : Lent) (r : RunAnswer) (b : Returned) : Type
   pub answer : r ≡ many.Done told
   pub outcome : Outcome g told (b .window)
   pub output : b .out ≡ l .out
-  pub ledger-after : b .ledger ≡ put (l .ledger) (12 * g .used) (ledgerBytes (recordsOf (shares g)))
+  pub ledger-after : b .ledger ≡ put (l .ledger) (12 * g .used) (ledgerBytes (recordsOf 1 (shares g)))

@@ -151,14 +151,14 @@ abbrev pub endsPacket : (before : Bool) → List ℕ → Bool
 endsPacket before [] = before
 endsPacket before (b ∷ bs) = endsPacket (beatEop b) bs
 
--- the record of each. (The run number is order 4's; 0 until then)
-abbrev pub recordOf : Share → Entry
-recordOf s =
-    record { run = 0; at = s .link .at; actual = length (s .beats); status = gathered 0 (s .beats); eop = endsPacket false (s .beats) }
+-- the record of each, dated with the run
+abbrev pub recordOf : (run : ℕ) → Share → Entry
+recordOf run s =
+    record { run = run; at = s .link .at; actual = length (s .beats); status = gathered 0 (s .beats); eop = endsPacket false (s .beats) }
 
-abbrev pub recordsOf : List Share → List Entry
-recordsOf [] = []
-recordsOf (s ∷ ss) = recordOf s ∷ recordsOf ss
+abbrev pub recordsOf : (run : ℕ) → List Share → List Entry
+recordsOf run [] = []
+recordsOf run (s ∷ ss) = recordOf run s ∷ recordsOf run ss
 
 -- ---- where each byte lands
 

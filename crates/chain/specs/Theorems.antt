@@ -4,11 +4,15 @@ use Prim.Native.Nat.{ℕ, _+_, _≤_}
 use mathlib.Core.Path.{_≡_}
 use mathlib.Core.Bool.{true}
 use mathlib.Core.List.{[], _∷_}
+use lib.ListN.{length}
+use Rattle.words.specs.Slices.{AllBytes}
 use Rattle.bus.specs.declared.Window.{Window}
 use Rattle.bus.specs.Window.{keepsLimits}
+use Rattle.ledger.specs.declared.Finding.the-variants.{Found}
+use Rattle.ledger.specs.Finding.{findingIn}
 use Rattle.machine.specs.declared.RunAnswer.{RunAnswer}
 use Rattle.machine.specs.Run.{run, Lent, Returned, ranAs}
-use Rattle.chain.specs.Chain.{Given, worldFor, shares, cost, recordsOf, Premises, FirstFew, AtEveryStep, Outcome}
+use Rattle.chain.specs.Chain.{All, Given, worldFor, shares, cost, recordsOf, Premises, FirstFew, AtEveryStep, Outcome}
 use Rattle.chain.specs.Enough.{WithinBudget}
 use Rattle.chain.specs.Twice.{twice, LinksToItself, RanTwice}
 use Rattle.chain.specs.Calls.{givenBy, Called, Finished}
@@ -25,7 +29,7 @@ ChainTheorem = (g : Given) → Premises g → (budget : ℕ) → 2 + cost (share
 -- And the records made are those of the k, in order.
 abbrev pub ChainRecords : Type 0
 ChainRecords = (g : Given) → Premises g → (budget : ℕ) → 2 + cost (shares g) ≤ budget
-    → run budget (worldFor g) .world .records ≡ recordsOf (shares g)
+    → run budget (worldFor g) .world .records ≡ recordsOf 1 (shares g)
 
 -- Demand 3, after every step: "those of the k marked done are the first few of the chain, each with the count of bytes the stream gave
 -- it".
@@ -57,6 +61,14 @@ ChainOfRunAtEveryStep = (window : Window) (pointer control : ℕ) (l : Lent) (bu
     → Called window pointer control l budget r b
     → let g : Given = givenBy window pointer control k l in
     Premises g → FirstFew window (l .window) (shares g) (b .window)
+
+-- Order 6: and after the run each of the k is found in run 1, with its count. What is lent is bytes.
+abbrev pub EachFound : Type 0
+EachFound = (window : Window) (pointer control : ℕ) (l : Lent) (budget : ℕ) (r : RunAnswer) (b : Returned) (k : ℕ)
+    → Called window pointer control l budget r b
+    → let g : Given = givenBy window pointer control k l in
+    Premises g → 2 + cost (shares g) ≤ budget → AllBytes (l .beats)
+    → All (λ s. findingIn (b .ledger) (l .used + k) 1 (s .link .at) ≡ Found (length (s .beats))) (shares g)
 
 -- ---- the premises can be met
 

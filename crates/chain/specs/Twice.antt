@@ -55,7 +55,7 @@ pub record RanTwice (g : Given) (ran : Ran) (memory : List ℕ) (noted : List En
   pub taken : ran .taken ≡ given (twice g)
   pub made : ran .made ≡ 0
   -- two records, and the mark of the second
-  pub records : noted ≡ recordsOf (twice g)
+  pub records : noted ≡ recordsOf 1 (twice g)
   pub used : ran .used ≡ g .used + 2
   pub done : Done (g .window) memory (second g)
   pub pointer : ran .machine .core .pointer .0 ≡ g .pointer

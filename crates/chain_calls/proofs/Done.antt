@@ -14,7 +14,7 @@ use Rattle.words.specs.Orders.{bytesOf, numberOf}
 use Rattle.words.specs.Slices.{AllBytes}
 use Rattle.words.proofs.Orders.{number-bytes}
 use Rattle.bus.specs.declared.Refusal.{Refusal}
-use Rattle.bus.specs.declared.Refusal.the-variants.{NoRegister, BadMode, BadWindow, OtherWindow, Misaligned, Outside, BadSize, BadImage, OddStream, NoTimerRegister, NotFullPeriod, BadLedger, NoPort, AddressTooLarge}
+use Rattle.bus.specs.declared.Refusal.the-variants.{NoRegister, BadMode, BadWindow, OtherWindow, Misaligned, Outside, BadSize, BadImage, OddStream, NoTimerRegister, NotFullPeriod, RunUnknown, BadLedger, NoPort, AddressTooLarge}
 use Rattle.bus.specs.Refusal.{refusalNumber}
 use Rattle.image.specs.Promise.{sized}
 use Rattle.ledger.specs.declared.Entry.{Entry}
@@ -37,8 +37,7 @@ use Rattle.met.specs.Met.{Met}
 use Rattle.met.specs.Met as met
 use Rattle.sgdma.specs.Calls.{imageOf, isSize, runIn, runCall, ranOver, reportOver}
 use Rattle.chain_calls.specs.InC.{RunLent, RunLeft, Promised}
-use Rattle.chain_calls.specs.Useless.{stepsTold}
-use Rattle.chain_calls.specs.TwoRuns.{reasonTold, takenTold, madeTold, usedTold}
+use Rattle.chain_calls.specs.Told.{reasonTold, stepsTold, takenTold, madeTold, usedTold}
 use Rattle.chain_calls.proofs.OfCalls.{runAs, runs-as, has-run}
 
 -- ---- what it was lent
@@ -59,7 +58,7 @@ pub record Accepted (x : RunLent) : Type 0 where
   pub served : servedBy x machine ≡ serves
 
 -- no refusal has the number 0
-not-zero : (why : Refusal) → refusalNumber why ≢ 0
+pub not-zero : (why : Refusal) → refusalNumber why ≢ 0
 not-zero NoRegister e = omega arith
 not-zero BadMode e = omega arith
 not-zero BadWindow e = omega arith
@@ -71,6 +70,7 @@ not-zero (BadImage field) e = omega arith
 not-zero OddStream e = omega arith
 not-zero NoTimerRegister e = omega arith
 not-zero NotFullPeriod e = omega arith
+not-zero RunUnknown e = omega arith
 not-zero BadLedger e = omega arith
 not-zero NoPort e = omega arith
 not-zero AddressTooLarge e = omega arith
@@ -127,7 +127,7 @@ module _ {x : RunLent} (s : Accepted x) where
   pub used-bits : x .lent .used < 2 ^ 32 → x .lent .used + length (ran .world .records) < 2 ^ 32
   used-bits u = omega (arith, records-left, capacity-le (length (x .lent .ledger)) .1)
 
-  abbrev told : Ran
+  abbrev pub told : Ran
   told = ranAs (x .lent .used) world ran
 
   done : runAs x (s .size) (s .report-size) (s .loads) ≡ many.Done told
@@ -135,10 +135,10 @@ module _ {x : RunLent} (s : Accepted x) where
 
   module _ (y : RunLeft) (p : Promised x y) where
     -- by the machine's method
-    abbrev Makes : Served → RunAnswer → Type 0
+    abbrev pub Makes : Served → RunAnswer → Type 0
     Makes served a = Runs served (s .machine) (x .lent) (x .budget) a (y .back)
 
-    makes : Makes (servedBy x (s .machine)) (many.Done told)
+    pub makes : Makes (servedBy x (s .machine)) (many.Done told)
     makes = subst (Makes (servedBy x (s .machine))) done (has-run x (s .size) (s .report-size) (s .loads) y p)
 
     -- the machine after it is met in use

@@ -63,7 +63,7 @@ loads-back {xs} {m} h e =
 -- ---- each way to come by one
 
 -- create gives back 0 only where the window keeps its limits
-limits-kept : (size mode limits : Bool) → _≡_ {A = ℕ} 0 (cond size (cond mode (cond limits 0 3) 2) 7) → limits ≡ true
+pub limits-kept : (size mode limits : Bool) → _≡_ {A = ℕ} 0 (cond size (cond mode (cond limits 0 3) 2) 7) → limits ≡ true
 limits-kept true true true e = refl
 limits-kept true true false e = absurd (omega arith)
 limits-kept true false limits e = absurd (omega arith)

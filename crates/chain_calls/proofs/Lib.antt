@@ -9,3 +9,4 @@ pub mod Done
 pub mod TwoRuns
 pub mod OfVic
 pub mod OfTimer
+pub mod Ledger

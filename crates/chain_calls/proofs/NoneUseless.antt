@@ -1,31 +1,25 @@
 -- None of the useless models keeps the promise of sgdma_run, though it can be kept.
 -- Assumes nothing.
-use Prim.Native.Nat.{ℕ, _<_}
+use Prim.Native.Nat.{ℕ}
 use mathlib.Core.Path.{_≡_, refl, sym, ap, _∙_}
 use mathlib.Core.List.{List}
-use native.Mathlib.Nat.{mod-eq-of-lt}
 use native.Mathlib.Omega.{arith}
 use lib.ListN.{length, getD}
-use Rattle.words.specs.declared.Order.the-variants.{MostFirst}
-use Rattle.words.proofs.Orders.{number-bytes}
 use Rattle.descriptor.specs.Layout.{bytesFor, descriptorAt}
 use Rattle.image.proofs.RoundTrip.{length-image}
-use Rattle.machine.specs.declared.RunAnswer.{RunAnswer}
 use Rattle.machine.specs.declared.LoadedMachine.the-variants.{Good}
 use Rattle.machine.specs.Saved.{fieldsOf, tailOf, WasLoaded}
 use Rattle.ledger.specs.Records.{capacity}
-use Rattle.machine.specs.Run.{Served, serves, run, worldOf, runAnswer}
 use Rattle.machine.proofs.Answers.{was-loaded}
-use Rattle.machine.proofs.RunLaws.{run-tells}
 use Rattle.met.proofs.RoundTrip.{loaded-typed, loads-exactly}
 use Rattle.chain.specs.Known.{known, three}
 use Rattle.chain.proofs.Instances.{known-run-1, chain-of-three, landed-nth}
-use Rattle.sgdma.specs.Calls.{runCall, reportOver}
-use Rattle.chain_calls.specs.InC.{Found}
-use Rattle.chain_calls.specs.Useless.{Model, Keeps, stepsTold}
+use Rattle.chain_calls.specs.InC.{RunLent, Found}
+use Rattle.chain_calls.specs.Useless.{Model, Keeps, NotRefused}
 use Rattle.chain_calls.specs.Known.{lends, lentTo}
-use Rattle.chain_calls.specs.Theorems.{HonestKeeps, RefuserFails, FixedFails, NeverMovingFails, MarkerFails, MadeUpFails}
-use Rattle.chain_calls.proofs.OfCalls.{runs-as, run-not-refused, run-finds}
+use Rattle.chain_calls.specs.Theorems.{HonestKeeps, RefuserFails, FixedFails, NeverMovingFails, MarkerFails, MadeUpFails, UnrecordedFails}
+use Rattle.chain_calls.proofs.OfCalls.{run-not-refused, run-finds}
+use Rattle.chain_calls.proofs.Done.{Accepted, LeftBy, left-by}
 use Rattle.chain_calls.proofs.Instances.{in-bytes, known-lent, three-lent}
 
 -- ---- the promise can be kept
@@ -86,18 +80,27 @@ marker-fails f o k =
     let z : _≡_ {A = ℕ} 0x55 0 = sym landed ∙ kept in
     omega arith
 
--- the report's steps are the applications of the step rule, which are not more than the budget
+-- what is lent to a call that is not refused, as it is accepted
+abbrev accepted : {x : RunLent} → NotRefused x → Accepted x
+accepted {x} d =
+    let l : WasLoaded (x .image) (Good (d .machine)) = was-loaded (sym (d .loads)) in
+    record {
+      machine = d .machine;
+      size = ap length (loads-exactly (x .image) (d .machine) (d .bytes .image) (loaded-typed l) .0 l .1)
+          ∙ length-image (fieldsOf (d .machine .core)) (tailOf (d .machine));
+      report-size = d .report-size;
+      loads = d .loads;
+      served = d .served;
+    }
+
+-- what a model that keeps the promise leaves of it
+kept-left : (f : Model) → Keeps f → {x : RunLent} (d : NotRefused x) → LeftBy (accepted d) (f x)
+kept-left f k {x} d = left-by (accepted d) (f x) (k x (d .bytes)) (d .bytes .used) (d .bytes .budget)
+
+-- the report's steps are the applications of the step rule
 pub made-up-fails : MadeUpFails
-made-up-fails f u k =
-    let x = u .given in
-    let w = worldOf (u .machine) (x .lent) in
-    let l : WasLoaded (x .image) (Good (u .machine)) = was-loaded (sym (u .loads)) in
-    let size : length (x .image) ≡ 85 =
-    ap length (loads-exactly (x .image) (u .machine) (u .bytes .image) (loaded-typed l) .0 l .1) ∙ length-image (fieldsOf (u .machine .core)) (tailOf (u .machine)) in
-    let answer : runCall (x .image) (x .lent) (x .budget) (x .report) ≡ runAnswer (x .lent) serves w (x .budget) =
-    runs-as x size (u .report-size) (u .loads) ∙ ap (λ (s : Served). runAnswer (x .lent) s w (x .budget)) (u .not-refused) in
-    let told : stepsTold (f x .report) ≡ stepsTold (reportOver (runAnswer (x .lent) serves w (x .budget)) (x .report)) =
-    ap stepsTold (k x (u .bytes) .report-after ∙ ap (λ (a : RunAnswer). reportOver a (x .report)) answer) in
-    let steps = run (x .budget) w .steps in
-    let fits : steps < 4294967296 = omega (arith, run-tells (x .budget) w .within, u .bytes .budget) in
-    u .made-up (told ∙ number-bytes MostFirst 4 steps ∙ mod-eq-of-lt fits)
+made-up-fails f u k = u .made-up (kept-left f k (u .done) .steps)
+
+-- the report's number of records used counts those of the run
+pub unrecorded-fails : UnrecordedFails
+unrecorded-fails f u k = omega (arith, kept-left f k (u .done) .used, u .unrecorded, u .written-back)

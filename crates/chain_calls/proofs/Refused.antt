@@ -1,14 +1,14 @@
--- "First that applies: 7, 8, 9, 2, 3, 4, 1, 5, 6": the number that a C call gives back is the first, in this one order, of the
+-- "First that applies: 7, 8, 9, 19, 18, 2, 3, 4, 1, 5, 6": the number that a C call gives back is the first, in this one order, of the
 -- refusals that apply to it.
 -- Assumes nothing.
 use Prim.Native.Nat.{ℕ, _+_, _*_, _%_}
-use mathlib.Core.Path.{_≡_, refl, sym, _∙_}
+use mathlib.Core.Path.{_≡_, refl, sym, ap, _∙_}
 use mathlib.Core.Bool.{Bool, true, false, not, cond, _&&_}
-use mathlib.Core.List.{List}
+use mathlib.Core.List.{List, [], _∷_}
 use lib.Dec.{eqb, leb}
 use lib.ListN.{length}
 use Rattle.bus.specs.declared.Refusal.{Refusal}
-use Rattle.bus.specs.declared.Refusal.the-variants.{OtherWindow, BadSize, BadImage, OddStream, BadLedger}
+use Rattle.bus.specs.declared.Refusal.the-variants.{OtherWindow, BadSize, BadImage, OddStream, BadLedger, RunUnknown}
 use Rattle.bus.specs.Refusal.{refusalNumber}
 use Rattle.bus.specs.Window.{keepsLimits, inWindow}
 use Rattle.descriptor.specs.Calls.{seatOf, seatNumber, descriptorNumber}
@@ -25,13 +25,17 @@ use Rattle.machine.specs.declared.LoadedMachine.{LoadedMachine}
 use Rattle.machine.specs.declared.LoadedMachine.the-variants as loaded
 use Rattle.machine.specs.Saved.{keeps, machineOf, loadedAs, loadOf}
 use Rattle.machine.specs.Registers.{readingOf, writeOf, registerReadNumber, registerWroteNumber, lineNumber}
+use Rattle.ledger.specs.declared.Entry.{Entry}
+use Rattle.ledger.specs.declared.Finding.{Finding}
+use Rattle.ledger.specs.declared.Finding.the-variants.{Found, NotFound, Refused}
 use Rattle.ledger.specs.Records.{isLedger}
+use Rattle.ledger.specs.Finding.{entriesIn, isOf, latest, findingIn, findingNumber}
 use Rattle.machine.specs.Run.{serves, refused, even, servedOf, runNumber, servedNumber}
 use Rattle.machine.proofs.Answers.{was-loaded, was-register, was-written, was-line, run-number}
 use Rattle.met.proofs.RoundTrip.{loaded-keeps}
-use Rattle.sgdma.specs.Calls.{isSize, registerOf, readCall, writtenIn, lineIn, lineCall, runIn, runCall, descriptorCall}
+use Rattle.sgdma.specs.Calls.{isSize, registerOf, readCall, writtenIn, lineIn, lineCall, runIn, runCall, descriptorCall, findCall}
 use Rattle.chain_calls.specs.Refused.{first, buildTests}
-use Rattle.chain_calls.specs.Theorems.{CreateInOrder, ReadInOrder, WriteInOrder, LineInOrder, RunInOrder, BuildInOrder, DescriptorInOrder}
+use Rattle.chain_calls.specs.Theorems.{CreateInOrder, ReadInOrder, WriteInOrder, LineInOrder, RunInOrder, BuildInOrder, DescriptorInOrder, FindInOrder}
 
 -- ---- tests one after the other
 
@@ -170,5 +174,34 @@ descriptor-in-order window base a answer r answer' p =
     record {
       number = p .number ∙ chosen descriptorNumber (isSize 18 answer) _ _
           ∙ unless (isSize 18 answer) 7 (found-number window (seatOf (length window) base a) ∙ seat-number window base a);
+      in-order = refl;
+    }
+
+-- ---- the ledger, asked
+
+-- what is found is no refusal
+latest-number : (run address : ℕ) (before : Finding) (es : List Entry) → findingNumber before ≡ 0 → findingNumber (latest run address before es) ≡ 0
+latest-number run address before [] z = z
+latest-number run address before (e ∷ es) z = latest-number run address _ es (by (isOf run address e))
+  where
+    by : (b : Bool) → findingNumber (cond b (Found (e .actual)) before) ≡ 0
+    by true = refl
+    by false = z
+
+finding-number : (ledger : List ℕ) (used run address : ℕ)
+    → findingNumber (findingIn ledger used run address) ≡ cond (not (isLedger (length ledger) used)) 19 (cond (eqb run 4294967295) 18 0)
+unfolding findingIn
+finding-number ledger used run address =
+    chosen findingNumber (not (isLedger (length ledger) used)) (Refused BadLedger) _
+    ∙ ap (cond (not (isLedger (length ledger) used)) 19)
+    (chosen findingNumber (eqb run 4294967295) (Refused RunUnknown) _
+    ∙ ap (cond (eqb run 4294967295) 18) (latest-number run address NotFound (entriesIn ledger used) refl))
+
+pub find-in-order : FindInOrder
+unfolding findCall
+find-in-order ledger used run address answer r answer' p =
+    record {
+      number = p .number ∙ chosen findingNumber (isSize 4 answer) _ _
+          ∙ unless (isSize 4 answer) 7 (finding-number ledger used run address);
       in-order = refl;
     }

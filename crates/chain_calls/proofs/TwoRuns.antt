@@ -34,7 +34,8 @@ use Rattle.met.proofs.InUse.{met-keeps, met-sound, opened-same}
 use Rattle.sgdma.specs.Calls.{imageOf}
 use Rattle.chain_calls.specs.InC.{RunLent, RunLeft, Promised}
 use Rattle.chain_calls.specs.Useless.{InBytes}
-use Rattle.chain_calls.specs.TwoRuns.{madeTold, lentNext, lentWith}
+use Rattle.chain_calls.specs.Told.{madeTold}
+use Rattle.chain_calls.specs.TwoRuns.{lentNext, lentWith}
 use Rattle.chain_calls.specs.Theorems.{TwoRunsAdd}
 use Rattle.chain_calls.proofs.OfCalls.{loads-as}
 use Rattle.chain_calls.proofs.Behind.{behind, reportBehind, run-behind}

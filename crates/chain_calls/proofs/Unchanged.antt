@@ -14,6 +14,9 @@ use Rattle.descriptor.specs.declared.ReadDescriptor.{ReadDescriptor}
 use Rattle.descriptor.specs.declared.ReadDescriptor.the-variants as descriptor
 use Rattle.descriptor.specs.Calls.{seatOf, descriptorNumber}
 use Rattle.descriptor.proofs.Seats.{build-stays}
+use Rattle.ledger.specs.declared.Finding.{Finding}
+use Rattle.ledger.specs.declared.Finding.the-variants as finding
+use Rattle.ledger.specs.Finding.{findingNumber}
 use Rattle.regs.specs.declared.ReadRegister.{ReadRegister}
 use Rattle.regs.specs.declared.ReadRegister.the-variants as register
 use Rattle.image.specs.Promise.{sized}
@@ -29,8 +32,8 @@ use Rattle.machine.specs.Saved.{loadOf}
 use Rattle.machine.specs.Step.{World}
 use Rattle.machine.specs.Registers.{registerReadNumber, registerWroteNumber, lineNumber}
 use Rattle.machine.specs.Run.{Lent, asLent, Served, serves, refused, servedOf, worldOf, returned, runAnswer, runNumber}
-use Rattle.sgdma.specs.Calls.{createNumber, readCall, valueOver, writtenIn, writtenOver, lineCall, lineOver, isSize, runIn, runCall, ranOver, reportOver, returnedIn, descriptorCall, answerOver}
-use Rattle.chain_calls.specs.Theorems.{CreateUnchanged, ReadUnchanged, WriteUnchanged, LineUnchanged, RunUnchanged, BuildUnchanged, DescriptorUnchanged}
+use Rattle.sgdma.specs.Calls.{createNumber, readCall, valueOver, writtenIn, writtenOver, lineCall, lineOver, isSize, runIn, runCall, ranOver, reportOver, returnedIn, descriptorCall, answerOver, findCall, findingOver}
+use Rattle.chain_calls.specs.Theorems.{CreateUnchanged, ReadUnchanged, WriteUnchanged, LineUnchanged, RunUnchanged, BuildUnchanged, DescriptorUnchanged, FindUnchanged}
 
 -- the number given back is that of the answer, so the answer is a refusal too
 answer-refused : {r n : ℕ} → r ≡ n → r ≢ 0 → n ≢ 0
@@ -59,6 +62,11 @@ line-stays (line.Refused why) value h = refl
 descriptor-stays : (a : ReadDescriptor) (answer : List ℕ) → descriptorNumber a ≢ 0 → answerOver a answer ≡ answer
 descriptor-stays (descriptor.Good d) answer h = absurd (h refl)
 descriptor-stays (descriptor.Refused why) answer h = refl
+
+find-stays : (f : Finding) (answer : List ℕ) → findingNumber f ≢ 0 → findingOver f answer ≡ answer
+find-stays (finding.Found count) answer h = absurd (h refl)
+find-stays finding.NotFound answer h = absurd (h refl)
+find-stays (finding.Refused why) answer h = refl
 
 -- ---- a run
 
@@ -110,3 +118,7 @@ build-unchanged window base a j r window' c h =
 pub descriptor-unchanged : DescriptorUnchanged
 descriptor-unchanged window base a answer r answer' c h =
     c .answer-after ∙ descriptor-stays (descriptorCall window base a answer) answer (answer-refused (c .number) h)
+
+pub find-unchanged : FindUnchanged
+find-unchanged ledger used run address answer r answer' c h =
+    c .answer-after ∙ find-stays (findCall ledger used run address answer) answer (answer-refused (c .number) h)

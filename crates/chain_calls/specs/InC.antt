@@ -115,7 +115,7 @@ pub record Found (g : Given) (l : Lends) (left : RunLeft) : Type 0 where
   -- the lent output is as it was
   pub output : left .back .out ≡ l .lent .out
   -- the records of the k stand behind those used, and no other byte of the ledger differs
-  pub ledger : left .back .ledger ≡ put (l .lent .ledger) (12 * l .lent .used) (ledgerBytes (recordsOf (shares g)))
+  pub ledger : left .back .ledger ≡ put (l .lent .ledger) (12 * l .lent .used) (ledgerBytes (recordsOf 1 (shares g)))
 
 -- with any budget: after every step
 pub record FoundAtEveryStep (g : Given) (l : Lends) (left : RunLeft) : Type 0 where

@@ -5,3 +5,5 @@ pub mod Refused
 pub mod Images
 pub mod Theorems
 pub mod TwoRuns
+pub mod Told
+pub mod Ledger

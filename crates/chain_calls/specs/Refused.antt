@@ -47,9 +47,9 @@ abbrev pub first : List Test → ℕ
 first [] = 0
 first (t ∷ ts) = cond (t .applies) (told t) (first ts)
 
--- "First that applies: 7, 8, 9, 19, 2, 3, 4, 1, 5, 6", then those of the timer: 16, 17, and of the controller: 21, 22
+-- "First that applies: 7, 8, 9, 19, 18, 2, 3, 4, 1, 5, 6", then those of the timer: 16, 17, and of the controller: 21, 22
 abbrev pub order : List ℕ
-order = 7 ∷ 8 ∷ 9 ∷ 19 ∷ 2 ∷ 3 ∷ 4 ∷ 1 ∷ 5 ∷ 6 ∷ 16 ∷ 17 ∷ 21 ∷ 22 ∷ []
+order = 7 ∷ 8 ∷ 9 ∷ 19 ∷ 18 ∷ 2 ∷ 3 ∷ 4 ∷ 1 ∷ 5 ∷ 6 ∷ 16 ∷ 17 ∷ 21 ∷ 22 ∷ []
 
 -- whether tests come in an order
 abbrev pub comeIn : List ℕ → List Test → Bool
@@ -108,6 +108,10 @@ oddStream beats out = 9 when not (even beats && even out)
 abbrev pub badLedger : (ledger : List ℕ) (used : ℕ) → Test
 badLedger ledger used = 19 when not (isLedger (length ledger) used)
 
+-- 18, RunUnknown: the run asked for is 4,294,967,295
+abbrev pub runUnknown : ℕ → Test
+runUnknown run = 18 when eqb run 4294967295
+
 -- 8 of a timer: its 14 bytes break a rule; with the lowest field that does
 abbrev pub badTimer : List ℕ → Test
 badTimer xs =
@@ -160,6 +164,9 @@ buildTests window base a = badWindow base (length window) ∷ misaligned a ∷ o
 
 abbrev pub descriptorTests : (window : List ℕ) (base a : ℕ) (answer : List ℕ) → List Test
 descriptorTests window base a answer = badSize (isSize 18 answer) ∷ buildTests window base a
+
+abbrev pub findTests : (ledger : List ℕ) (used run : ℕ) (answer : List ℕ) → List Test
+findTests ledger used run answer = badSize (isSize 4 answer) ∷ badLedger ledger used ∷ runUnknown run ∷ []
 
 -- ---- and each call on a timer
 

@@ -2,24 +2,31 @@
 -- Assumes nothing.
 use Prim.Native.Nat.{ℕ, _+_, _^_, _≤_, _<_}
 use mathlib.Core.Path.{_≡_}
+use mathlib.Core.Bool.{true}
 use mathlib.Core.List.{List}
 use lib.ListN.{length}
 use Rattle.words.specs.Promise.{Answers}
 use Rattle.descriptor.specs.declared.Job.{Job}
+use Rattle.ledger.specs.declared.Entry.{Entry}
+use Rattle.machine.specs.declared.Machine.{Machine}
+use Rattle.machine.specs.declared.LoadedMachine.the-variants.{Good}
+use Rattle.machine.specs.Saved.{loadOf}
 use Rattle.machine.specs.Run.{Lent, Returned, asLent}
-use Rattle.chain.specs.Chain.{shares, cost, Premises}
+use Rattle.answers.specs.Answers.{findingBytes}
+use Rattle.chain.specs.Chain.{All, shares, cost, Premises}
 use Rattle.chain.specs.Known.{known}
-use Rattle.sgdma.specs.Calls.{Created, RegisterRead, RegisterWritten, LineRead, RunMade, DescriptorBuilt, DescriptorRead}
+use Rattle.sgdma.specs.Calls.{Created, RegisterRead, RegisterWritten, LineRead, RunMade, DescriptorBuilt, DescriptorRead, RecordFound}
 use Rattle.timer.specs.Calls.{TimerCreated, TimerRead, TimerWritten, TimerLine, TimerRan, TimerElapsed}
 use Rattle.vic.specs.Calls.{portNumber, VicCreated, VicChosen}
 use Rattle.chain_calls.specs.InC.{RunLent, RunLeft, Promised, Lends, WellLent, givenIn, Called, AllDone, Found, FoundAtEveryStep}
 use Rattle.chain_calls.specs.Known.{lends, knownLeft}
 use Rattle.chain_calls.specs.Refused.{FirstThatApplies, WhereRefused}
-use Rattle.chain_calls.specs.Refused.{createTests, readTests, writeTests, lineTests, runTests, buildTests, descriptorTests, vicCreateTests, vicPortTests, vicChooseTests}
+use Rattle.chain_calls.specs.Refused.{createTests, readTests, writeTests, lineTests, runTests, buildTests, descriptorTests, findTests, vicCreateTests, vicPortTests, vicChooseTests}
 use Rattle.chain_calls.specs.Refused.{timerCreateTests, timerReadTests, timerWriteTests, timerValueTests, timerElapsedTests}
 use Rattle.chain_calls.specs.TwoRuns.{lentNext, lentWith, DoTheSame}
 use Rattle.chain_calls.specs.Images.{InUse, LoadsBack}
-use Rattle.chain_calls.specs.Useless.{Model, InBytes, Keeps, honest, RefusesEverything, OneFixedAnswer, NeverMoves, OnlyMarksTheOthers, MakesUpSteps}
+use Rattle.chain_calls.specs.Useless.{Model, InBytes, Keeps, honest, RefusesEverything, OneFixedAnswer, NeverMoves, OnlyMarksTheOthers, MakesUpSteps, MarksUnrecorded}
+use Rattle.chain_calls.specs.Ledger.{OneEachInC, SessionInC, AddsInC}
 
 -- ---- "First that applies": the number that a call gives back is the first, in the paper's one order, of the refusals that apply to
 -- it, or 0
@@ -57,6 +64,11 @@ BuildInOrder = (window : List ℕ) (base a : ℕ) (j : Job) (r : ℕ) (window' :
 abbrev pub DescriptorInOrder : Type 0
 DescriptorInOrder = (window : List ℕ) (base a : ℕ) (answer : List ℕ) (r : ℕ) (answer' : List ℕ) → DescriptorRead window base a answer r answer'
     → FirstThatApplies (descriptorTests window base a answer) r
+
+-- sgdma_find_record does.
+abbrev pub FindInOrder : Type 0
+FindInOrder = (ledger : List ℕ) (used run address : ℕ) (answer : List ℕ) (r : ℕ) (answer' : List ℕ)
+    → RecordFound ledger used run address answer r answer' → FirstThatApplies (findTests ledger used run answer) r
 
 -- Each of the six calls on a timer does.
 pub record EachInOrder : Type 0 where
@@ -123,6 +135,11 @@ abbrev pub DescriptorUnchanged : Type 0
 DescriptorUnchanged = (window : List ℕ) (base a : ℕ) (answer : List ℕ) (r : ℕ) (answer' : List ℕ)
     → DescriptorRead window base a answer r answer' → WhereRefused r (answer' ≡ answer)
 
+-- sgdma_find_record leaves the answer.
+abbrev pub FindUnchanged : Type 0
+FindUnchanged = (ledger : List ℕ) (used run address : ℕ) (answer : List ℕ) (r : ℕ) (answer' : List ℕ)
+    → RecordFound ledger used run address answer r answer' → WhereRefused r (answer' ≡ answer)
+
 -- Each of the six calls on a timer leaves the timer, and the value that it may write.
 pub record EachUnchanged : Type 0 where
   pub create : (xs : List ℕ) (period r : ℕ) (xs' : List ℕ) → TimerCreated xs period r xs' → WhereRefused r (xs' ≡ xs)
@@ -167,6 +184,14 @@ abbrev pub ChainOfCallsAtEveryStep : Type 0
 ChainOfCallsAtEveryStep = (l : Lends) (created pointed started : ℕ) (left : RunLeft) (k : ℕ)
     → Called l created pointed started left → WellLent l → Premises (givenIn l k) → FoundAtEveryStep (givenIn l k) l left
 
+-- Order 6: and sgdma_find_record then finds each of the k in run 1, with its count.
+abbrev pub EachFoundInC : Type 0
+EachFoundInC = (l : Lends) (created pointed started : ℕ) (left : RunLeft) (k : ℕ)
+    → Called l created pointed started left → WellLent l → Premises (givenIn l k) → 2 + cost (shares (givenIn l k)) ≤ l .budget
+    → (answer : List ℕ) → length answer ≡ 4
+    → All (λ s. (r : ℕ) (answer' : List ℕ) → RecordFound (left .back .ledger) (l .lent .used + k) 1 (s .link .at) answer r answer'
+    → (r ≡ 0) × (answer' ≡ findingBytes true (length (s .beats)))) (shares (givenIn l k))
+
 -- Known run 1 through the C calls: the numbers, all 85 bytes of the image, the window's 256, the report's 18, the ledger's 12.
 abbrev pub KnownRun1InC : Type 0
 KnownRun1InC = (created pointed started : ℕ) (left : RunLeft) → Called (lends known) created pointed started left
@@ -180,6 +205,18 @@ abbrev pub TwoRunsAdd : Type 0
 TwoRunsAdd = (x : RunLent) (b : ℕ) (report : List ℕ) (first second one : RunLeft) → InBytes x → x .budget + b < 2 ^ 32 → length report ≡ 18
     → Promised x first → first .number ≡ 0 → Promised (lentNext x first b report) second → Promised (lentWith x (x .budget + b)) one
     → DoTheSame first second one
+
+-- ---- the ledger
+
+-- A write-back and a record are one, of sgdma_run: see `OneRecordEach`.
+abbrev pub OneRecordEachInC : Type 0
+OneRecordEachInC = (m : Machine) (x : RunLent) (y : RunLeft) → loadOf (x .image) ≡ Good m → InBytes x → Promised x y → y .number ≡ 0
+    → OneEachInC m x y
+
+-- The ledger's law, of sgdma_create, sgdma_write_register and sgdma_run: see `SessionAdds`.
+abbrev pub SessionAddsInC : Type 0
+SessionAddsInC = (image before ledger : List ℕ) (used : ℕ) (rs : List Entry) (taken lost : ℕ)
+    → SessionInC image before ledger used rs taken lost → AddsInC image before ledger used rs taken lost
 
 -- ---- the useless models
 
@@ -206,3 +243,7 @@ MarkerFails = (f : Model) → OnlyMarksTheOthers f → Keeps f → ⊥
 -- One with "a made-up step count" does not.
 abbrev pub MadeUpFails : Type 0
 MadeUpFails = (f : Model) → MakesUpSteps f → Keeps f → ⊥
+
+-- The one that marks a descriptor done and writes no record does not.
+abbrev pub UnrecordedFails : Type 0
+UnrecordedFails = (f : Model) → MarksUnrecorded f → Keeps f → ⊥

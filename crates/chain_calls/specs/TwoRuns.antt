@@ -6,25 +6,8 @@ use Prim.Native.Nat.{ℕ, _+_, _*_}
 use mathlib.Core.Path.{_≡_}
 use mathlib.Core.List.{List, _++_}
 use lib.ListN.{take, drop}
-use Rattle.words.specs.declared.Order.the-variants.{MostFirst}
-use Rattle.words.specs.Orders.{numberOf}
-use Rattle.words.specs.Slices.{part}
 use Rattle.chain_calls.specs.InC.{RunLent, RunLeft}
-use Rattle.chain_calls.specs.Useless.{stepsTold}
-
--- ---- what a report tells, at the header's offsets; the steps, at 2, are `stepsTold`
-
-abbrev pub reasonTold : List ℕ → ℕ
-reasonTold report = numberOf MostFirst (part report 0 2)
-
-abbrev pub takenTold : List ℕ → ℕ
-takenTold report = numberOf MostFirst (part report 6 4)
-
-abbrev pub madeTold : List ℕ → ℕ
-madeTold report = numberOf MostFirst (part report 10 4)
-
-abbrev pub usedTold : List ℕ → ℕ
-usedTold report = numberOf MostFirst (part report 14 4)
+use Rattle.chain_calls.specs.Told.{reasonTold, stepsTold, takenTold, madeTold, usedTold}
 
 -- ---- the runs
 

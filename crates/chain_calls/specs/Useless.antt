@@ -1,5 +1,5 @@
--- The paper's useless models, as models of sgdma_run. That none of them keeps the promise of sgdma_run is `refuser-fails`,
--- `fixed-fails`, `never-moving-fails`, `marker-fails` and `made-up-fails`; that it can be kept is `honest-keeps`.
+-- The paper's useless models, and one more, as models of sgdma_run. That none of them keeps the promise of sgdma_run is `refuser-fails`,
+-- `fixed-fails`, `never-moving-fails`, `marker-fails`, `made-up-fails` and `unrecorded-fails`; that it can be kept is `honest-keeps`.
 -- Assumes nothing.
 use Prim.Native.Nat.{ℕ, _+_, _^_, _<_}
 use mathlib.Core.Path.{_≡_}
@@ -7,17 +7,16 @@ use mathlib.Core.Logic.{_≢_}
 use mathlib.Core.Bool.{cond, _&&_}
 use mathlib.Core.List.{List}
 use lib.ListN.{length, getD, take}
-use Rattle.words.specs.declared.Order.the-variants.{MostFirst}
-use Rattle.words.specs.Orders.{numberOf}
-use Rattle.words.specs.Slices.{part, AllBytes}
+use Rattle.words.specs.Slices.{AllBytes}
 use Rattle.image.specs.Promise.{sized}
 use Rattle.machine.specs.declared.Machine.{Machine}
 use Rattle.machine.specs.declared.LoadedMachine.the-variants.{Good}
 use Rattle.machine.specs.Saved.{loadOf}
-use Rattle.machine.specs.Run.{run, asLent, serves, servedOf, worldOf, runNumber}
+use Rattle.machine.specs.Run.{Report, run, asLent, serves, servedOf, worldOf, runNumber}
 use Rattle.chain.specs.Chain.{All, machineFor, links, Share, shares, Sent, sentByAll, Premises}
 use Rattle.sgdma.specs.Calls.{imageOf, isSize, runCall, ranOver, reportOver, returnedIn}
 use Rattle.chain_calls.specs.InC.{RunLent, RunLeft, Promised, Lends, WellLent, givenIn, runLent}
+use Rattle.chain_calls.specs.Told.{stepsTold, usedTold}
 
 -- a model: what it leaves of whatever it is lent
 abbrev pub Model : Type 0
@@ -78,18 +77,29 @@ OnlyMarksTheOthers f = (l : Lends) (k : ℕ) → WellLent l → Premises (givenI
     → All (λ d. (j : ℕ) → j < 4 → l .window .base + place ≢ d .at + (28 + j)) (links (givenIn l k))
     → getD (f (runLent l (imageOf (machineFor (givenIn l k)))) .back .window) place 0 ≡ getD (l .lent .window) place 0
 
--- ---- "A made-up step count"
+-- ---- two that are found out by one run
 
--- the steps that a report tells: 32 bits behind the reason's 16
-abbrev pub stepsTold : List ℕ → ℕ
-stepsTold report = numberOf MostFirst (part report 2 4)
+-- a call of sgdma_run that is not refused, by what it is lent
+pub record NotRefused (x : RunLent) : Type 0 where
+  pub bytes : InBytes x
+  pub machine : Machine
+  pub loads : loadOf (x .image) ≡ Good machine
+  pub report-size : length (x .report) ≡ 18
+  pub served : servedOf machine (x .lent) ≡ serves
 
--- of some run that is not refused it tells another number than that of the applications of the step rule
+-- the run that its machine makes
+abbrev pub runOf : (x : RunLent) → Machine → Report
+runOf x m = run (x .budget) (worldOf m (x .lent))
+
+-- "A made-up step count": of some run it tells another number than that of the applications of the step rule
 pub record MakesUpSteps (f : Model) : Type 0 where
   pub given : RunLent
-  pub bytes : InBytes given
-  pub machine : Machine
-  pub loads : loadOf (given .image) ≡ Good machine
-  pub report-size : length (given .report) ≡ 18
-  pub not-refused : servedOf machine (given .lent) ≡ serves
-  pub made-up : stepsTold (f given .report) ≢ run (given .budget) (worldOf machine (given .lent)) .steps
+  pub done : NotRefused given
+  pub made-up : stepsTold (f given .report) ≢ runOf given (done .machine) .steps
+
+-- the one that marks a descriptor done and writes no record: in some run a descriptor is written back, and no more records are used than before
+pub record MarksUnrecorded (f : Model) : Type 0 where
+  pub given : RunLent
+  pub done : NotRefused given
+  pub written-back : 0 < length (runOf given (done .machine) .world .records)
+  pub unrecorded : usedTold (f given .report) ≡ given .lent .used

@@ -10,7 +10,7 @@ use Rattle.known_runs.specs.Worked.{worked}
 abbrev pub KnownRunsHold : Type 0
 KnownRunsHold = wrong 1 known ≡ []
 
--- One hundred and thirty-nine cases worked out by hand, from the paper, from what its sixth request says of the ledger and its fourth of
+-- One hundred and forty-nine cases worked out by hand, from the paper, from what its sixth request says of the ledger and its fourth of
 -- reading ahead: none is wrong.
 abbrev pub WorkedCasesHold : Type 0
 WorkedCasesHold = wrong 1 worked ≡ []

@@ -28,9 +28,16 @@ three = desc 0 4224 4128 1 0x80 ++ desc 0 4224 4160 1 0x80 ++ desc 0 4224 4192 1
 abbrev pub single : List ℕ
 single = desc 0 4224 4128 1 0x80
 
--- the record of the descriptor at 4096 + past: run number (0 until records are dated), address, bytes, errors, EOP
+-- the record of the descriptor at 4096 + past: run number, address, bytes, errors, EOP
+abbrev pub recordedBy : (run : List ℕ) (past n errors last : ℕ) → List ℕ
+recordedBy run past n errors last = run ++ 0 ∷ 0 ∷ 0x10 ∷ past ∷ 0 ∷ n ∷ errors ∷ last ∷ []
+
+abbrev pub recordedIn : (run past n errors last : ℕ) → List ℕ
+recordedIn run past n errors last = recordedBy (0 ∷ 0 ∷ 0 ∷ run ∷ []) past n errors last
+
+-- in run 1
 abbrev pub recordedAt : (past n errors last : ℕ) → List ℕ
-recordedAt past n errors last = 0 ∷ 0 ∷ 0 ∷ 0 ∷ 0 ∷ 0 ∷ 0x10 ∷ past ∷ 0 ∷ n ∷ errors ∷ last ∷ []
+recordedAt past n errors last = recordedIn 1 past n errors last
 
 -- of the one at 4096
 abbrev pub recorded : (n errors last : ℕ) → List ℕ
@@ -307,4 +314,22 @@ worked =
     (reason 3 ∷ steps 0 ∷ phase 6 ∷ fault 10 4098 ∷ runNumber 2 ∷ [])
     ∷ received D four (numbered 4294967294 ∷ write 4 0x20 ∷ write 4 0 ∷ write 4 0x20 ∷ write 4 0x10000 ∷ write 4 0x10000 ∷ [])
     (control 0 ∷ runNumber 4294967295 ∷ [])
+    -- 140 to 145: a record has the run number of its WriteBack step: after a reset; RUN off and on in Move, in WriteBack, and in the Fetch
+    -- between two; RUN off in WriteBack is no other run; the same descriptor in two runs
+    ∷ received D four (resets (once 4096 0x20 2) ++ once 4096 0x20 100) (reason 1 ∷ ledger (recordedIn 2 0x00 4 0 0) ∷ [])
+    ∷ received single four (once 4096 0x20 2 ++ write 4 0 ∷ write 4 0x20 ∷ go 100 ∷ []) (reason 1 ∷ ledger (recordedIn 2 0x00 1 0 0) ∷ [])
+    ∷ received single four (once 4096 0x20 3 ++ write 4 0 ∷ write 4 0x20 ∷ go 1 ∷ []) (steps 1 ∷ ledger (recordedIn 2 0x00 1 0 0) ∷ [])
+    ∷ received pair four (once 4096 0x20 4 ++ write 4 0 ∷ write 4 0x20 ∷ go 100 ∷ [])
+    (reason 1 ∷ ledger (recorded 1 0 0 ++ recordedIn 2 0x20 1 0 0) ∷ [])
+    ∷ received single four (once 4096 0x20 3 ++ write 4 0 ∷ go 100 ∷ []) (reason 0 ∷ steps 1 ∷ ledger (recorded 1 0 0) ∷ [])
+    ∷ received single four (once 4096 0x20 100 ++ poke 0 single ∷ write 4 0 ∷ once 4096 0x20 100)
+    (reason 1 ∷ taken 2 ∷ ledger (recorded 1 0 0 ++ recordedIn 2 0x00 1 0 0) ∷ [])
+    -- 146 to 149: 0 where an image tells 0; the number's four bytes; its largest value; a descriptor abandoned by a reset, and one by
+    -- fault 14, have none
+    ∷ received single four (once 4096 0x20 2 ++ numbered 0 ∷ go 100 ∷ []) (reason 1 ∷ ledger (recordedIn 0 0x00 1 0 0) ∷ [])
+    ∷ received single four (numbered 0x01020303 ∷ once 4096 0x20 100) (reason 1 ∷ ledger (recordedBy (1 ∷ 2 ∷ 3 ∷ 4 ∷ []) 0x00 1 0 0) ∷ [])
+    ∷ received single four (numbered 4294967295 ∷ once 4096 0x20 100)
+    (reason 1 ∷ ledger (recordedBy (0xFF ∷ 0xFF ∷ 0xFF ∷ 0xFF ∷ []) 0x00 1 0 0) ∷ [])
+    ∷ received D (four ++ four) (resets (once 4096 0x20 4) ++ poke 0 (desc 0 4350 4128 4 0x80) ∷ once 4096 0x20 100)
+    (reason 3 ∷ fault 14 4352 ∷ taken 4 ∷ ledger [] ∷ [])
     ∷ []

@@ -24,7 +24,7 @@ last-word : (n s f : ℕ) → n < 2 ^ 16 → s < 2 ^ 8 → f < 2
     → bytesOf MostFirst 4 (n * 65536 + s * 256 + f) ≡ rowBytes MostFirst (2 ∷ 1 ∷ 1 ∷ []) (n ∷ s ∷ f ∷ [])
 last-word n s f h i j = four (omega arith) (omega arith) (omega arith) (omega arith)
 
-flag-lt : (b : Bool) → flag b < 2
+pub flag-lt : (b : Bool) → flag b < 2
 flag-lt true = omega arith
 flag-lt false = omega arith
 

@@ -27,16 +27,16 @@ is-back w k e = at-phase w e
 
 module _ (w : World) (k : Work) {m' : Core} {window' : List ℕ} (b : Backs (w .core) k (w .memory) m' window') where
   back-by : (left : ℕ) → waitOf (backTo w k left) ≡ Go
-      → (0 < left) × (backTo w k left ≡ taken (noted (stored w m' window') (w .records ++ entryFor (w .core) k ∷ []) (left - 1)))
+      → (0 < left) × (backTo w k left ≡ taken (noted (stored w m' window') (w .records ++ entryFor (w .run) k ∷ []) (left - 1)))
   back-by zero can = absurd (never-goes can)
   back-by (suc n) can =
       let one : n ≡ suc n - 1 = omega arith in
-      (omega arith, b w n ∙ ap (λ (i : ℕ). taken (noted (stored w m' window') (w .records ++ entryFor (w .core) k ∷ []) i)) one)
+      (omega arith, b w n ∙ ap (λ (i : ℕ). taken (noted (stored w m' window') (w .records ++ entryFor (w .run) k ∷ []) i)) one)
 
   -- where it can be taken there is room for its record
   pub back-goes : w .core .phase ≡ WriteBack k → waitOf (step w) ≡ Go
       → (0 < w .left)
-      × (step w ≡ taken (holding (noted (stored w m' window') (w .records ++ entryFor (w .core) k ∷ []) (w .left - 1)) (settled (m' .phase) (w .slot))))
+      × (step w ≡ taken (holding (noted (stored w m' window') (w .records ++ entryFor (w .run) k ∷ []) (w .left - 1)) (settled (m' .phase) (w .slot))))
   back-goes e can =
       let by = back-by (w .left) (sym (ap waitOf (is-back w k e) ∙ settle-waits (backTo w k (w .left))) ∙ can) in
       (by .0, is-back w k e ∙ ap settle (by .1))

@@ -179,17 +179,17 @@ module _ (m₀ : Machine) (l : Lent) (budget : ℕ) where
     -- in WriteBack: one record
     pub stands-back : (k : Work) (window' ledger' : List ℕ) (m' : Core) (used' : ℕ) → 1 ≤ budget - count
         → length window' ≡ length (b .window) → length ledger' ≡ length (b .ledger) → m .phase ≡ WriteBack k → waitOf (step here) ≡ Go
-        → {e : Entry} → e ≡ entryFor m k → Appended (b .ledger) used e used' ledger' → Backs m k (b .window) m' window'
+        → {e : Entry} → e ≡ entryFor (m₀ .run) k → Appended (b .ledger) used e used' ledger' → Backs m k (b .window) m' window'
         → Stands m₀ l budget (back window' (b .out) ledger') m' slot took made used' (count + 1)
     unfolding steps
     stands-back k window' ledger' m' used' h wl ll e can same a g =
         let one = back-goes here k g e can in
-        let put-down = appended-one (b .ledger) used (entryFor m k) (one .0) (subst (λ (x : Entry). Appended (b .ledger) used x used' ledger') same a) in
+        let put-down = appended-one (b .ledger) used (entryFor (m₀ .run) k) (one .0) (subst (λ (x : Entry). Appended (b .ledger) used x used' ledger') same a) in
         let left : capacity (length (b .ledger)) - used - 1 ≡ capacity (length (b .ledger)) - used' = omega (arith, put-down .0) in
-        stands-on 1 (back window' (b .out) ledger') m' slot took made used' [] (entryFor m k ∷ []) h wl refl ll (s .within)
+        stands-on 1 (back window' (b .out) ledger') m' slot took made used' [] (entryFor (m₀ .run) k ∷ []) h wl refl ll (s .within)
         (sym (add-zero made)) (none-made (b .out) (2 * made)) (put-down .0) (put-down .1) (put-down .2)
         (one .1
-        ∙ (λ x. taken (worldAt (holding (noted (worldOf m₀ l) (s .records ++ entryFor m k ∷ []) (left x)) (settled (m' .phase) (settled (e x) slot))) m' window'
+        ∙ (λ x. taken (worldAt (holding (noted (worldOf m₀ l) (s .records ++ entryFor (m₀ .run) k ∷ []) (left x)) (settled (m' .phase) (settled (e x) slot))) m' window'
         (l .beats) took (sym (append-nil (s .output)) x) (length (b .out) / 2 - made))))
 
     -- the answer of a run that ends here

@@ -258,7 +258,7 @@ module _ (w : World) where
           made = [];
           output = sym (append-nil (w .output));
           room = add-zero (w .room);
-          logged = entryFor (w .core) k ∷ [];
+          logged = entryFor (w .run) k ∷ [];
           records = refl;
           left = add-one left ∙ sym e;
           moved = omega arith;

@@ -316,15 +316,15 @@ completed m k =
     remade (statusBack (m .status) (k .eop) failed (run c && not halts)) c (m .pointer) (afterBack (run c) halts)
     (m .pending || pends c (k .eop) failed (n .full)) (n .count) m
 
--- what the ledger keeps of it. (The run number is order 4's; 0 until then)
-abbrev pub entryFor : Core → Work → Entry
-entryFor m k = record { run = 0; at = k .at; actual = k .moved; status = k .errors; eop = k .eop }
+-- what the ledger keeps of it, dated with the run
+abbrev pub entryFor : (run : ℕ) → Work → Entry
+entryFor run k = record { run = run; at = k .at; actual = k .moved; status = k .errors; eop = k .eop }
 
 -- no room for the record, no step
 abbrev pub backTo : World → Work → (left : ℕ) → Answer
 backTo w k zero = stopped reason.LedgerFull
 backTo w k (suc left) =
-    taken (noted (stored w (completed (w .core) k) (writtenBack w k)) (w .records ++ entryFor (w .core) k ∷ []) left)
+    taken (noted (stored w (completed (w .core) k) (writtenBack w k)) (w .records ++ entryFor (w .run) k ∷ []) left)
 
 unfoldable pub writeBackStep : World → Work → Answer
 writeBackStep w k = backTo w k (w .left)

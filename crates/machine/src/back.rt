@@ -27,6 +27,21 @@ fn after_back(run: bool, halts: bool) -> Phase
     }
 }
 
+impl Work {
+    // The record of the descriptor, dated with the run.
+    pub(crate) fn entry(self, run: u32) -> Entry
+        ensures { λ r. ⌜ r ≡ entryFor run self ⌝ }
+    {
+        Entry {
+            run,
+            at: self.at,
+            actual: self.moved,
+            status: self.errors,
+            eop: self.eop,
+        }
+    }
+}
+
 impl Core {
     // The control byte as fetched, with OWNED cleared unless PARK.
     fn written_control(self, k: Work) -> u8
@@ -80,18 +95,5 @@ impl Core {
     {
         self.put_back(k, window);
         self.completed(k)
-    }
-
-    // The record of the descriptor.
-    pub(crate) fn entry(self, k: Work) -> Entry
-        ensures { λ r. ⌜ r ≡ entryFor self k ⌝ }
-    {
-        Entry {
-            run: 0,
-            at: k.at,
-            actual: k.moved,
-            status: k.errors,
-            eop: k.eop,
-        }
     }
 }

@@ -22,22 +22,23 @@ use regs::Mode;
 use regs::Pointer;
 use regs::Status;
 
-// The descriptor in hand: its fields as fetched, and what was done of it.
+// The descriptor in hand: its fields as fetched, and what was done of it. In a phase its address and control share the places of a
+// fault's address and code, each of the same width, so that `load` writes none of them in pieces. Of six orders this was the fastest.
 pub struct Work {
     pub at: u32,
-    pub source: u32,
-    pub destination: u32,
-    pub length: u16,
     pub control: DescControl,
     pub errors: u8,
+    pub length: u16,
+    pub source: u32,
+    pub destination: u32,
     pub moved: u16,
     pub eop: bool,
 }
 
-// Why the machine stands still until a reset: the paper's code, 10 to 14, and the address.
+// Why the machine stands still until a reset: the address, and the paper's code, 10 to 14.
 pub struct Fault {
-    pub code: u8,
     pub address: u32,
+    pub code: u8,
 }
 
 impl Fault {
@@ -80,16 +81,16 @@ impl Phase {
     }
 }
 
-// What every step sees of the machine.
+// What every step sees of the machine. The small fields fill eight bytes: beside a gap the compiler takes them apart and together again.
 pub struct Core {
     mode: Mode,
-    window: Window,
+    pending: bool,
+    count: u8,
     status: Status,
+    window: Window,
     control: Control,
     pointer: Pointer,
     phase: Phase,
-    pending: bool,
-    count: u8,
 }
 
 // The descriptor read ahead, or what the look at its address found in its place. Its address is the pointer.

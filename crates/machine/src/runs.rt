@@ -185,7 +185,7 @@ impl Machine {
                 made = a.made;
                 steps += a.steps;
             } else if let Phase::WriteBack(k) = phase {
-                filled = append(ledger, filled, core.entry(k));
+                filled = append(ledger, filled, k.entry(run));
                 core = core.write_back_step(k, window);
                 steps += 1;
             } else {

@@ -165,16 +165,18 @@ impl Core {
         }
     }
 
-    // The step out of Rest or Fetch, where it can be taken. They alone see the slot.
+    // The step out of Rest or Fetch, where it can be taken. They alone see the slot. It returns in one place: from a second one the parts
+    // that an empty slot leaves open would be those of the loop's turn before, and be carried round.
     pub(crate) fn begin_step(self, window: &[u8], slot: Slot) -> Fetched
         requires { ⌜ Begins self ⌝ }
         ensures { λ r. ⌜ Begun self slot (now (window .entry)) r ⌝ }
     {
         let phase = self.phase;
-        let Phase::Fetch = phase else {
-            return self.enters(Phase::Fetch, true).alone();
-        };
-        self.fetch_step(window, slot)
+        if let Phase::Fetch = phase {
+            self.fetch_step(window, slot)
+        } else {
+            self.enters(Phase::Fetch, true).alone()
+        }
     }
 }
 

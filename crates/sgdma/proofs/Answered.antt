@@ -19,6 +19,9 @@ use Rattle.regs.specs.Control.{lineUp}
 use Rattle.regs.specs.Offsets.{registerAt}
 use Rattle.answers.specs.Answers.{valueBytes, reportBytes, answerPut}
 use Rattle.answers.proofs.Filled.{is-put}
+use Rattle.ledger.specs.declared.Finding.{Finding}
+use Rattle.ledger.specs.declared.Finding.the-variants as finding
+use Rattle.ledger.specs.Finding.{findingIn, findingNumber}
 use Rattle.machine.specs.declared.Machine.{Machine}
 use Rattle.machine.specs.declared.LoadedMachine.{LoadedMachine}
 use Rattle.machine.specs.declared.LoadedMachine.the-variants as loaded
@@ -29,7 +32,7 @@ use Rattle.machine.specs.declared.registers.Line.the-variants as line
 use Rattle.machine.specs.Run.{reasonNumber}
 use Rattle.machine.specs.Saved.{loadOf}
 use Rattle.machine.specs.Registers.{registerReadNumber, lineNumber}
-use Rattle.sgdma.specs.Calls.{registerOf, readCall, valueOver, RegisterRead, lineIn, lineCall, lineOver, LineRead, reportOver, descriptorCall, answerOver, DescriptorRead}
+use Rattle.sgdma.specs.Calls.{registerOf, readCall, valueOver, RegisterRead, lineIn, lineCall, lineOver, LineRead, reportOver, descriptorCall, answerOver, DescriptorRead, findCall, findingOver, RecordFound}
 use Rattle.sgdma.proofs.Opened.{first-wrong, second-wrong, sizes-right, register-loaded, line-loaded}
 
 -- ---- sgdma_read_register
@@ -113,3 +116,20 @@ module _ {window answer ys : List ℕ} {base a r : ℕ} where
       → r ≡ descriptorNumber e → ys ≡ answerOver e answer → DescriptorRead window base a answer r ys
   unfolding descriptorCall
   descriptor-answers {d} {e} l w f p q = found-as e (rw (eq-eqb (length answer) 18 l) (sym (w .answer) ∙ f)) p q
+
+-- ---- sgdma_find_record
+
+module _ {ledger answer ys : List ℕ} {used run address r : ℕ} where
+  told-as : (f : Finding) → findCall ledger used run address answer ≡ f → r ≡ findingNumber f → ys ≡ findingOver f answer
+      → RecordFound ledger used run address answer r ys
+  told-as f e p q =
+      record { number = p ∙ sym (ap findingNumber e); answer-after = q ∙ sym (ap (λ (g : Finding). findingOver g answer) e) }
+
+  pub finding-short : (length answer ≡ 4 → ⊥) → r ≡ 7 → ys ≡ answer → RecordFound ledger used run address answer r ys
+  unfolding findCall
+  finding-short h p q = told-as (finding.Refused BadSize) (rw (ne-eqb (length answer) 4 h)) p q
+
+  pub finding-answers : {f g : Finding} → length answer ≡ 4 → Gives (findingIn ledger used run address) f → f ≡ g
+      → r ≡ findingNumber g → ys ≡ findingOver g answer → RecordFound ledger used run address answer r ys
+  unfolding findCall
+  finding-answers {f} {g} l w e p q = told-as g (rw (eq-eqb (length answer) 4 l) (sym (w .value) ∙ e)) p q

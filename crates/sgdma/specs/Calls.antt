@@ -3,7 +3,7 @@
 -- Assumes nothing.
 use Prim.Native.Nat.{ℕ}
 use mathlib.Core.Path.{_≡_, sym, _∙_}
-use mathlib.Core.Bool.{Bool, cond, _&&_}
+use mathlib.Core.Bool.{Bool, true, false, cond, _&&_}
 use mathlib.Core.List.{List}
 use lib.Dec.{eqb, leb}
 use lib.ListN.{length}
@@ -14,7 +14,10 @@ use Rattle.descriptor.specs.declared.Job.{Job}
 use Rattle.descriptor.specs.declared.ReadDescriptor.{ReadDescriptor}
 use Rattle.descriptor.specs.declared.ReadDescriptor.the-variants as descriptor
 use Rattle.descriptor.specs.Calls.{seatOf, found, built, withJob, builtNumber, descriptorNumber}
-use Rattle.answers.specs.Answers.{valueBytes, reportBytes, descriptorBytes}
+use Rattle.answers.specs.Answers.{valueBytes, reportBytes, descriptorBytes, findingBytes}
+use Rattle.ledger.specs.declared.Finding.{Finding}
+use Rattle.ledger.specs.declared.Finding.the-variants as finding
+use Rattle.ledger.specs.Finding.{findingIn, findingNumber}
 use Rattle.regs.specs.declared.ReadRegister.{ReadRegister}
 use Rattle.regs.specs.declared.ReadRegister.the-variants as register
 use Rattle.regs.specs.Modes.{modeOf}
@@ -217,3 +220,26 @@ DescriptorReadUnique = (window : List ℕ) (base a : ℕ) (answer : List ℕ) (r
 
 pub descriptor-read-unique : DescriptorReadUnique
 descriptor-read-unique window base a answer r s ys zs p q = (p .number ∙ sym (q .number), p .answer-after ∙ sym (q .answer-after))
+
+-- ---- sgdma_find_record: 7, 19, 18
+
+unfoldable pub findCall : (ledger : List ℕ) (used run address : ℕ) (answer : List ℕ) → Finding
+findCall ledger used run address answer = cond (isSize 4 answer) (findingIn ledger used run address) (finding.Refused BadSize)
+
+-- found is 1 with the latest byte count; else both are 0
+abbrev pub findingOver : Finding → List ℕ → List ℕ
+findingOver (finding.Found count) answer = findingBytes true count
+findingOver finding.NotFound answer = findingBytes false 0
+findingOver (finding.Refused why) answer = answer
+
+pub record RecordFound (ledger : List ℕ) (used run address : ℕ) (answer : List ℕ) (r : ℕ) (answer' : List ℕ) : Type 0 where
+  pub number : r ≡ findingNumber (findCall ledger used run address answer)
+  pub answer-after : answer' ≡ findingOver (findCall ledger used run address answer) answer
+
+-- No second outcome of sgdma_find_record keeps its promise.
+abbrev pub RecordFoundUnique : Type 0
+RecordFoundUnique = (ledger : List ℕ) (used run address : ℕ) (answer : List ℕ) (r s : ℕ) (ys zs : List ℕ)
+    → RecordFound ledger used run address answer r ys → RecordFound ledger used run address answer s zs → (r ≡ s) × (ys ≡ zs)
+
+pub record-found-unique : RecordFoundUnique
+record-found-unique ledger used run address answer r s ys zs p q = (p .number ∙ sym (q .number), p .answer-after ∙ sym (q .answer-after))

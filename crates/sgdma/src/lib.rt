@@ -13,11 +13,13 @@ ghost use Rattle.machine.specs.declared.RunAnswer.the-variants.{Done};
 ghost use Rattle.machine.specs.Run.{lent, back};
 ghost use Rattle.machine.specs.Saved.{keeps};
 ghost use Rattle.sgdma.specs.Calls.{imageOf, ranOver, reportOver};
-ghost use Rattle.sgdma.specs.Calls.{Created, RegisterWritten, RegisterRead, LineRead, RunMade, DescriptorBuilt, DescriptorRead};
+ghost use Rattle.sgdma.specs.Calls.{Created, RegisterWritten, RegisterRead, LineRead, RunMade, DescriptorBuilt, DescriptorRead, RecordFound};
 use answers::DESCRIPTOR;
+use answers::FINDING;
 use answers::REPORT;
 use answers::VALUE;
 use answers::put_descriptor;
+use answers::put_finding;
 use answers::put_report;
 use answers::put_value;
 use bus::BusAddress;
@@ -28,6 +30,7 @@ use descriptor::BuiltDescriptor;
 use descriptor::DescControl;
 use descriptor::Job;
 use descriptor::ReadDescriptor;
+use ledger::Finding;
 use machine::LoadedMachine;
 use machine::Machine;
 use machine::Ran;
@@ -244,6 +247,34 @@ pub extern "C" fn sgdma_read_descriptor(
         ReadDescriptor::Refused(why) => why.number(),
         ReadDescriptor::Good(d) => {
             put_descriptor(answer, d);
+            0
+        }
+    }
+}
+
+// Tells in the 4 bytes of `answer` whether the descriptor at `address` was written back in this run, and its latest byte count there.
+#[no_mangle]
+pub extern "C" fn sgdma_find_record(
+    ledger: &[u8],
+    used: u32,
+    run: u32,
+    address: u32,
+    answer: &mut [u8],
+) -> u32
+    ensures { λ r. ⌜ RecordFound (now (ledger .entry)) used run address (now (answer .entry)) r (now (answer .exit)) ⌝ }
+{
+    if answer.len() != FINDING {
+        return Refusal::BadSize.number();
+    }
+    let finding = ledger::find(ledger, used, run, address);
+    match finding {
+        Finding::Refused(why) => why.number(),
+        Finding::NotFound => {
+            put_finding(answer, false, 0);
+            0
+        }
+        Finding::Found(count) => {
+            put_finding(answer, true, count);
             0
         }
     }

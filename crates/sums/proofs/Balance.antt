@@ -81,11 +81,11 @@ module _ (w : World) where
   unfolding completed
   back-balanced k zero = stays
   back-balanced k (suc left) =
-      goes {v = noted (stored w (completed (w .core) k) (writtenBack w k)) (w .records ++ entryFor (w .core) k ∷ []) left} refl
+      goes {v = noted (stored w (completed (w .core) k) (writtenBack w k)) (w .records ++ entryFor (w .run) k ∷ []) left} refl
       (omega (
         arith,
         none-held (run (w .core .control)) (not (eqb (k .errors) 0) && stopDmaEr (w .core .control)),
-        sum-append (w .records) (entryFor (w .core) k ∷ []),
+        sum-append (w .records) (entryFor (w .run) k ∷ []),
       ))
 
   pub step-balanced : w .core .mode ≡ StreamToMemory → Balanced (w .core .phase) w (step w)

@@ -1,2 +1,3 @@
 pub mod Balance
+pub mod Marks
 pub mod Sessions

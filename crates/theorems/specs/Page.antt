@@ -9,20 +9,22 @@ use Rattle.bus.specs.Theorems.{LocatedIs}
 use Rattle.image.specs.Theorems.{ReadExactly, EditionFront, FieldTold}
 use Rattle.image_rows.specs.Rows.{RowsHold, SampleWritten, SampleRead}
 use Rattle.descriptor.specs.Theorems.{LengthJob, ByOffset, ReadAfterBuild, BuildAfterRead}
+use Rattle.ledger.specs.Theorems.{FoundExactly, NotFoundExactly, RecordsBack, AppendedFound}
 use Rattle.machine.specs.Theorems.{RunAdd, RunTells, BudgetOnly, ResumedRuns, StepPassed, StepSpares, RowSteps, CopySteps, SendSteps, ReceiveSteps}
 use Rattle.known_runs.specs.Theorems.{KnownRunsHold, WorkedCasesHold}
 use Rattle.met.specs.Theorems.{FaultedStands, OnlyResetLeaves, ReadInFetchAlone, UsedAsRead, SlotOutlives, RunNumberRises, RunNumberStays, NoEffectInFetch, NoEffectInMove, NoEffectInWriteBack, KeptAsGiven}
 use Rattle.met.specs.Theorems.{LoadsExactly, SameField, SavedAgain, LoadsBack, WriteKeeps, StepKeeps, RunKeeps, MetKeeps, MetSaves}
-use Rattle.sums.specs.Theorems.{SessionAdds}
-use Rattle.chain.specs.Theorems.{ChainTheorem, ChainAtEveryStep, ChainRecords, BudgetExists, RunsTwice, ChainOfRun, ChainOfRunAtEveryStep, KnownRun1, ChainOfThree}
+use Rattle.sums.specs.Theorems.{OneRecordEach, SessionAdds}
+use Rattle.chain.specs.Theorems.{ChainTheorem, ChainAtEveryStep, ChainRecords, BudgetExists, RunsTwice, ChainOfRun, ChainOfRunAtEveryStep, EachFound, KnownRun1, ChainOfThree}
 use Rattle.sgdma.specs.Calls.{CreatedUnique, RegisterReadUnique, RegisterWrittenUnique, LineReadUnique, RunMadeUnique, DescriptorBuiltUnique}
-use Rattle.sgdma.specs.Calls.{DescriptorReadUnique}
+use Rattle.sgdma.specs.Calls.{DescriptorReadUnique, RecordFoundUnique}
 use Rattle.chain_calls.specs.Theorems.{CreateInOrder, ReadInOrder, WriteInOrder, LineInOrder, RunInOrder, BuildInOrder, DescriptorInOrder, CreateUnchanged}
 use Rattle.chain_calls.specs.Theorems.{ReadUnchanged, WriteUnchanged, LineUnchanged, RunUnchanged, BuildUnchanged, DescriptorUnchanged, ImagesLoad}
 use Rattle.chain_calls.specs.Theorems.{NoneRefused, ChainOfCalls, ChainOfCallsAtEveryStep, KnownRun1InC, HonestKeeps, RefuserFails, FixedFails}
-use Rattle.chain_calls.specs.Theorems.{NeverMovingFails, MarkerFails, MadeUpFails, TwoRunsAdd}
+use Rattle.chain_calls.specs.Theorems.{NeverMovingFails, MarkerFails, MadeUpFails, UnrecordedFails, TwoRunsAdd, OneRecordEachInC, SessionAddsInC, EachFoundInC}
 use Rattle.chain_calls.specs.Theorems.{VicCreateInOrder, VicPortInOrder, VicChooseInOrder, VicUnchanged}
 use Rattle.chain_calls.specs.Theorems.{TimerInOrder, TimerUnchanged}
+use Rattle.chain_calls.specs.Theorems.{FindInOrder, FindUnchanged}
 use Rattle.timer.specs.Calls.{TimerRanUnique}
 use Rattle.timer.specs.Theorems.{TicksAdd, ZerosWithin, TicksSetTO, ReachesEveryPeriod, OneShot, ElapsedIsTicks, TimerSavesLoaded, TimerMetSaves, TimersLoad}
 use Rattle.timer.specs.Theorems.{TimerFieldTold, TimerCasesHold}
@@ -59,6 +61,10 @@ descriptor-built-unique = Rattle.sgdma.specs.Calls.descriptor-built-unique
 -- No second outcome of sgdma_read_descriptor keeps its promise.
 pub descriptor-read-unique : DescriptorReadUnique
 descriptor-read-unique = Rattle.sgdma.specs.Calls.descriptor-read-unique
+
+-- No second outcome of sgdma_find_record keeps its promise.
+pub record-found-unique : RecordFoundUnique
+record-found-unique = Rattle.sgdma.specs.Calls.record-found-unique
 
 -- No second outcome of sgdma_timer_run keeps its promise.
 pub timer-ran-unique : TimerRanUnique
@@ -97,6 +103,10 @@ build-in-order = Rattle.chain_calls.proofs.Refused.build-in-order
 -- sgdma_read_descriptor gives back the first that applies.
 pub descriptor-in-order : DescriptorInOrder
 descriptor-in-order = Rattle.chain_calls.proofs.Refused.descriptor-in-order
+
+-- sgdma_find_record gives back the first that applies.
+pub find-in-order : FindInOrder
+find-in-order = Rattle.chain_calls.proofs.Refused.find-in-order
 
 -- sgdma_timer_create, sgdma_timer_read, sgdma_timer_write, sgdma_timer_line, sgdma_timer_run and sgdma_timer_elapsed give back the first
 -- that applies.
@@ -144,6 +154,10 @@ build-unchanged = Rattle.chain_calls.proofs.Unchanged.build-unchanged
 -- sgdma_read_descriptor, refused, leaves the answer.
 pub descriptor-unchanged : DescriptorUnchanged
 descriptor-unchanged = Rattle.chain_calls.proofs.Unchanged.descriptor-unchanged
+
+-- sgdma_find_record, refused, leaves the answer.
+pub find-unchanged : FindUnchanged
+find-unchanged = Rattle.chain_calls.proofs.Unchanged.find-unchanged
 
 -- A call on a timer, refused, leaves the timer and the value.
 pub timer-unchanged : TimerUnchanged
@@ -351,7 +365,7 @@ row-there = Rattle.words.proofs.Orders.row-there
 pub known-runs-hold : KnownRunsHold
 known-runs-hold = Rattle.known_runs.proofs.Claims.known-runs-hold
 
--- One hundred and thirty-nine cases worked out by hand.
+-- One hundred and forty-nine cases worked out by hand.
 pub worked-cases-hold : WorkedCasesHold
 worked-cases-hold = Rattle.known_runs.proofs.Claims.worked-cases-hold
 
@@ -429,11 +443,48 @@ chain-of-three = Rattle.chain.proofs.Instances.chain-of-three
 pub known-run-1-in-c : KnownRun1InC
 known-run-1-in-c = Rattle.chain_calls.proofs.Instances.known-run-1-in-c
 
--- ---- the ledger
+-- ---- order 6: the dated ledger
+
+-- A write-back and a record are one: the records that a run adds are those of its WriteBack steps, in order, each with the run number, the
+-- address, and the count, errors and EOP that was written.
+pub one-record-each : OneRecordEach
+one-record-each = Rattle.sums.proofs.Marks.one-record-each
+
+-- The same of sgdma_run.
+pub one-record-each-in-c : OneRecordEachInC
+one-record-each-in-c = Rattle.chain_calls.proofs.Ledger.one-record-each-in-c
 
 -- From a fresh machine in mode 2 on, the bytes that the records tell, those in hand and those abandoned are the beats taken.
 pub session-adds : SessionAdds
 session-adds = Rattle.sums.proofs.Sessions.session-adds
+
+-- The same of the C calls, by what their reports tell.
+pub session-adds-in-c : SessionAddsInC
+session-adds-in-c = Rattle.chain_calls.proofs.Ledger.session-adds-in-c
+
+-- A descriptor is found, with a count, exactly where the last used record of it in that run has this count.
+pub found-exactly : FoundExactly
+found-exactly = Rattle.ledger.proofs.Tells.found-exactly
+
+-- It is not found exactly where no used record is of it in that run.
+pub not-found-exactly : NotFoundExactly
+not-found-exactly = Rattle.ledger.proofs.Tells.not-found-exactly
+
+-- After demand 3's run each of the k is found in run 1, with its count.
+pub each-found : EachFound
+each-found = Rattle.chain.proofs.Found.each-found
+
+-- And sgdma_find_record says so.
+pub each-found-in-c : EachFoundInC
+each-found-in-c = Rattle.chain_calls.proofs.Ledger.each-found-in-c
+
+-- Records that are put behind those used are read back behind them.
+pub records-back : RecordsBack
+records-back = Rattle.ledger.proofs.ReadBack.records-back
+
+-- Of these, one behind which there is no other of its descriptor and run is found, with its count.
+pub appended-found : AppendedFound
+appended-found = Rattle.ledger.proofs.ReadBack.appended-found
 
 -- ======== what the promises owe: the useless models, of sgdma_run
 
@@ -460,6 +511,10 @@ marker-fails = Rattle.chain_calls.proofs.NoneUseless.marker-fails
 -- One with "a made-up step count" does not.
 pub made-up-fails : MadeUpFails
 made-up-fails = Rattle.chain_calls.proofs.NoneUseless.made-up-fails
+
+-- The one that marks a descriptor done and writes no record does not.
+pub unrecorded-fails : UnrecordedFails
+unrecorded-fails = Rattle.chain_calls.proofs.NoneUseless.unrecorded-fails
 
 -- ======== order 2: the interval timer
 

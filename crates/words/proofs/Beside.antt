@@ -14,7 +14,7 @@ use Rattle.words.specs.Slices.{part, put, putAt, numberAt}
 use Rattle.words.proofs.Orders.{length-bytes, number-bytes}
 use Rattle.words.proofs.Slices.{put-in, number-in, length-put, part-put, part-part}
 
-part-before : (xs : List ℕ) (at : ℕ) (zs : List ℕ) (k n : ℕ) → at ≤ length xs → k + n ≤ at → part (take at xs ++ zs) k n ≡ part xs k n
+pub part-before : (xs : List ℕ) (at : ℕ) (zs : List ℕ) (k n : ℕ) → at ≤ length xs → k + n ≤ at → part (take at xs ++ zs) k n ≡ part xs k n
 part-before xs at zs k n h i =
     let l : length (take at xs) ≡ at = length-take-le at xs h in
     let d : length (drop k (take at xs)) ≡ at - k = length-drop k (take at xs) ∙ ap (λ (m : ℕ). m - k) l in

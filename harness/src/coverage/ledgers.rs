@@ -1,9 +1,10 @@
 //! What is seen of ledgers: how runs used the ones they were lent, which records
 //! they made, and why some were refused.
 
+use super::counts::number;
 use super::{phases_of, Point, BOTH};
 use crate::call::{Call, Told};
-use crate::model::{control, Machine, Mode, Reason, RECORD_SIZE};
+use crate::model::{control, Ledger, Machine, Mode, Reason, RECORD_SIZE};
 
 /// How a run used its ledger.
 #[derive(Clone, Copy, Debug, PartialEq, Eq, PartialOrd, Ord)]
@@ -43,6 +44,36 @@ impl LedgerUse {
     ];
 }
 
+/// Which run a record was dated with.
+#[derive(Clone, Copy, Debug, PartialEq, Eq, PartialOrd, Ord)]
+pub enum DateCase {
+    /// The machine has counted no run, as one of edition 1 that was moved forward.
+    Run0,
+    Run1,
+    Later,
+    Largest,
+    /// .. and RUN was 0 at the write-back.
+    WithoutRun,
+    Parked,
+    /// The first record of a run, behind one of the run before it.
+    NextRun,
+    /// A descriptor that has a record of the run before too.
+    SameDescriptor,
+}
+
+impl DateCase {
+    const ALL: [DateCase; 8] = [
+        DateCase::Run0,
+        DateCase::Run1,
+        DateCase::Later,
+        DateCase::Largest,
+        DateCase::WithoutRun,
+        DateCase::Parked,
+        DateCase::NextRun,
+        DateCase::SameDescriptor,
+    ];
+}
+
 /// Why lent bytes, with the number of records said to be used, were no ledger.
 #[derive(Clone, Copy, Debug, PartialEq, Eq, PartialOrd, Ord)]
 pub enum LedgerFlaw {
@@ -58,7 +89,7 @@ pub enum LedgerFlaw {
 }
 
 impl LedgerFlaw {
-    const ALL: [LedgerFlaw; 5] = [
+    pub(super) const ALL: [LedgerFlaw; 5] = [
         LedgerFlaw::PartOfARecord,
         LedgerFlaw::OneTooMany,
         LedgerFlaw::LargestNumber,
@@ -68,7 +99,7 @@ impl LedgerFlaw {
 
     /// "a length not a multiple of 12 or fewer records than are said to be used"
     pub(super) fn of(call: &Call) -> Option<LedgerFlaw> {
-        let Call::Run { ledger, used, .. } = call else {
+        let (Call::Run { ledger, used, .. } | Call::FindRecord { ledger, used, .. }) = call else {
             return None;
         };
         let records = (ledger.len() / RECORD_SIZE) as u32;
@@ -89,6 +120,7 @@ pub(super) fn required() -> Vec<Point> {
     for mode in Mode::ALL {
         points.extend(LedgerUse::ALL.map(|case| Point::Ledger(mode, case)));
         points.extend(phases_of(mode).map(|phase| Point::NoLedgerIn(mode, phase)));
+        points.extend(DateCase::ALL.map(|case| Point::Dated(mode, case)));
         points.extend(records_of(mode));
     }
     points
@@ -151,14 +183,47 @@ pub(super) fn run(call: &Call, machine: &Machine, told: &Told, reach: &mut dyn F
     }
 }
 
-/// The record of the descriptor that this machine has just written back.
-pub(super) fn recorded(machine: &Machine, reach: &mut dyn FnMut(Point)) {
+/// The record of the descriptor that this machine has just written back, as the
+/// last one of the ledger.
+pub(super) fn recorded(machine: &Machine, ledger: &Ledger, reach: &mut dyn FnMut(Point)) {
     reach(Point::Recorded {
         mode: machine.mode,
         park: machine.controls(control::PARK),
         errors: machine.kept.errors != 0,
         eop: machine.kept.eop_seen,
     });
+    dated(machine, ledger, reach);
+}
+
+/// The date of that record, and what the records before it tell.
+fn dated(machine: &Machine, ledger: &Ledger, reach: &mut dyn FnMut(Point)) {
+    let run = machine.run_number;
+    let records = ledger.bytes.as_chunks::<RECORD_SIZE>().0.iter();
+    let before = records.take(ledger.used as usize - 1);
+    let mut before = before.map(|record| [0, 4].map(|at| number(record, at, 4) as u32));
+    let of_run_before = |[date, _]: [u32; 2]| date.checked_add(1) == Some(run);
+    let parked = machine.controls(control::PARK);
+    use DateCase::*;
+    for (case, found) in [
+        (Run0, run == 0),
+        (Run1, run == 1),
+        (Later, run > 1),
+        (Largest, run == u32::MAX),
+        (WithoutRun, run > 0 && !machine.runs()),
+        (Parked, run > 0 && parked),
+        (
+            NextRun,
+            before.clone().next_back().is_some_and(of_run_before),
+        ),
+        (
+            SameDescriptor,
+            before.any(|record| of_run_before(record) && record[1] == machine.kept.address),
+        ),
+    ] {
+        if found {
+            reach(Point::Dated(machine.mode, case));
+        }
+    }
 }
 
 /// A run on this machine was refused for its ledger.

@@ -275,7 +275,7 @@ impl Step<'_, '_> {
 
     fn wrote_back(&self, reach: &mut dyn FnMut(Point)) {
         let before = self.before;
-        ledgers::recorded(before, reach);
+        ledgers::recorded(before, &self.ports.ledger, reach);
         reach(Point::WroteBack {
             park: before.controls(control::PARK),
             run: before.runs(),

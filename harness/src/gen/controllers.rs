@@ -4,18 +4,11 @@
 //! that are all pending or not enabled, the first port and the last, a handler
 //! address at the end of the bus, a controller that breaks one rule.
 
-use super::{Hosts, Rng};
+use super::beside::{Beside, HostOf};
 use crate::call::{Call, Lent, VicCall};
 use crate::model::{Config, Controller, Controllers, Paper, CHOICE_SIZE, CONTROLLER_SIZE, PORTS};
 
-const CALLS_WITH_ONE_CONTROLLER: u64 = 30;
-
-/// The bytes that a host carries from call to call, and its next choices.
-pub struct ControllerHost {
-    rng: Rng,
-    vic: [u8; CONTROLLER_SIZE],
-    calls_left: u64,
-}
+pub type ControllerHost = HostOf<CONTROLLER_SIZE>;
 
 /// How often each call is made, in parts of the sum.
 type Making = (u64, fn(&mut ControllerHost) -> VicCall);
@@ -28,40 +21,37 @@ const MAKINGS: [Making; 6] = [
     (4, ControllerHost::create),
 ];
 
-impl Hosts for ControllerHost {
-    /// The first on a new controller is always a good create.
-    fn next_call(&mut self) -> Call {
-        if self.calls_left == 0 {
-            self.calls_left = 1 + self.rng.below(CALLS_WITH_ONE_CONTROLLER);
-            return self.good_create().into();
-        }
-        self.calls_left -= 1;
-        if self.rng.chance(30) {
-            self.vic = self.good_controller().pack();
-        }
+impl Beside<CONTROLLER_SIZE> for ControllerHost {
+    const BROKEN_IN_100: u64 = 20;
+
+    fn good_create(&mut self) -> Call {
+        let vic = Lent::from(self.rng.bytes(CONTROLLER_SIZE));
+        let ports = u32::from(self.count());
+        self.create_in(vic, ports).into()
+    }
+
+    fn good_bytes(&mut self) -> [u8; CONTROLLER_SIZE] {
+        self.good_controller().pack()
+    }
+
+    fn broken_bytes(&mut self) -> [u8; CONTROLLER_SIZE] {
+        self.broken_controller().pack()
+    }
+
+    fn any_call(&mut self) -> Call {
         let make = self.rng.weighted(&MAKINGS);
         make(self).into()
     }
 
-    fn carry(&mut self, after: &Call) {
-        let Call::Vic(call) = after else {
-            return;
-        };
-        if let Ok(vic) = (**call.vic()).try_into() {
-            self.vic = vic;
+    fn lent_to(call: &Call) -> Option<&Lent> {
+        match call {
+            Call::Vic(call) => Some(call.vic()),
+            _ => None,
         }
     }
 }
 
 impl ControllerHost {
-    pub fn new(seed: u64) -> ControllerHost {
-        ControllerHost {
-            rng: Rng::new(seed),
-            vic: [0; CONTROLLER_SIZE],
-            calls_left: 0,
-        }
-    }
-
     /// Any 32-bit number, often a small one or one at an end.
     fn any(&mut self) -> u32 {
         let any = self.rng.number() as u32;
@@ -81,7 +71,7 @@ impl ControllerHost {
     }
 
     fn port(&mut self) -> u32 {
-        let ports = u32::from(self.vic[0]);
+        let ports = u32::from(self.bytes[0]);
         if self.rng.chance(92) {
             return self.rng.below(u64::from(ports.max(1))) as u32;
         }
@@ -131,13 +121,13 @@ impl ControllerHost {
             controller.configs[port] = self.config(level);
         }
         if self.rng.chance(30) {
-            self.to_the_end(&mut controller);
+            self.put_at_the_end(&mut controller);
         }
         controller
     }
 
     /// Takes the chosen port's handler to the last address of the bus or past it.
-    fn to_the_end(&mut self, controller: &mut Controller) {
+    fn put_at_the_end(&mut self, controller: &mut Controller) {
         let Some(port) = Paper.chosen_port(controller) else {
             return;
         };
@@ -191,31 +181,17 @@ impl ControllerHost {
         }
     }
 
-    /// The carried controller, or now and then a broken one or one of another size.
-    fn lent(&mut self) -> Lent {
-        let mut bytes = if self.rng.chance(20) {
-            self.broken_controller().pack().to_vec()
-        } else {
-            self.vic.to_vec()
-        };
-        bytes.resize(self.rng.size(CONTROLLER_SIZE), 0);
-        Lent::from(bytes)
-    }
-
-    fn good_create(&mut self) -> VicCall {
-        VicCall::Create {
-            vic: Lent::from(self.rng.bytes(CONTROLLER_SIZE)),
-            ports: u32::from(self.count()),
-            vector_bytes: self.any(),
-            base: self.any(),
-        }
-    }
-
     fn create(&mut self) -> VicCall {
         let any = self.rng.number() as u32;
+        let vic = Lent::from(self.rng.to_write_over(CONTROLLER_SIZE));
+        let ports = self.rng.pick(&[0, 1, 32, 33, 256, 257, 288, u32::MAX, any]);
+        self.create_in(vic, ports)
+    }
+
+    fn create_in(&mut self, vic: Lent, ports: u32) -> VicCall {
         VicCall::Create {
-            vic: Lent::from(self.rng.to_write_over(CONTROLLER_SIZE)),
-            ports: self.rng.pick(&[0, 1, 32, 33, 256, 257, 288, u32::MAX, any]),
+            vic,
+            ports,
             vector_bytes: self.any(),
             base: self.any(),
         }

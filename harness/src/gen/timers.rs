@@ -5,18 +5,11 @@
 //! just after zero, and the most there can be; START and STOP together; a timer
 //! that breaks one rule.
 
-use super::{Hosts, Rng};
+use super::beside::{Beside, HostOf};
 use crate::call::{Call, Lent, TimerCall};
 use crate::model::{Timer, FULL_PERIOD, MOST_SINGLE_TICKS, TIMER_SIZE, VALUE_SIZE};
 
-const CALLS_WITH_ONE_TIMER: u64 = 30;
-
-/// The bytes that a host carries from call to call, and its next choices.
-pub struct TimerHost {
-    rng: Rng,
-    bytes: [u8; TIMER_SIZE],
-    calls_left: u64,
-}
+pub type TimerHost = HostOf<TIMER_SIZE>;
 
 /// How often each call is made, in parts of the sum.
 type Making = (u64, fn(&mut TimerHost) -> TimerCall);
@@ -29,40 +22,36 @@ const MAKINGS: [Making; 6] = [
     (4, TimerHost::create),
 ];
 
-impl Hosts for TimerHost {
-    /// The first on a new timer is always a good create.
-    fn next_call(&mut self) -> Call {
-        if self.calls_left == 0 {
-            self.calls_left = 1 + self.rng.below(CALLS_WITH_ONE_TIMER);
-            return self.good_create().into();
-        }
-        self.calls_left -= 1;
-        if self.rng.chance(30) {
-            self.bytes = self.good_timer().pack();
-        }
+impl Beside<TIMER_SIZE> for TimerHost {
+    const BROKEN_IN_100: u64 = 12;
+
+    fn good_create(&mut self) -> Call {
+        let timer = Lent::from(self.rng.bytes(TIMER_SIZE));
+        self.create_in(timer).into()
+    }
+
+    fn good_bytes(&mut self) -> [u8; TIMER_SIZE] {
+        self.good_timer().pack()
+    }
+
+    fn broken_bytes(&mut self) -> [u8; TIMER_SIZE] {
+        self.broken_timer().pack()
+    }
+
+    fn any_call(&mut self) -> Call {
         let make = self.rng.weighted(&MAKINGS);
         make(self).into()
     }
 
-    fn carry(&mut self, after: &Call) {
-        let Call::Timer(call) = after else {
-            return;
-        };
-        if let Ok(bytes) = (**call.timer()).try_into() {
-            self.bytes = bytes;
+    fn lent_to(call: &Call) -> Option<&Lent> {
+        match call {
+            Call::Timer(call) => Some(call.timer()),
+            _ => None,
         }
     }
 }
 
 impl TimerHost {
-    pub fn new(seed: u64) -> TimerHost {
-        TimerHost {
-            rng: Rng::new(seed),
-            bytes: [0; TIMER_SIZE],
-            calls_left: 0,
-        }
-    }
-
     fn carried(&self) -> Timer {
         Timer::unpack(&self.bytes)
     }
@@ -133,17 +122,6 @@ impl TimerHost {
             timer.zero = self.rng.pick(&[1, 1 << 11, any]);
         }
         timer
-    }
-
-    /// The carried timer, or now and then a broken one or one of another size.
-    fn lent(&mut self) -> Lent {
-        let mut bytes = if self.rng.chance(12) {
-            self.broken_timer().pack().to_vec()
-        } else {
-            self.bytes.to_vec()
-        };
-        bytes.resize(self.rng.size(TIMER_SIZE), 0);
-        Lent::from(bytes)
     }
 
     fn value(&mut self) -> Lent {
@@ -239,16 +217,14 @@ impl TimerHost {
         }
     }
 
-    fn good_create(&mut self) -> TimerCall {
-        TimerCall::Create {
-            timer: Lent::from(self.rng.bytes(TIMER_SIZE)),
-            period: self.period(),
-        }
+    fn create(&mut self) -> TimerCall {
+        let timer = Lent::from(self.rng.to_write_over(TIMER_SIZE));
+        self.create_in(timer)
     }
 
-    fn create(&mut self) -> TimerCall {
+    fn create_in(&mut self, timer: Lent) -> TimerCall {
         TimerCall::Create {
-            timer: Lent::from(self.rng.to_write_over(TIMER_SIZE)),
+            timer,
             period: self.period(),
         }
     }

@@ -1,5 +1,5 @@
-//! The seven calls on a core for a C host, on bytes; those on a controller and on
-//! a timer stand with these.
+//! The seven calls on a core for a C host, on bytes; what is asked of a ledger, and
+//! the calls on a controller and on a timer, stand with these.
 //!
 //! Their arguments are those of the C prototypes, with a slice for a pointer and
 //! a length. "A refused call returns its number and nothing else; machine and
@@ -7,8 +7,8 @@
 //! paper's order, and only then writes.
 
 use super::{
-    Controllers, Descriptor, Images, Ledger, Machine, Mode, Ports, Report, Steps, Timers, Window,
-    DESCRIPTOR_SIZE,
+    Controllers, Descriptor, Findings, Images, Ledger, Machine, Mode, Ports, Report, Steps, Timers,
+    Window, DESCRIPTOR_SIZE,
 };
 
 /// With the ledger "32 bits more in the report, now 18 bytes"
@@ -99,7 +99,7 @@ fn window_at(base: u64, memory: &[u8]) -> Window {
     }
 }
 
-pub trait Calls: Steps + Images + Controllers + Timers {
+pub trait Calls: Steps + Findings + Images + Controllers + Timers {
     /// What the model is called where its answers differ from another's.
     const NAME: &'static str = "model";
 

@@ -51,13 +51,13 @@ pub trait Ledgers: Copy {
         used != u32::MAX && u64::from(used) < length / RECORD_SIZE as u64
     }
 
-    /// The record of the descriptor that is being written back: what the done
-    /// mark tells of it too, and whether its last beat had EOP. In modes 0 and 1
-    /// no beats come in, so that errors and EOP are 0.
+    /// The record of the descriptor that is being written back: its run, what the
+    /// done mark tells of it too, and whether its last beat had EOP. In modes 0 and
+    /// 1 no beats come in, so that errors and EOP are 0.
     fn record(self, machine: &Machine) -> Record {
         let kept = &machine.kept;
         Record {
-            run: self.run_number(machine),
+            run: self.date(machine),
             address: kept.address,
             actual: kept.moved,
             status: kept.errors,
@@ -65,9 +65,10 @@ pub trait Ledgers: Copy {
         }
     }
 
-    /// Records are not dated yet: all are of run 0.
-    fn run_number(self, _machine: &Machine) -> u32 {
-        0
+    /// The run that a record is dated with: the machine's number as it is at the
+    /// WriteBack step, whatever it was at the descriptor's Fetch.
+    fn date(self, machine: &Machine) -> u32 {
+        machine.run_number
     }
 
     /// "most significant first: run number 32, descriptor address 32, actual 16,

@@ -5,7 +5,7 @@ mod slips;
 
 use harness::call::{Call, Party};
 use harness::compare::{compare_call, compare_host, Mismatch};
-use harness::gen::{ControllerHost, Host, Hosts, TimerHost};
+use harness::gen::{ControllerHost, FindingHost, Host, Hosts, TimerHost};
 use harness::model::Paper;
 use slips::Slip;
 use std::collections::BTreeSet;
@@ -43,6 +43,7 @@ fn notice(slip: &dyn Party) -> Option<Mismatch> {
 #[test]
 fn the_slips_are_many_and_different() {
     let mut slips = slips::all();
+    slips.extend(slips::findings::slips());
     slips.extend(slips::controllers::slips());
     slips.extend(slips::timers::slips());
     let different: BTreeSet<&String> = slips.iter().map(|(text, _)| text).collect();
@@ -53,6 +54,12 @@ fn the_slips_are_many_and_different() {
 #[test]
 fn every_slip_is_noticed() {
     are_noticed(slips::all(), notice);
+}
+
+#[test]
+fn every_slip_of_finding_is_noticed() {
+    let notice = |slip: &dyn Party| noticed_by(&mut FindingHost::new(SEED), slip);
+    are_noticed(slips::findings::slips(), notice);
 }
 
 #[test]

@@ -7,34 +7,37 @@ use harness::model::{ImageRule, Images};
 /// Takes the rules of every other trait as they stand in the paper.
 macro_rules! paper_otherwise {
     (Windows for $model:ident) => {
-        paper_otherwise!(Registers, Descriptors, Slots, Ledgers, Steps, Images, Controllers, Timers, Calls: $model);
+        paper_otherwise!(Registers, Descriptors, Slots, Ledgers, Findings, Steps, Images, Controllers, Timers, Calls: $model);
     };
     (Registers for $model:ident) => {
-        paper_otherwise!(Windows, Descriptors, Slots, Ledgers, Steps, Images, Controllers, Timers, Calls: $model);
+        paper_otherwise!(Windows, Descriptors, Slots, Ledgers, Findings, Steps, Images, Controllers, Timers, Calls: $model);
     };
     (Descriptors for $model:ident) => {
-        paper_otherwise!(Windows, Registers, Slots, Ledgers, Steps, Images, Controllers, Timers, Calls: $model);
+        paper_otherwise!(Windows, Registers, Slots, Ledgers, Findings, Steps, Images, Controllers, Timers, Calls: $model);
     };
     (Slots for $model:ident) => {
-        paper_otherwise!(Windows, Registers, Descriptors, Ledgers, Steps, Images, Controllers, Timers, Calls: $model);
+        paper_otherwise!(Windows, Registers, Descriptors, Ledgers, Findings, Steps, Images, Controllers, Timers, Calls: $model);
     };
     (Ledgers for $model:ident) => {
-        paper_otherwise!(Windows, Registers, Descriptors, Slots, Steps, Images, Controllers, Timers, Calls: $model);
+        paper_otherwise!(Windows, Registers, Descriptors, Slots, Findings, Steps, Images, Controllers, Timers, Calls: $model);
+    };
+    (Findings for $model:ident) => {
+        paper_otherwise!(Windows, Registers, Descriptors, Slots, Ledgers, Steps, Images, Controllers, Timers, Calls: $model);
     };
     (Steps for $model:ident) => {
-        paper_otherwise!(Windows, Registers, Descriptors, Slots, Ledgers, Images, Controllers, Timers, Calls: $model);
+        paper_otherwise!(Windows, Registers, Descriptors, Slots, Ledgers, Findings, Images, Controllers, Timers, Calls: $model);
     };
     (Images for $model:ident) => {
-        paper_otherwise!(Windows, Registers, Descriptors, Slots, Ledgers, Steps, Controllers, Timers, Calls: $model);
+        paper_otherwise!(Windows, Registers, Descriptors, Slots, Ledgers, Findings, Steps, Controllers, Timers, Calls: $model);
     };
     (Calls for $model:ident) => {
-        paper_otherwise!(Windows, Registers, Descriptors, Slots, Ledgers, Steps, Images, Controllers, Timers: $model);
+        paper_otherwise!(Windows, Registers, Descriptors, Slots, Ledgers, Findings, Steps, Images, Controllers, Timers: $model);
     };
     (Controllers for $model:ident) => {
-        paper_otherwise!(Windows, Registers, Descriptors, Slots, Ledgers, Steps, Images, Timers, Calls: $model);
+        paper_otherwise!(Windows, Registers, Descriptors, Slots, Ledgers, Findings, Steps, Images, Timers, Calls: $model);
     };
     (Timers for $model:ident) => {
-        paper_otherwise!(Windows, Registers, Descriptors, Slots, Ledgers, Steps, Images, Controllers, Calls: $model);
+        paper_otherwise!(Windows, Registers, Descriptors, Slots, Ledgers, Findings, Steps, Images, Controllers, Calls: $model);
     };
     ($($rules:ident),*: $model:ident) => {
         $(impl harness::model::$rules for $model {})*
@@ -45,6 +48,15 @@ macro_rules! paper_otherwise {
 macro_rules! function {
     (($($argument:ident: $type:ty),* $(,)?) -> $answer:ty, $body:block) => {
         |$($argument: $type),*| -> $answer { $body }
+    };
+}
+
+/// Lets the right thing happen but for one field, which keeps what it had.
+macro_rules! keeping {
+    ($($field:ident).+, $right:expr) => {
+        let before = $($field).+;
+        $right;
+        $($field).+ = before;
     };
 }
 
@@ -93,6 +105,7 @@ macro_rules! slips {
 mod calls;
 pub mod controllers;
 mod descriptors;
+pub mod findings;
 mod images;
 mod ledgers;
 mod registers;

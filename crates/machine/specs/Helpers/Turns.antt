@@ -68,4 +68,4 @@ Begun c slot window r =
 abbrev pub Backs : Core → Work → (window : List ℕ) → Core → (window' : List ℕ) → Type 0
 Backs m k window m' window' =
     (w : World) (left : ℕ)
-    → backTo (stored w m window) k (suc left) ≡ taken (noted (stored w m' window') (w .records ++ entryFor m k ∷ []) left)
+    → backTo (stored w m window) k (suc left) ≡ taken (noted (stored w m' window') (w .records ++ entryFor (w .run) k ∷ []) left)

@@ -69,16 +69,53 @@ record(machine: &Machine) -> Record {
     }
 }
 
-run_number(machine: &Machine) -> u32 {
-    "the run number is 1" => {
+date(machine: &Machine) -> u32 {
+    "records are of run 0" => {
+        0
+    }
+    "records are of run 1" => {
         1
     }
-    "records are dated" => {
-        machine.run_number
+    "records have the number before the last rise" => {
+        machine.run_number.saturating_sub(1)
+    }
+    "records have the number after the next rise" => {
+        machine.run_number.saturating_add(1)
+    }
+    "a write-back with RUN 0 is of no run" => {
+        if machine.runs() { machine.run_number } else { 0 }
+    }
+    "a write-back with RUN 0 is of the run before" => {
+        machine.run_number.saturating_sub(u32::from(!machine.runs()))
+    }
+    "parked descriptors are not dated" => {
+        if machine.controls(control::PARK) { 0 } else { machine.run_number }
+    }
+    "only mode 2 dates its records" => {
+        if machine.mode == Mode::StreamToMemory { machine.run_number } else { 0 }
+    }
+    "an armed machine has no date" => {
+        if machine.controls(control::SW_RESET) { 0 } else { machine.run_number }
+    }
+    "the largest number is recorded as 0" => {
+        machine.run_number.wrapping_add(1).saturating_sub(1)
+    }
+    "dates have 16 bits" => {
+        machine.run_number & 0xFFFF
+    }
+    "a run is the count of descriptors" => {
+        u32::from(machine.count)
+    }
+    "run 0 is recorded as run 1" => {
+        machine.run_number.max(1)
     }
 }
 
 record_bytes(record: &Record) -> [u8; RECORD_SIZE] {
+    "the run number is recorded least significant first" => {
+        let run = record.run.swap_bytes();
+        Paper.record_bytes(&Record { run, ..*record })
+    }
     "the address is recorded least significant first" => {
         let address = record.address.swap_bytes();
         Paper.record_bytes(&Record { address, ..*record })
@@ -115,9 +152,7 @@ record_bytes(record: &Record) -> [u8; RECORD_SIZE] {
 
 append(ledger: &mut Ledger, record: &Record) -> () {
     "the number of used records is not raised" => {
-        let used = ledger.used;
-        Paper.append(ledger, record);
-        ledger.used = used;
+        keeping!(ledger.used, Paper.append(ledger, record));
     }
     "the number is raised and nothing is recorded" => {
         ledger.used += 1;

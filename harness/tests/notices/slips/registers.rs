@@ -54,14 +54,10 @@ resets(machine: &Machine, value: u32) -> bool {
 
 reset(machine: &mut Machine, value: u32) -> () {
     "a reset keeps the pending interrupt" => {
-        let pending = machine.pending;
-        Paper.reset(machine, value);
-        machine.pending = pending;
+        keeping!(machine.pending, Paper.reset(machine, value));
     }
     "a reset keeps the slot" => {
-        let slot = machine.slot;
-        Paper.reset(machine, value);
-        machine.slot = slot;
+        keeping!(machine.slot, Paper.reset(machine, value));
     }
     "a reset clears the run number" => {
         Paper.reset(machine, value);
@@ -79,14 +75,10 @@ reset(machine: &mut Machine, value: u32) -> () {
         }
     }
     "a reset keeps the pointer" => {
-        let pointer = machine.pointer;
-        Paper.reset(machine, value);
-        machine.pointer = pointer;
+        keeping!(machine.pointer, Paper.reset(machine, value));
     }
     "a reset keeps the count" => {
-        let count = machine.count;
-        Paper.reset(machine, value);
-        machine.count = count;
+        keeping!(machine.count, Paper.reset(machine, value));
     }
     "a reset does not leave Faulted" => {
         if machine.phase != Phase::Faulted {
@@ -94,9 +86,7 @@ reset(machine: &mut Machine, value: u32) -> () {
         }
     }
     "a reset keeps its fault code" => {
-        let code = machine.fault_code;
-        Paper.reset(machine, value);
-        machine.fault_code = code;
+        keeping!(machine.fault_code, Paper.reset(machine, value));
     }
     "the resetting write stores its other bits" => {
         Paper.reset(machine, value);
@@ -196,9 +186,7 @@ store_control(machine: &mut Machine, value: u32) -> () {
         Paper.store_control(machine, value | control::CLEAR_INTERRUPT);
     }
     "the count is not zeroed where RUN goes to 1" => {
-        let count = machine.count;
-        Paper.store_control(machine, value);
-        machine.count = count;
+        keeping!(machine.count, Paper.store_control(machine, value));
     }
     "the count is zeroed by every write with RUN 1" => {
         Paper.store_control(machine, value);

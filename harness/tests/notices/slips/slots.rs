@@ -171,14 +171,10 @@ empty_slot(machine: &mut Machine, by: Emptying) -> () {
         }
     }
     "an emptied slot keeps its address" => {
-        let address = machine.slot.address;
-        Paper.empty_slot(machine, by);
-        machine.slot.address = address;
+        keeping!(machine.slot.address, Paper.empty_slot(machine, by));
     }
     "an emptied slot keeps its bytes" => {
-        let bytes = machine.slot.bytes;
-        Paper.empty_slot(machine, by);
-        machine.slot.bytes = bytes;
+        keeping!(machine.slot.bytes, Paper.empty_slot(machine, by));
     }
 }
 

@@ -241,9 +241,7 @@ fail(machine: &mut Machine, fault: Fault) -> () {
         machine.status |= busy;
     }
     "a fault keeps the descriptor" => {
-        let kept = machine.kept;
-        Paper.fail(machine, fault);
-        machine.kept = kept;
+        keeping!(machine.kept, Paper.fail(machine, fault));
     }
     "a fault sets ERROR" => {
         Paper.fail(machine, fault);
@@ -320,17 +318,13 @@ end_chain(machine: &mut Machine, read: &Descriptor) -> () {
         machine.control &= !control::RUN;
     }
     "Ended does not set CHAIN_COMPLETED" => {
-        let status = machine.status;
-        Paper.end_chain(machine, read);
-        machine.status = status;
+        keeping!(machine.status, Paper.end_chain(machine, read));
     }
 }
 
 keep(machine: &mut Machine, read: &Descriptor) -> () {
     "the pointer does not move on" => {
-        let pointer = machine.pointer;
-        Paper.keep(machine, read);
-        machine.pointer = pointer;
+        keeping!(machine.pointer, Paper.keep(machine, read));
     }
     "the source is not kept in mode 2" => {
         Paper.keep(machine, read);
@@ -369,9 +363,7 @@ move_byte(machine: &mut Machine, ports: &mut Ports) -> Result<(), Fault> {
     "a record is written with the last byte, before its step" => {
         Paper.move_byte(machine, ports)?;
         if Paper.obstacle(machine, ports).is_none() && machine.phase == Phase::WriteBack {
-            let used = ports.ledger.used;
-            Paper.append(&mut ports.ledger, &Paper.record(machine));
-            ports.ledger.used = used;
+            keeping!(ports.ledger.used, Paper.append(&mut ports.ledger, &Paper.record(machine)));
         }
         Ok(())
     }

@@ -267,9 +267,7 @@ write_period(timer: &mut Timer, period: u32) -> () {
         timer.run = false;
     }
     "a period write does not stop" => {
-        let run = timer.run;
-        Paper.write_period(timer, period);
-        timer.run = run;
+        keeping!(timer.run, Paper.write_period(timer, period));
     }
     "a period write clears TO" => {
         Paper.write_period(timer, period);

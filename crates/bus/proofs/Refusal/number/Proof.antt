@@ -55,6 +55,9 @@ enum-told-12 c = search needs
 enum-told-13 : tie.Need-enum-told-13
 enum-told-13 c = search needs
 
+enum-told-14 : tie.Need-enum-told-14
+enum-told-14 c = search needs
+
 returns : tie.Need-returns
 returns c = search needs
 
@@ -97,6 +100,9 @@ returns-13 c = search needs
 returns-14 : tie.Need-returns-14
 returns-14 c = search needs
 
+returns-15 : tie.Need-returns-15
+returns-15 c = search needs
+
 pub number-spec : {M : Type 1} → statement M
 number-spec =
     tie.close
@@ -118,6 +124,7 @@ number-spec =
     enum-told-11
     enum-told-12
     enum-told-13
+    enum-told-14
     returns
     returns-2
     returns-3
@@ -131,4 +138,5 @@ number-spec =
     returns-11
     returns-12
     returns-13
-    returns-14)
+    returns-14
+    returns-15)

@@ -23,6 +23,9 @@ at-rest m (fetches e) other =
 enum-told : tie.Need-enum-told
 enum-told c = search needs
 
+fetch-step-requires : tie.Need-fetch-step-requires
+fetch-step-requires c κs = search needs
+
 enters-requires : tie.Need-enters-requires
 enters-requires c κs = search needs
 
@@ -30,15 +33,12 @@ alone-requires : tie.Need-alone-requires
 alone-requires c κs = search needs
 
 returns : tie.Need-returns
-returns c = let s = c .before .before .before .before in let rest = at-rest (s .args .self) (s .pre) (c .before .before .match .keys2) in rest-begun _ _ _ (rest .0) (rest .1) (c .before .enters .ensures) (c .alone .ensures)
-
-fetch-step-requires : tie.Need-fetch-step-requires
-fetch-step-requires c κs = search needs
+returns c = let a = c .before .before .before .before .args in fetch-begun (a .self) (a .slot) (a .window .now) _ (c .before .enum-told .given .1) (c .fetch-step .ensures)
 
 returns-2 : tie.Need-returns-2
-returns-2 c = let a = c .before .before .before .before .args in fetch-begun (a .self) (a .slot) (a .window .now) _ (c .before .enum-told .given .1) (c .fetch-step .ensures)
+returns-2 c = let s = c .before .before .before .before in let rest = at-rest (s .args .self) (s .pre) (c .before .before .match .keys2) in rest-begun _ _ _ (rest .0) (rest .1) (c .before .enters .ensures) (c .alone .ensures)
 
 pub begin-step-spec : {M : Type 1} → statement M
 begin-step-spec =
     tie.close
-    (tie.spec enum-told enters-requires alone-requires returns fetch-step-requires returns-2)
+    (tie.spec enum-told fetch-step-requires enters-requires alone-requires returns returns-2)
