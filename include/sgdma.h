@@ -714,7 +714,11 @@ uint32_t sgdma_read_register(const uint8_t *image, size_t image_len,
  * ignored. Any other stores bits 0 to 17; CLEAR_INTERRUPT clears what is pending;
  * RUN going from 0 to 1 starts the count of descriptors anew and adds 1 to the run
  * number; RUN 0 takes a core from Ended or Halted to Rest, with BUSY 0. RUN 0 in
- * Move does not cut a descriptor short: the core stops after its WriteBack.
+ * Move does not cut a descriptor short: the core stops after its WriteBack. So BUSY
+ * may read 1 for a while, but never for more than 65,536 steps in all, where the
+ * beats, the room and the record that the descriptor in hand still needs are lent:
+ * 1 step in Fetch, in Move one for each byte that is left and 1 more, 1 in WriteBack.
+ * Then the core is in Rest, or a fault has stopped it, and BUSY reads 0.
  *
  * A write of the pointer, whatever the number, empties the slot: the next Fetch
  * reads memory.

@@ -34,6 +34,7 @@ void test_finding(void);
 void test_refusals(void);
 void test_fields(void);
 void test_ahead(void);
+void test_obeys(void);
 void test_controller(void);
 void test_timer(void);
 

@@ -18,6 +18,7 @@ int main(void)
     test_refusals();
     test_fields();
     test_ahead();
+    test_obeys();
     test_controller();
     test_timer();
     return check_figures();

@@ -32,20 +32,11 @@ use Rattle.machine.specs.Saved.{fieldsOf, tailOf, keeps, spoiled}
 use Rattle.machine.specs.Registers.{controlStored, writtenTo, writeOf, WasWritten}
 use Rattle.machine.specs.Step.{World}
 use Rattle.machine.specs.Run.{run, even, Lent, Returned, Served, serves, servedOf, worldOf, outputOver, returned, ranAs, runAnswer}
-use Rattle.machine.proofs.Writes.{write-runs}
+use Rattle.machine.proofs.Writes.{write-runs, was-done}
 use Rattle.chain.specs.Chain.{Given, machineFor, worldFor, shares, cost, Premises, FirstFew, Outcome}
 use Rattle.chain.specs.Calls.{givenBy, Called, Finished}
 use Rattle.chain.specs.Theorems.{ChainOfRun, ChainOfRunAtEveryStep}
 use Rattle.chain.proofs.Theorem.{chain-theorem, chain-records, chain-at-every-step}
-
--- a write that is done was made of a machine that keeps the rules
-wrote-done : (m n : Machine) (offset v : ℕ) → isRegister offset ≡ true → wrote.Done n ≡ writeOf m offset v → (keeps m ≡ true) × (n ≡ writtenTo m offset v)
-unfolding writeOf
-wrote-done m n offset v o e = by (keeps m) refl
-  where
-    by : (b : Bool) → keeps m ≡ b → (keeps m ≡ true) × (n ≡ writtenTo m offset v)
-    by true k = (k, let f : wrote.Done n ≡ wrote.Done (writtenTo m offset v) = e ∙ rw (k, o) in cc)
-    by false k = absurd (let f : wrote.Done n ≡ wrote.Refused (spoiled m) = e ∙ rw k in let z : _≡_ {A = ℕ} 0 1 = cc in omega arith)
 
 limits-kept : (f : Fields) (t : Tail) → keepsRules f t ≡ true → keepsLimits (f .base) (f .window) ≡ true
 unfolding keepsRules
@@ -124,15 +115,15 @@ module _ {window : Window} {pointer control : ℕ} {l : Lent} {budget : ℕ} {r 
   g = givenBy window pointer control k l
 
   m1-is : c .m1 ≡ writtenTo (fresh StreamToMemory window) 8 pointer
-  m1-is = wrote-done (c .m0) (c .m1) 8 pointer refl (c .pointed .answer) .1 ∙ ap (λ (m : Machine). writtenTo m 8 pointer) (c .made .value)
+  m1-is = was-done (c .m0) (c .m1) 8 pointer refl (c .pointed .answer) .1 ∙ ap (λ (m : Machine). writtenTo m 8 pointer) (c .made .value)
 
   m2-is : c .m2 ≡ machineFor g
-  m2-is = wrote-done (c .m1) (c .m2) 4 control refl (c .started .answer) .1 ∙ ap (λ (m : Machine). writtenTo m 4 control) m1-is
+  m2-is = was-done (c .m1) (c .m2) 4 control refl (c .started .answer) .1 ∙ ap (λ (m : Machine). writtenTo m 4 control) m1-is
 
   pub limits : keepsLimits (window .base) (window .length) ≡ true
   limits =
       limits-kept (fieldsOf (freshCore StreamToMemory window)) (tailOf (fresh StreamToMemory window))
-      (subst (λ (m : Machine). keeps m ≡ true) (c .made .value) (wrote-done (c .m0) (c .m1) 8 pointer refl (c .pointed .answer) .0))
+      (subst (λ (m : Machine). keeps m ≡ true) (c .made .value) (was-done (c .m0) (c .m1) 8 pointer refl (c .pointed .answer) .0))
 
   m2-stored : c .m2 ≡ machineWith (controlStored control (withPointer pointer (freshCore StreamToMemory window))) Empty (runFrom control (record { 0 = 0 }) 0)
   m2-stored =

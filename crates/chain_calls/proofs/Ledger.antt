@@ -48,7 +48,7 @@ use Rattle.chain_calls.proofs.Done as done
 use Rattle.chain_calls.proofs.Images.{limits-kept}
 
 -- bytes load as one machine
-one-machine : (xs : List ℕ) {m n : Machine} → loadOf xs ≡ Good m → loadOf xs ≡ Good n → m ≡ n
+pub one-machine : (xs : List ℕ) {m n : Machine} → loadOf xs ≡ Good m → loadOf xs ≡ Good n → m ≡ n
 one-machine xs {m} {n} e f = let same : Good m ≡ Good n = sym e ∙ f in cc
 
 -- ---- one call

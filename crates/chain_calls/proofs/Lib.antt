@@ -10,3 +10,4 @@ pub mod TwoRuns
 pub mod OfVic
 pub mod OfTimer
 pub mod Ledger
+pub mod Obeys

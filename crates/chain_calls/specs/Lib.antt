@@ -7,3 +7,4 @@ pub mod Theorems
 pub mod TwoRuns
 pub mod Told
 pub mod Ledger
+pub mod Obeys

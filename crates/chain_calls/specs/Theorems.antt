@@ -27,6 +27,7 @@ use Rattle.chain_calls.specs.TwoRuns.{lentNext, lentWith, DoTheSame}
 use Rattle.chain_calls.specs.Images.{InUse, LoadsBack}
 use Rattle.chain_calls.specs.Useless.{Model, InBytes, Keeps, honest, RefusesEverything, OneFixedAnswer, NeverMoves, OnlyMarksTheOthers, MakesUpSteps, MarksUnrecorded}
 use Rattle.chain_calls.specs.Ledger.{OneEachInC, SessionInC, AddsInC}
+use Rattle.chain_calls.specs.Obeys.{Cleared, ObeyedInC}
 
 -- ---- "First that applies": the number that a call gives back is the first, in the paper's one order, of the refusals that apply to
 -- it, or 0
@@ -217,6 +218,13 @@ OneRecordEachInC = (m : Machine) (x : RunLent) (y : RunLeft) → loadOf (x .imag
 abbrev pub SessionAddsInC : Type 0
 SessionAddsInC = (image before ledger : List ℕ) (used : ℕ) (rs : List Entry) (taken lost : ℕ)
     → SessionInC image before ledger used rs taken lost → AddsInC image before ledger used rs taken lost
+
+-- ---- order 9: how long until it obeys
+
+-- From any image in use: once control is written with RUN clear, one sgdma_run with what it needs tells reason 0 or 3 and at most 65,536
+-- steps, and BUSY reads 0.
+abbrev pub ObeysInC : Type 0
+ObeysInC = (xs : List ℕ) (v : ℕ) (x : RunLent) (y : RunLeft) (value : List ℕ) → Cleared xs v x y value → ObeyedInC (y .report) value
 
 -- ---- the useless models
 

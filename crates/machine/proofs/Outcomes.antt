@@ -17,6 +17,7 @@ use Rattle.image.proofs.Tests.{and-right}
 use Rattle.flow.specs.Beats.{beatsIn, beatBytes}
 use Rattle.flow.proofs.Streams.{length-beats, length-beat-bytes}
 use Rattle.machine.specs.declared.Machine.{Machine}
+use Rattle.machine.specs.declared.Ran.{Ran}
 use Rattle.machine.specs.declared.StepAnswer.{StepAnswer}
 use Rattle.machine.specs.declared.StepAnswer.the-variants as one
 use Rattle.machine.specs.declared.RunAnswer.{RunAnswer}
@@ -54,6 +55,12 @@ pub good-ready : (good : Bool) (m : Machine) (l : Lent) → (good ≡ true → R
 good-ready good m l h e =
     let s = serves-good good m l e in
     subst⁻¹ (λ (n : ℕ). Ready (m .core) n) (s .1) (h (s .0))
+
+-- a run that is done was served, and tells what the run led to
+pub ran-serves : (given : Lent) (served : Served) (w : World) (budget : ℕ) (r : Ran) → many.Done r ≡ runAnswer given served w budget
+    → (served ≡ serves) × (r ≡ ranAs (given .used) w (run budget w))
+ran-serves given serves w budget r e = (refl, cc)
+ran-serves given (refused why) w budget r e = absurd (let z : _≡_ {A = ℕ} 0 1 = cc in omega arith)
 
 -- ---- where it stands
 

@@ -6,6 +6,7 @@ use mathlib.Core.Bool.{Bool, true, false, not, cond, _&&_}
 use Rattle.bus.specs.declared.Refusal.{Refusal}
 use Rattle.bus.specs.declared.Refusal.the-variants.{NoRegister}
 use lib.Dec.{eqb}
+use native.Mathlib.Omega.{arith}
 use borrow.Author.Tests.{eqb-true, eqb-false}
 use Rattle.regs.specs.Offsets.{chosen, isRegister}
 use Rattle.regs.proofs.Offsets.{at-status, at-none}
@@ -86,3 +87,13 @@ module _ (m : Machine) (offset v : ℕ) where
   pub write-kept : keeps m ≡ true → wroteTo m offset v ≡ writeOf m offset v
   unfolding writeOf
   write-kept k = rw k
+
+-- a write that is done was made of a machine that keeps the rules
+pub was-done : (m n : Machine) (offset v : ℕ) → isRegister offset ≡ true → wrote.Done n ≡ writeOf m offset v
+    → (keeps m ≡ true) × (n ≡ writtenTo m offset v)
+unfolding writeOf
+was-done m n offset v o e = by (keeps m) refl
+  where
+    by : (b : Bool) → keeps m ≡ b → (keeps m ≡ true) × (n ≡ writtenTo m offset v)
+    by true k = (k, let f : wrote.Done n ≡ wrote.Done (writtenTo m offset v) = e ∙ rw (k, o) in cc)
+    by false k = absurd (let f : wrote.Done n ≡ wrote.Refused (spoiled m) = e ∙ rw k in let z : _≡_ {A = ℕ} 0 1 = cc in omega arith)

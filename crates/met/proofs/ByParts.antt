@@ -198,7 +198,7 @@ each-in m (Faulted f) k (b, c, a) t z s =
     each-at m (Faulted f) k refl (both c refl) b refl (no-hand (m .mode) (m .window) 6 refl refl) refl t z s
 
 -- L is a number of 16 bits
-asked-lt : (mode n : ℕ) → n < 65536 → rule.asked mode n < 65536
+pub asked-lt : (mode n : ℕ) → n < 65536 → rule.asked mode n < 65536
 asked-lt mode n h = pick (eqb mode 2 && eqb n 0)
   where
     pick : (b : Bool) → cond b 65535 n < 65536

@@ -46,7 +46,7 @@ beats-of (x ∷ []) g = tt
 beats-of (x ∷ y ∷ xs) g = (let a = g .0 in let b = g .1 .0 in omega arith, beats-of xs (g .1 .1))
 
 -- where what is lent serves, the world is sound
-abbrev IfServes : Type 0 → Served → Type 0
+abbrev pub IfServes : Type 0 → Served → Type 0
 IfServes A serves = A
 IfServes A (refused why) = Unit {0}
 
@@ -78,7 +78,7 @@ opened-same m k t =
     let h = sound-kept s .slot in
     λ i. record { core = m .core; slot = held-same (m .core .phase) (m .core .window) (m .core .pointer .0) (m .slot) h i; run = m .run }
 
-lent-sound : (m : Machine) (l : Lent) → Sound m → AllBytes (l .window) → AllBytes (l .beats)
+pub lent-sound : (m : Machine) (l : Lent) → Sound m → AllBytes (l .window) → AllBytes (l .beats)
     → IfServes (SoundWorld (worldOf m l)) (servedOf m l)
 unfolding servedOf
 lent-sound m l s g b =

@@ -15,3 +15,4 @@ pub mod Fetches
 pub mod Reading
 pub mod Unused
 pub mod RunNumber
+pub mod Obeys

@@ -22,7 +22,7 @@ step-in h Ended s = tt
 step-in h Halted s = tt
 step-in h (Faulted f) s = tt
 
-step-after : {w : World} → KeptWorld w → After (step w)
+pub step-after : {w : World} → KeptWorld w → After (step w)
 unfolding step
 step-after {w} h = settles-after (stepIn (w .core .phase) w) (step-in h (w .core .phase) (h .core .phase))
 

@@ -4,3 +4,4 @@ pub mod Faults
 pub mod Reading
 pub mod Unused
 pub mod Theorems
+pub mod Obeys

@@ -1,6 +1,6 @@
 -- What is proved of the machines met in use: each theorem's whole statement, under its name. A term of each stands in proofs/.
 -- Assumes nothing.
-use Prim.Native.Nat.{ℕ, _^_, _<_}
+use Prim.Native.Nat.{ℕ, _+_, _^_, _≤_, _<_}
 use mathlib.Core.Path.{_≡_}
 use mathlib.Core.Bool.{true, false, not, cond, _&&_}
 use mathlib.Core.List.{List}
@@ -27,15 +27,18 @@ use Rattle.machine.specs.declared.LoadedMachine.{LoadedMachine}
 use Rattle.machine.specs.declared.LoadedMachine.the-variants.{Good, Refused}
 use Rattle.machine.specs.declared.SavedMachine.{SavedMachine}
 use Rattle.machine.specs.declared.SavedMachine.the-variants as saved
+use Rattle.machine.specs.declared.Ran.{Ran}
+use Rattle.machine.specs.declared.RunAnswer.the-variants as many
 use Rattle.machine.specs.declared.registers.WroteRegister.the-variants as wrote
 use Rattle.machine.specs.Saved.{fieldsOf, tailOf, keeps, spoiled, loadOf, WasLoaded, WasSaved}
 use Rattle.machine.specs.Registers.{WasWritten}
 use Rattle.machine.specs.Step.{World, homeBytes, taken, holding, seen, writtenControl, writtenBack, step}
-use Rattle.machine.specs.Run.{run}
+use Rattle.machine.specs.Run.{run, Lent, Returned, worldOf, HasRun}
 use Rattle.met.specs.Sound.{Sound, SoundWorld}
 use Rattle.met.specs.Met.{Met}
 use Rattle.met.specs.Faults.{AfterWrite}
 use Rattle.met.specs.Reading.{over, ReadsSame, Alike, ToFetch}
+use Rattle.met.specs.Obeys.{longest, Cleared, owes, Supplied, Obeyed, Stands, RunsOn, ObeyedRun}
 use Rattle.met.specs.Unused.{SameUse, descriptorUnder, workUnder, worldUnder, answerUnder, answerOver, answerHolding, slotAfter}
 
 -- ---- images
@@ -149,3 +152,44 @@ KeptAsGiven = (m : Core) (k : Work)
     × (bit 4 (writtenControl m k) ≡ bit 4 (k .control .0))
     × (bit 5 (writtenControl m k) ≡ bit 5 (k .control .0))
     × (bit 6 (writtenControl m k) ≡ bit 6 (k .control .0))
+
+-- ---- order 9: how long until it obeys
+
+-- A machine that keeps the rules owes no more than 65,536 steps.
+abbrev pub OwesAtMost : Type 0
+OwesAtMost = (m : Machine) → Sound m → owes (m .core) ≤ 65536
+
+-- With RUN clear a run of any budget, whatever is lent, takes no more steps than the phase owes, and what it still owes then is that much less.
+-- RUN stays clear.
+abbrev pub OwesSteps : Type 0
+OwesSteps = (budget : ℕ) (w : World) → SoundWorld w → Cleared (w .core)
+    → (run budget w .steps + owes (run budget w .world .core) ≤ owes (w .core)) × Cleared (run budget w .world .core)
+
+-- With as much budget as it owes the run stops at Rest or at a fault, or for want of a beat, of room or of a record.
+abbrev pub StandsThen : Type 0
+StandsThen = (budget : ℕ) (w : World) → SoundWorld w → Cleared (w .core) → owes (w .core) ≤ budget
+    → Stands (run budget w .world) (run budget w .reason) (run budget w .world .core .phase)
+
+-- With beats, room and a record as needed it stops at Rest or at a fault, with BUSY 0.
+abbrev pub Obeys : Type 0
+Obeys = (budget : ℕ) (w : World) → SoundWorld w → Cleared (w .core) → Supplied w → owes (w .core) ≤ budget
+    → Obeyed (run budget w .reason) (run budget w .world .core .phase) × (run budget w .world .core .status .busy ≡ false)
+
+-- Without them it goes on where it stopped: the steps of all the runs together are no more than it owed at first.
+abbrev pub RunsObey : Type 0
+RunsObey = (m n : Machine) (t : ℕ) → Met m → Cleared (m .core) → RunsOn m n t → t + owes (n .core) ≤ owes (m .core)
+
+-- A write of control with RUN clear leaves RUN clear.
+abbrev pub ClearedByWrite : Type 0
+ClearedByWrite = (m n : Machine) (v : ℕ) → control.run (control.asControl v) ≡ false → WasWritten m 4 v (wrote.Done n) → Cleared (n .core)
+
+-- From any machine met in use: once control is written with RUN clear, one run with beats, room and a record as needed and a budget of 65,536
+-- stops at Rest, with BUSY 0, or at a fault, after no more than 65,536 steps.
+abbrev pub ObeysInRun : Type 0
+ObeysInRun = (m n : Machine) (v : ℕ) (l : Lent) (budget : ℕ) (r : Ran) (b : Returned) → Met m → v < 2 ^ 32
+    → control.run (control.asControl v) ≡ false → WasWritten m 4 v (wrote.Done n) → AllBytes (l .window) → AllBytes (l .beats)
+    → Supplied (worldOf n l) → 65536 ≤ budget → HasRun n l budget (many.Done r) b → ObeyedRun r
+
+-- The bound is met: a core with RUN clear that takes 65,536 steps before it rests.
+abbrev pub BoundIsMet : Type 0
+BoundIsMet = Cleared (longest .core) × (run 65536 longest .steps ≡ 65536) × (run 65536 longest .reason ≡ reason.Rest)

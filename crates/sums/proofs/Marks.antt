@@ -23,9 +23,9 @@ use Rattle.machine.specs.Step.{World, Answer, taken, stopped, settle, entryFor,
 use Rattle.machine.specs.Run as runs
 use Rattle.machine.specs.Run.{Returned, Served, servedOf, worldOf, returned}
 use Rattle.machine.proofs.StepLaws.{fetch-turns, step-passed}
+use Rattle.machine.proofs.Outcomes.{ran-serves}
 use Rattle.sums.specs.Records.{Recorded, Records, none, one, other, OneEach}
 use Rattle.sums.specs.Theorems.{OneRecordEach}
-use Rattle.sums.proofs.Sessions.{ran-serves}
 
 -- ---- a step
 

@@ -29,7 +29,7 @@ use Rattle.machine.specs.State.{withPointer, freshCore}
 use Rattle.machine.specs.Registers.{statusWritten, controlStored, released, controlWritten, coreWritten, writeOf}
 use Rattle.machine.specs.Step.{World, machineIn}
 use Rattle.machine.specs.Run.{Lent, Returned, Served, serves, refused, servedOf, worldOf, takenSince, run, returned, ranAs, runAnswer, HasRun}
-use Rattle.machine.proofs.Outcomes.{serves-good}
+use Rattle.machine.proofs.Outcomes.{serves-good, ran-serves}
 use Rattle.machine.proofs.RunLaws.{run-tells}
 use Rattle.sums.specs.Sum.{held, abandoned, lostIn, Session, begins, written, ran, Adds}
 use Rattle.sums.specs.Theorems.{SessionAdds}
@@ -90,11 +90,6 @@ write-drops m offset v =
     tt
 
 -- ---- a run
-
-pub ran-serves : (given : Lent) (served : Served) (w : World) (budget : ℕ) (r : Ran) → many.Done r ≡ runAnswer given served w budget
-    → (served ≡ serves) × (r ≡ ranAs (given .used) w (run budget w))
-ran-serves given serves w budget r e = (refl, cc)
-ran-serves given (refused why) w budget r e = absurd (let z : _≡_ {A = ℕ} 0 1 = cc in omega arith)
 
 used-in : (m : Machine) (given : Lent) → servedOf m given ≡ serves → given .used ≤ length (given .ledger) / 12
 unfolding servedOf

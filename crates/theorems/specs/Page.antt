@@ -14,6 +14,7 @@ use Rattle.machine.specs.Theorems.{RunAdd, RunTells, BudgetOnly, ResumedRuns, S
 use Rattle.known_runs.specs.Theorems.{KnownRunsHold, WorkedCasesHold}
 use Rattle.met.specs.Theorems.{FaultedStands, OnlyResetLeaves, ReadInFetchAlone, UsedAsRead, SlotOutlives, RunNumberRises, RunNumberStays, NoEffectInFetch, NoEffectInMove, NoEffectInWriteBack, KeptAsGiven}
 use Rattle.met.specs.Theorems.{LoadsExactly, SameField, SavedAgain, LoadsBack, WriteKeeps, StepKeeps, RunKeeps, MetKeeps, MetSaves}
+use Rattle.met.specs.Theorems.{OwesAtMost, OwesSteps, StandsThen, Obeys, RunsObey, ClearedByWrite, ObeysInRun, BoundIsMet}
 use Rattle.sums.specs.Theorems.{OneRecordEach, SessionAdds}
 use Rattle.chain.specs.Theorems.{ChainTheorem, ChainAtEveryStep, ChainRecords, BudgetExists, RunsTwice, ChainOfRun, ChainOfRunAtEveryStep, EachFound, KnownRun1, ChainOfThree}
 use Rattle.sgdma.specs.Calls.{CreatedUnique, RegisterReadUnique, RegisterWrittenUnique, LineReadUnique, RunMadeUnique, DescriptorBuiltUnique}
@@ -21,7 +22,7 @@ use Rattle.sgdma.specs.Calls.{DescriptorReadUnique, RecordFoundUnique}
 use Rattle.chain_calls.specs.Theorems.{CreateInOrder, ReadInOrder, WriteInOrder, LineInOrder, RunInOrder, BuildInOrder, DescriptorInOrder, CreateUnchanged}
 use Rattle.chain_calls.specs.Theorems.{ReadUnchanged, WriteUnchanged, LineUnchanged, RunUnchanged, BuildUnchanged, DescriptorUnchanged, ImagesLoad}
 use Rattle.chain_calls.specs.Theorems.{NoneRefused, ChainOfCalls, ChainOfCallsAtEveryStep, KnownRun1InC, HonestKeeps, RefuserFails, FixedFails}
-use Rattle.chain_calls.specs.Theorems.{NeverMovingFails, MarkerFails, MadeUpFails, UnrecordedFails, TwoRunsAdd, OneRecordEachInC, SessionAddsInC, EachFoundInC}
+use Rattle.chain_calls.specs.Theorems.{NeverMovingFails, MarkerFails, MadeUpFails, UnrecordedFails, TwoRunsAdd, OneRecordEachInC, SessionAddsInC, EachFoundInC, ObeysInC}
 use Rattle.chain_calls.specs.Theorems.{VicCreateInOrder, VicPortInOrder, VicChooseInOrder, VicUnchanged}
 use Rattle.chain_calls.specs.Theorems.{TimerInOrder, TimerUnchanged}
 use Rattle.chain_calls.specs.Theorems.{FindInOrder, FindUnchanged}
@@ -485,6 +486,44 @@ records-back = Rattle.ledger.proofs.ReadBack.records-back
 -- Of these, one behind which there is no other of its descriptor and run is found, with its count.
 pub appended-found : AppendedFound
 appended-found = Rattle.ledger.proofs.ReadBack.appended-found
+
+-- ---- order 9: how long until it obeys
+
+-- A machine that keeps the rules owes no more than 65,536 steps: 1 in Fetch, L - moved + 1 in Move, 1 in WriteBack, none elsewhere.
+pub owes-at-most : OwesAtMost
+owes-at-most = Rattle.met.proofs.Obeys.owes-at-most
+
+-- With RUN clear a run takes no more steps than are owed, and then owes that much less.
+pub owes-steps : OwesSteps
+owes-steps = Rattle.met.proofs.Obeys.owes-steps
+
+-- With as much budget it stops at Rest or at a fault, or for want of a beat, of room or of a record.
+pub stands-then : StandsThen
+stands-then = Rattle.met.proofs.Obeys.stands-then
+
+-- With what it needs it stops at Rest or at a fault, with BUSY 0.
+pub obeys : Obeys
+obeys = Rattle.met.proofs.Obeys.obeys
+
+-- Without, it goes on where it stopped: the steps of all the runs together are no more than were owed.
+pub runs-obey : RunsObey
+runs-obey = Rattle.met.proofs.Obeys.runs-obey
+
+-- A write of control with RUN clear leaves RUN clear.
+pub cleared-by-write : ClearedByWrite
+cleared-by-write = Rattle.met.proofs.Obeys.cleared-by-write
+
+-- From any machine met in use: after that write one run with what it needs stops at Rest, with BUSY 0, or at a fault, in at most 65,536 steps.
+pub obeys-in-run : ObeysInRun
+obeys-in-run = Rattle.met.proofs.Obeys.obeys-in-run
+
+-- The same of the C calls.
+pub obeys-in-c : ObeysInC
+obeys-in-c = Rattle.chain_calls.proofs.Obeys.obeys-in-c
+
+-- The bound is met.
+pub bound-is-met : BoundIsMet
+bound-is-met = Rattle.met.proofs.Obeys.bound-is-met
 
 -- ======== what the promises owe: the useless models, of sgdma_run
 
