@@ -13,6 +13,7 @@
  *   sgdma_read_register       what has happened
  *   sgdma_read_descriptor     what was done with each descriptor
  *   sgdma_find_record         what the ledger tells of a descriptor in one run
+ *   sgdma_move_image          a core kept in an image of another edition
  *
  * Several cores can share an interrupt controller (chapter 29, Vectored
  * Interrupt Controller Core):
@@ -81,6 +82,7 @@ extern "C" {
  * one is refused too.
  */
 #define SGDMA_IMAGE_SIZE              85
+#define SGDMA_IMAGE_SIZE_FIRST        44 /* edition 1, of sgdma_move_image alone */
 #define SGDMA_VALUE_SIZE              4
 #define SGDMA_REPORT_SIZE             18
 #define SGDMA_DESCRIPTOR_ANSWER_SIZE  18
@@ -399,14 +401,16 @@ extern "C" {
 /*
  * The image, 85 bytes, edition 2. Firmware keeps it, copies it and lends it; the
  * bytes moved, the fault, the slot and the run number are what it may want to read
- * there. An image of edition 1, which had 44 bytes, is refused as one of another size.
- * For the reader of a dump, its 27 fields in order: the byte in which each begins, its
- * width in bits, the most significant first, and the rule by which a call knows
- * that it is wrong. The phases are numbered from Rest, 0, to Faulted, 6, in the
- * order above, and the kinds of the slot as SGDMA_SLOT_EMPTY and so on are.
+ * there. An image of edition 1 had 44 bytes, which are fields 1 to 22 of this table, with 1 in the
+ * first: there was no slot and no run number. Every call but sgdma_move_image
+ * refuses it as one of another size. For the reader of a dump, the 27 fields in
+ * order: the byte in which each begins, its width in bits, the most significant
+ * first, and the rule by which a call knows that it is wrong. The phases are
+ * numbered from Rest, 0, to Faulted, 6, in the order above, and the kinds of the
+ * slot as SGDMA_SLOT_EMPTY and so on are.
  *
  *       field               byte  bits  rule
- *    1  edition                0     4  2
+ *    1  edition                0     4  2; in the 44 bytes of edition 1, 1
  *    2  mode                   0     2  0, 1 or 2
  *    3  phase                  0     3  0 to 6; Halted, 5, in mode 2 only
  *    4  armed                  1     1  none of its own: see 9
@@ -661,6 +665,7 @@ extern "C" {
 #define SGDMA_BAD_SIZE      UINT32_C(7)  /* an image, value, report or answer of wrong size */
 #define SGDMA_BAD_IMAGE     UINT32_C(8)  /* a field of what is lent is wrong: + 256 x field */
 #define SGDMA_ODD_STREAM    UINT32_C(9)  /* an odd number of beat bytes, in or out */
+#define SGDMA_SLOT_HELD     UINT32_C(15) /* the edition moved to has no slot, and one is held */
 #define SGDMA_NO_TIMER_REGISTER  UINT32_C(16) /* offset is above 5 */
 #define SGDMA_NOT_FULL_PERIOD    UINT32_C(17) /* the timer's period is not 4,294,967,295 */
 #define SGDMA_RUN_UNKNOWN   UINT32_C(18) /* the run asked for is 4,294,967,295 */
@@ -825,6 +830,29 @@ uint32_t sgdma_read_descriptor(const uint8_t *window, size_t window_len,
 uint32_t sgdma_find_record(const uint8_t *ledger, size_t ledger_len, uint32_t used,
                            uint32_t run, uint32_t address,
                            uint8_t *answer, size_t answer_len);
+
+/*
+ * Moves an image to another edition. Each edition is told by its size: 44 bytes
+ * are edition 1, 85 are edition 2. Any pair of them will do.
+ *
+ * Reads    from
+ * Writes   to: the same core in the edition of this size, all of its bytes
+ * Returns  SGDMA_BAD_SIZE   from_len or to_len is neither 44 nor 85
+ *          SGDMA_BAD_IMAGE  + 256 x field: that field of from is wrong, by the
+ *                           rules of its edition
+ *          SGDMA_SLOT_HELD  to_len is 44, and the slot of from is not empty
+ *          SGDMA_DONE
+ *
+ * Forward, from 44 to 85, the slot is empty and the run number 0: the next Fetch
+ * reads memory, and what is written back is dated run 0 until RUN rises. Back,
+ * from 85 to 44, the run number is dropped, and the slot must be empty, as it is
+ * in Rest, Ended, Halted and Faulted; a write of the pointer, with the number that
+ * it reads, empties it in every phase. So forward and then back gives the old 44
+ * bytes, and back and then forward the same core in its run 0. To its own edition
+ * an image is moved as it is, once its rules are looked at.
+ */
+uint32_t sgdma_move_image(const uint8_t *from, size_t from_len,
+                          uint8_t *to, size_t to_len);
 
 /*
  * Makes a controller of so many ports: no line up, nothing triggered, enabled or

@@ -33,6 +33,7 @@ void test_largest_ledger(void);
 void test_finding(void);
 void test_refusals(void);
 void test_fields(void);
+void test_editions(void);
 void test_ahead(void);
 void test_obeys(void);
 void test_controller(void);

@@ -1,11 +1,13 @@
 /*
  * Which field spoils an image: every rule is broken alone, two at once, and all
- * at once. Each call that reads an image is refused and tells the lowest field.
+ * at once. Each call that reads an image is refused and tells the lowest field;
+ * and so does every move of it, and of what edition 1 has of it.
  */
 #include <stdbool.h>
 #include <string.h>
 
 #include "check.h"
+#include "editions.h"
 #include "lent.h"
 
 /* The fields in the order of the layout, and their bits. */
@@ -142,6 +144,7 @@ static void check_calls(const uint8_t *image, uint32_t refusal, uint32_t field)
         memcpy(lent.image, image, SGDMA_IMAGE_SIZE);
         check_lent(calls[i].make, &lent, refusal, field);
     }
+    check_moves(image, field);
 }
 
 #define MODE_0 SGDMA_MODE_MEMORY_TO_MEMORY

@@ -17,6 +17,7 @@ int main(void)
     test_finding();
     test_refusals();
     test_fields();
+    test_editions();
     test_ahead();
     test_obeys();
     test_controller();

@@ -8,9 +8,9 @@
 pub mod rows;
 
 use crate::model::{
-    descriptor_control, Calls, Controllers, Descriptors, Fault, Findings, Images, Ledgers, Machine,
-    Mode, Phase, Ports, Reason, Registers, Report, Slots, Steps, Timers, Windows, OUTPUT_EOP,
-    OUTPUT_SOP,
+    descriptor_control, Calls, Controllers, Descriptors, Editions, Fault, Findings, Images,
+    Ledgers, Machine, Mode, Phase, Ports, Reason, Registers, Report, Slots, Steps, Timers, Windows,
+    OUTPUT_EOP, OUTPUT_SOP,
 };
 use rows::Row;
 
@@ -26,6 +26,7 @@ impl Findings for Bulk {}
 impl Images for Bulk {}
 impl Controllers for Bulk {}
 impl Timers for Bulk {}
+impl Editions for Bulk {}
 
 impl Calls for Bulk {
     const NAME: &'static str = "bulk model";

@@ -89,6 +89,7 @@ pub enum Function {
     BuildDescriptor,
     ReadDescriptor,
     FindRecord,
+    MoveImage,
     VicCreate,
     VicConfigure,
     VicEnable,
@@ -167,6 +168,10 @@ pub enum Call {
         address: u32,
         answer: Lent,
     },
+    MoveImage {
+        from: Lent,
+        to: Lent,
+    },
     Vic(VicCall),
     Timer(TimerCall),
 }
@@ -240,6 +245,7 @@ impl Call {
             Call::BuildDescriptor { .. } => Function::BuildDescriptor,
             Call::ReadDescriptor { .. } => Function::ReadDescriptor,
             Call::FindRecord { .. } => Function::FindRecord,
+            Call::MoveImage { .. } => Function::MoveImage,
             Call::Vic(call) => call.function(),
             Call::Timer(call) => call.function(),
         }
@@ -294,6 +300,8 @@ impl Call {
             Call::FindRecord { ledger, used, run, address, answer } =>
                 vec![Lent("ledger", ledger), Long(used), Long(run), Long(address),
                      Lent("answer", answer)],
+            Call::MoveImage { from, to } =>
+                vec![Lent("from", from), Lent("to", to)],
             Call::Vic(call) => call.arguments(),
             Call::Timer(call) => call.arguments(),
         }
@@ -312,6 +320,7 @@ impl Display for Call {
             Function::BuildDescriptor => "build_descriptor",
             Function::ReadDescriptor => "read_descriptor",
             Function::FindRecord => "find_record",
+            Function::MoveImage => "move_image",
             Function::VicCreate => "vic_create",
             Function::VicConfigure => "vic_configure",
             Function::VicEnable => "vic_enable",
@@ -396,6 +405,7 @@ impl<Model: Calls> Party for Model {
                 self.sgdma_read_descriptor(window, *base, *address, answer),
             Call::FindRecord { ledger, used, run, address, answer } =>
                 self.sgdma_find_record(ledger, *used, *run, *address, answer),
+            Call::MoveImage { from, to } => self.sgdma_move_image(from, to),
             Call::Vic(call) => call.answer(*self),
             Call::Timer(call) => call.answer(*self),
         }

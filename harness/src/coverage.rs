@@ -6,6 +6,7 @@
 
 pub mod controllers;
 mod counts;
+pub mod editions;
 pub mod findings;
 mod ledgers;
 mod observe;

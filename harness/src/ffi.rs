@@ -76,6 +76,12 @@ pub mod c {
             answer: *mut u8,
             answer_len: usize,
         ) -> u32;
+        pub fn sgdma_move_image(
+            from: *const u8,
+            from_len: usize,
+            to: *mut u8,
+            to_len: usize,
+        ) -> u32;
         pub fn sgdma_vic_create(
             vic: *mut u8,
             vic_len: usize,
@@ -183,6 +189,8 @@ pub(crate) fn answer(library: Library, call: &mut Call) -> u32 {
             Call::FindRecord { ledger, used, run, address, answer } =>
                 c::sgdma_find_record(library.lend(ledger), ledger.len(), *used, *run, *address,
                                      library.lend_mut(answer), answer.len()),
+            Call::MoveImage { from, to } =>
+                c::sgdma_move_image(library.lend(from), from.len(), library.lend_mut(to), to.len()),
             Call::Vic(call) => answer_controller(library, call),
             Call::Timer(call) => answer_timer(library, call),
         }

@@ -9,6 +9,7 @@
 
 mod beside;
 mod controllers;
+mod editions;
 mod findings;
 mod images;
 mod layout;
@@ -18,6 +19,7 @@ mod slots;
 mod timers;
 
 pub use controllers::ControllerHost;
+pub use editions::EditionHost;
 pub use findings::FindingHost;
 pub use rng::Rng;
 pub use timers::TimerHost;
@@ -25,13 +27,11 @@ pub use timers::TimerHost;
 use crate::call::{Call, Lent};
 use crate::model::{
     control, offset, Image, Mode, Paper, Phase, Window, Windows, DESCRIPTOR_ANSWER_SIZE,
-    DESCRIPTOR_SIZE, IMAGE_SIZE, REPORT_SIZE, VALUE_SIZE,
+    DESCRIPTOR_SIZE, IMAGE_SIZE, OLD_IMAGE_SIZE, REPORT_SIZE, VALUE_SIZE,
 };
 
 const CALLS_WITH_ONE_WINDOW: u64 = 40;
 const TWO_TO_32: u64 = 1 << 32;
-/// The bytes of an image before there was a slot: another size like any other.
-const EDITION_1_SIZE: usize = 44;
 
 /// Whoever makes calls that lead to one another.
 pub trait Hosts {
@@ -162,7 +162,7 @@ impl Host {
         };
         let mut size = self.rng.size(IMAGE_SIZE);
         if self.rng.chance(1) {
-            size = EDITION_1_SIZE;
+            size = OLD_IMAGE_SIZE;
         }
         bytes.resize(size, 0);
         Lent::from(bytes)

@@ -1,6 +1,7 @@
 //! The core as the scope paper describes it, written from the paper alone, and
 //! the field of a refused image, the ledger, the descriptor read ahead, the run
-//! number, the interrupt controller and the interval timer as their requests do.
+//! number, the moves between the editions of an image, the interrupt controller
+//! and the interval timer as their requests do.
 //!
 //! One step moves one byte and steps are taken one by one. Each sentence of the
 //! paper is one small rule, and the rules are provided methods of a few traits,
@@ -12,6 +13,7 @@
 mod calls;
 mod controllers;
 mod descriptors;
+mod editions;
 mod findings;
 mod images;
 mod ledgers;
@@ -27,6 +29,7 @@ pub use controllers::{
     Choice, Config, Controller, Controllers, CHOICE_SIZE, CONTROLLER_FIELDS, CONTROLLER_SIZE, PORTS,
 };
 pub use descriptors::{descriptor_control, Descriptor, Descriptors, DESCRIPTOR_SIZE};
+pub use editions::{Editions, OLD_IMAGE_SIZE};
 pub use findings::{Findings, FINDING_SIZE};
 pub use images::{Image, ImageRule, Images, IMAGE_SIZE};
 pub use ledgers::{Ledger, Ledgers, Record, RECORD_SIZE};
@@ -51,6 +54,7 @@ impl Ledgers for Paper {}
 impl Findings for Paper {}
 impl Steps for Paper {}
 impl Images for Paper {}
+impl Editions for Paper {}
 impl Controllers for Paper {}
 impl Timers for Paper {}
 impl Calls for Paper {}

@@ -3,7 +3,7 @@
 -- Assumes nothing.
 use Prim.Native.Nat.{ℕ, _+_, _*_}
 use Rattle.bus.specs.declared.Refusal.{Refusal}
-use Rattle.bus.specs.declared.Refusal.the-variants.{NoRegister, BadMode, BadWindow, OtherWindow, Misaligned, Outside, BadSize, BadImage, OddStream, NoTimerRegister, NotFullPeriod, RunUnknown, BadLedger, NoPort, AddressTooLarge}
+use Rattle.bus.specs.declared.Refusal.the-variants.{NoRegister, BadMode, BadWindow, OtherWindow, Misaligned, Outside, BadSize, BadImage, OddStream, SlotHeld, NoTimerRegister, NotFullPeriod, RunUnknown, BadLedger, NoPort, AddressTooLarge}
 
 abbrev pub refusalNumber : Refusal → ℕ
 refusalNumber NoRegister = 1
@@ -15,6 +15,7 @@ refusalNumber Outside = 6
 refusalNumber BadSize = 7
 refusalNumber (BadImage field) = 8 + 256 * field
 refusalNumber OddStream = 9
+refusalNumber SlotHeld = 15
 refusalNumber NoTimerRegister = 16
 refusalNumber NotFullPeriod = 17
 refusalNumber RunUnknown = 18

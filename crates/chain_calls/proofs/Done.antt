@@ -14,7 +14,7 @@ use Rattle.words.specs.Orders.{bytesOf, numberOf}
 use Rattle.words.specs.Slices.{AllBytes}
 use Rattle.words.proofs.Orders.{number-bytes}
 use Rattle.bus.specs.declared.Refusal.{Refusal}
-use Rattle.bus.specs.declared.Refusal.the-variants.{NoRegister, BadMode, BadWindow, OtherWindow, Misaligned, Outside, BadSize, BadImage, OddStream, NoTimerRegister, NotFullPeriod, RunUnknown, BadLedger, NoPort, AddressTooLarge}
+use Rattle.bus.specs.declared.Refusal.the-variants.{NoRegister, BadMode, BadWindow, OtherWindow, Misaligned, Outside, BadSize, BadImage, OddStream, SlotHeld, NoTimerRegister, NotFullPeriod, RunUnknown, BadLedger, NoPort, AddressTooLarge}
 use Rattle.bus.specs.Refusal.{refusalNumber}
 use Rattle.image.specs.Promise.{sized}
 use Rattle.ledger.specs.declared.Entry.{Entry}
@@ -68,6 +68,7 @@ not-zero Outside e = omega arith
 not-zero BadSize e = omega arith
 not-zero (BadImage field) e = omega arith
 not-zero OddStream e = omega arith
+not-zero SlotHeld e = omega arith
 not-zero NoTimerRegister e = omega arith
 not-zero NotFullPeriod e = omega arith
 not-zero RunUnknown e = omega arith

@@ -21,6 +21,7 @@ use Rattle.image.specs.Layout.{fields, tail}
 use Rattle.image.specs.Rules.{keepsRules}
 use Rattle.image.specs.Promise.{sized}
 use Rattle.image.specs.Promise as image
+use Rattle.image.specs.Editions.{ImageMoved}
 use Rattle.image.proofs.RoundTrip.{length-image}
 use Rattle.machine.specs.declared.Machine.{Machine}
 use Rattle.machine.specs.declared.LoadedMachine.{LoadedMachine}
@@ -37,6 +38,7 @@ use Rattle.machine.proofs.Answers.{was-loaded, was-written}
 use Rattle.met.specs.Met.{Met}
 use Rattle.met.specs.Met as met
 use Rattle.met.proofs.RoundTrip.{loaded-typed, loads-exactly}
+use Rattle.met.proofs.Editions.{moved-loads}
 use Rattle.sgdma.specs.Calls.{imageOf, isSize, ifDone, Created, writtenIn, writtenOver, RegisterWritten, runCall, ranOver}
 use Rattle.sgdma.proofs.Opened.{second-wrong}
 use Rattle.chain_calls.specs.InC.{RunLent, RunLeft, Promised}
@@ -115,9 +117,14 @@ module _ {x : RunLent} {y : RunLeft} (b : LoadsBack (x .image)) (window : AllByt
   by-report true e = run-back (eqb-true _ _ e) _ refl
   by-report false e = refused-back (second-wrong _ _ 18 (x .image) (x .report) size (eqb-false _ _ e))
 
+-- a move that was done, of an image of either edition
+moved-back : (xs to : List ℕ) {ys : List ℕ} → AllBytes xs → length to ≡ 85 → ImageMoved xs to 0 ys → LoadsBack ys
+moved-back xs to {ys} g l m = let loads = moved-loads xs to ys g l m in loaded-back (loads .1) (loads .2)
+
 -- Every image in use loads back.
 pub images-load : ImagesLoad
 images-load _ (images.created c) = created-back c
 images-load _ (images.loaded g e) = loaded-back g e
 images-load _ (images.written h v w) = write-back (images-load _ h) v w _ refl
 images-load _ (images.ran h g b p) = by-report (images-load _ h) g b p _ refl
+images-load _ (images.moved xs to g l m) = moved-back xs to g l m

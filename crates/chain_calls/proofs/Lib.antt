@@ -8,6 +8,7 @@ pub mod Behind
 pub mod Done
 pub mod TwoRuns
 pub mod OfVic
+pub mod OfMoves
 pub mod OfTimer
 pub mod Ledger
 pub mod Obeys

@@ -14,6 +14,7 @@ use Rattle.regs.specs.Offsets.{isRegister}
 use Rattle.image.specs.Layout.{fields, tail}
 use Rattle.image.specs.Rules.{lowestBroken, keepsRules}
 use Rattle.image.specs.Promise.{sized}
+use Rattle.image.specs.Editions.{editionOf, isImage, brokenIn, slotHeld}
 use Rattle.ledger.specs.Records.{isLedger}
 use Rattle.machine.specs.Run.{Lent, even}
 use Rattle.sgdma.specs.Calls.{isSize}
@@ -47,9 +48,9 @@ abbrev pub first : List Test → ℕ
 first [] = 0
 first (t ∷ ts) = cond (t .applies) (told t) (first ts)
 
--- "First that applies: 7, 8, 9, 19, 18, 2, 3, 4, 1, 5, 6", then those of the timer: 16, 17, and of the controller: 21, 22
+-- "First that applies: 7, 8, 9, 19, 18, 2, 3, 4, 1, 5, 6", with 15 "after 8"; then those of the timer: 16, 17, and of the controller: 21, 22
 abbrev pub order : List ℕ
-order = 7 ∷ 8 ∷ 9 ∷ 19 ∷ 18 ∷ 2 ∷ 3 ∷ 4 ∷ 1 ∷ 5 ∷ 6 ∷ 16 ∷ 17 ∷ 21 ∷ 22 ∷ []
+order = 7 ∷ 8 ∷ 15 ∷ 9 ∷ 19 ∷ 18 ∷ 2 ∷ 3 ∷ 4 ∷ 1 ∷ 5 ∷ 6 ∷ 16 ∷ 17 ∷ 21 ∷ 22 ∷ []
 
 -- whether tests come in an order
 abbrev pub comeIn : List ℕ → List Test → Bool
@@ -99,6 +100,14 @@ badSize right = 7 when not right
 -- 8, BadImage: an image read breaks a rule; with the lowest field that does
 abbrev pub badImage : List ℕ → Test
 badImage xs = record { number = 8; field = lowestBroken (fields xs) (tail xs); applies = not (keepsRules (fields xs) (tail xs)) }
+
+-- 8 of an image that is moved: it breaks a rule of its edition, which its size tells; with the lowest field that does
+abbrev pub badEdition : List ℕ → Test
+badEdition xs = record { number = 8; field = brokenIn xs; applies = not (eqb (brokenIn xs) 0) }
+
+-- 15, SlotHeld: a slot is held, and the edition moved to has none
+abbrev pub heldSlot : (xs to : List ℕ) → Test
+heldSlot xs to = 15 when (slotHeld xs && ltb (editionOf to) 2)
 
 -- 9, OddStream: odd number of beat bytes, in or out
 abbrev pub oddStream : (beats out : List ℕ) → Test
@@ -167,6 +176,10 @@ descriptorTests window base a answer = badSize (isSize 18 answer) ∷ buildTests
 
 abbrev pub findTests : (ledger : List ℕ) (used run : ℕ) (answer : List ℕ) → List Test
 findTests ledger used run answer = badSize (isSize 4 answer) ∷ badLedger ledger used ∷ runUnknown run ∷ []
+
+-- both sizes are an edition's
+abbrev pub moveTests : (xs to : List ℕ) → List Test
+moveTests xs to = badSize (isImage xs && isImage to) ∷ badEdition xs ∷ heldSlot xs to ∷ []
 
 -- ---- and each call on a timer
 

@@ -8,6 +8,7 @@ use lib.ListN.{length}
 use Rattle.words.specs.Promise.{Answers}
 use Rattle.descriptor.specs.declared.Job.{Job}
 use Rattle.ledger.specs.declared.Entry.{Entry}
+use Rattle.image.specs.Editions.{ImageMoved}
 use Rattle.machine.specs.declared.Machine.{Machine}
 use Rattle.machine.specs.declared.LoadedMachine.the-variants.{Good}
 use Rattle.machine.specs.Saved.{loadOf}
@@ -21,7 +22,7 @@ use Rattle.vic.specs.Calls.{portNumber, VicCreated, VicChosen}
 use Rattle.chain_calls.specs.InC.{RunLent, RunLeft, Promised, Lends, WellLent, givenIn, Called, AllDone, Found, FoundAtEveryStep}
 use Rattle.chain_calls.specs.Known.{lends, knownLeft}
 use Rattle.chain_calls.specs.Refused.{FirstThatApplies, WhereRefused}
-use Rattle.chain_calls.specs.Refused.{createTests, readTests, writeTests, lineTests, runTests, buildTests, descriptorTests, findTests, vicCreateTests, vicPortTests, vicChooseTests}
+use Rattle.chain_calls.specs.Refused.{createTests, readTests, writeTests, lineTests, runTests, buildTests, descriptorTests, findTests, moveTests, vicCreateTests, vicPortTests, vicChooseTests}
 use Rattle.chain_calls.specs.Refused.{timerCreateTests, timerReadTests, timerWriteTests, timerValueTests, timerElapsedTests}
 use Rattle.chain_calls.specs.TwoRuns.{lentNext, lentWith, DoTheSame}
 use Rattle.chain_calls.specs.Images.{InUse, LoadsBack}
@@ -70,6 +71,10 @@ DescriptorInOrder = (window : List ℕ) (base a : ℕ) (answer : List ℕ) (r : 
 abbrev pub FindInOrder : Type 0
 FindInOrder = (ledger : List ℕ) (used run address : ℕ) (answer : List ℕ) (r : ℕ) (answer' : List ℕ)
     → RecordFound ledger used run address answer r answer' → FirstThatApplies (findTests ledger used run answer) r
+
+-- sgdma_move_image does.
+abbrev pub MoveInOrder : Type 0
+MoveInOrder = (xs to : List ℕ) (r : ℕ) (to' : List ℕ) → ImageMoved xs to r to' → FirstThatApplies (moveTests xs to) r
 
 -- Each of the six calls on a timer does.
 pub record EachInOrder : Type 0 where
@@ -140,6 +145,10 @@ DescriptorUnchanged = (window : List ℕ) (base a : ℕ) (answer : List ℕ) (r 
 abbrev pub FindUnchanged : Type 0
 FindUnchanged = (ledger : List ℕ) (used run address : ℕ) (answer : List ℕ) (r : ℕ) (answer' : List ℕ)
     → RecordFound ledger used run address answer r answer' → WhereRefused r (answer' ≡ answer)
+
+-- sgdma_move_image leaves the bytes that the image was to be moved to.
+abbrev pub MoveUnchanged : Type 0
+MoveUnchanged = (xs to : List ℕ) (r : ℕ) (to' : List ℕ) → ImageMoved xs to r to' → WhereRefused r (to' ≡ to)
 
 -- Each of the six calls on a timer leaves the timer, and the value that it may write.
 pub record EachUnchanged : Type 0 where

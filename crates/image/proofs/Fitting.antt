@@ -27,7 +27,7 @@ flag-lt false = omega arith
 -- ---- what edition 2 adds
 
 -- the numbers of the slot's lines, whose bytes always fit
-tail-fits : (t : Tail) → t .kind < 4 → t .zero6 < 64 → t .at < 4294967296 → t .run < 4294967296 → Fit slotWidths (slotValues t)
+pub tail-fits : (t : Tail) → t .kind < 4 → t .zero6 < 64 → t .at < 4294967296 → t .run < 4294967296 → Fit slotWidths (slotValues t)
 tail-fits t kind zero6 at run = (kind, (zero6, (at, (slot-lt (t .raw), (run, tt)))))
 
 -- ---- the whole

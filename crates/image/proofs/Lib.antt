@@ -9,4 +9,6 @@ pub mod EachRule
 pub mod Facts
 pub mod Fitting
 pub mod Answers
+pub mod Moved
+pub mod Editions
 pub mod ByPhase

@@ -51,7 +51,7 @@ cut-words (f ∷ fs) xs at h =
 
 -- ---- the layout in words
 
-abbrev one : List ℕ
+abbrev pub one : List ℕ
 one = 32 ∷ []
 
 abbrev words : List (List ℕ)
@@ -93,10 +93,10 @@ module _ (xs : List ℕ) (l : length xs ≡ 44) (g : AllBytes xs) where
 -- ---- the whole image
 
 -- its pieces: the first part, and what edition 2 adds, by bytes and by fields
-abbrev sizes : List ℕ
+abbrev pub sizes : List ℕ
 sizes = 44 ∷ 1 ∷ 4 ∷ 32 ∷ 4 ∷ []
 
-abbrev runs : List (List ℕ)
+abbrev pub runs : List (List ℕ)
 runs = widthsOf 1 ∷ (2 ∷ 6 ∷ []) ∷ one ∷ (256 ∷ []) ∷ one ∷ []
 
 same-tail : {k z a n k' z' a' n' : ℕ} {r r' : Raw} → k ≡ k' → z ≡ z' → a ≡ a' → r ≡ r' → n ≡ n'
@@ -104,20 +104,10 @@ same-tail : {k z a n k' z' a' n' : ℕ} {r r' : Raw} → k ≡ k' → z ≡ z' �
     (record { kind = k'; zero6 = z'; at = a'; raw = r'; run = n' })
 same-tail e0 e1 e2 e3 e4 = rw (e0, e1, e2, e3, e4)
 
-module _ (xs : List ℕ) (l : length xs ≡ 85) (g : AllBytes xs) where
-  pieces : recode (bytes 85) widths xs ≡ recodes (map bytes sizes) runs (parts xs sizes)
-  pieces =
-      ap (λ (ys : List ℕ). recode (bytes 85) widths ys) (sym (parts-all xs sizes l))
-      ∙ recode-groups (map bytes sizes) runs (parts xs sizes)
-      (refl, (refl, (refl, (refl, (refl, tt))))) (parts-fit xs sizes (omega arith) g)
-
-  -- the fields of the first part are those of edition 1 in the image's front
-  pub fields-front : fields xs ≡ fieldsIn 1 (take 44 xs)
-  unfolding fields fieldsIn
-  fields-front = ap fromNumbers pieces
-
+-- the first part stands in front of an image of any edition
+module _ (xs : List ℕ) (l : 44 ≤ length xs) (g : AllBytes xs) where
   front-length : length (take 44 xs) ≡ 44
-  front-length = length-take-le 44 xs (omega arith)
+  front-length = length-take-le 44 xs l
 
   front-number : (at : ℕ) → at + 4 ≤ 44 → numberAt MostFirst 4 (take 44 xs) at ≡ numberAt MostFirst 4 xs at
   front-number at h =
@@ -125,13 +115,12 @@ module _ (xs : List ℕ) (l : length xs ≡ 85) (g : AllBytes xs) where
       ∙ ap (numberOf MostFirst) (part-part xs 0 44 at 4 h ∙ ap (λ (n : ℕ). part xs n 4) (zero-add at))
       ∙ sym (number-in xs at MostFirst 4 (omega arith))
 
-  pub fields-words : fields xs
+  pub front-words : fieldsIn 1 (take 44 xs)
       ≡ ofWords (numberAt MostFirst 4 xs 0) (numberAt MostFirst 4 xs 4) (numberAt MostFirst 4 xs 8) (numberAt MostFirst 4 xs 12)
       (numberAt MostFirst 4 xs 16) (numberAt MostFirst 4 xs 20) (numberAt MostFirst 4 xs 24) (numberAt MostFirst 4 xs 28)
       (numberAt MostFirst 4 xs 32) (numberAt MostFirst 4 xs 36) (numberAt MostFirst 4 xs 40)
-  fields-words =
-      fields-front
-      ∙ core-words (take 44 xs) front-length (take-bytes 44 xs g)
+  front-words =
+      core-words (take 44 xs) front-length (take-bytes 44 xs g)
       ∙ rw (
         front-number 0 (lit≤ tt),
         front-number 4 (lit≤ tt),
@@ -145,6 +134,24 @@ module _ (xs : List ℕ) (l : length xs ≡ 85) (g : AllBytes xs) where
         front-number 36 (lit≤ tt),
         front-number 40 (lit≤ tt),
       )
+
+module _ (xs : List ℕ) (l : length xs ≡ 85) (g : AllBytes xs) where
+  pub pieces : recode (bytes 85) widths xs ≡ recodes (map bytes sizes) runs (parts xs sizes)
+  pieces =
+      ap (λ (ys : List ℕ). recode (bytes 85) widths ys) (sym (parts-all xs sizes l))
+      ∙ recode-groups (map bytes sizes) runs (parts xs sizes)
+      (refl, (refl, (refl, (refl, (refl, tt))))) (parts-fit xs sizes (omega arith) g)
+
+  -- the fields of the first part are those of edition 1 in the image's front
+  pub fields-front : fields xs ≡ fieldsIn 1 (take 44 xs)
+  unfolding fields fieldsIn
+  fields-front = ap fromNumbers pieces
+
+  pub fields-words : fields xs
+      ≡ ofWords (numberAt MostFirst 4 xs 0) (numberAt MostFirst 4 xs 4) (numberAt MostFirst 4 xs 8) (numberAt MostFirst 4 xs 12)
+      (numberAt MostFirst 4 xs 16) (numberAt MostFirst 4 xs 20) (numberAt MostFirst 4 xs 24) (numberAt MostFirst 4 xs 28)
+      (numberAt MostFirst 4 xs 32) (numberAt MostFirst 4 xs 36) (numberAt MostFirst 4 xs 40)
+  fields-words = fields-front ∙ front-words xs (omega arith) g
 
   -- a word of what edition 2 adds
   word-of : (at : ℕ) → at + 4 ≤ 85 → join (bytes 4) (part xs at 4) / 2 ^ 0 % 2 ^ 32 ≡ numberAt MostFirst 4 xs at

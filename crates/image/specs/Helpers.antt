@@ -4,3 +4,4 @@
 pub mod InWords
 pub mod ByPhase
 pub mod WasPut
+pub mod InBytes

@@ -4,5 +4,6 @@ pub mod Slot
 pub mod Layout
 pub mod Rules
 pub mod Promise
+pub mod Editions
 pub mod Helpers
 pub mod Theorems

@@ -15,6 +15,7 @@ use Rattle.image.specs.Layout.{valuesOf, widthsOf, imageOf, image, tail,
 use Rattle.image.specs.Slot.{tailBytes}
 use Rattle.image.specs.Rules.{ruleAt, lowestBroken}
 use Rattle.image.specs.Promise.{readOf}
+use Rattle.image.specs.Editions.{editionOf, brokenIn, ImageMoved}
 
 -- An image is read as fields, with such a tail, exactly when it has 85 bytes, they keep the rules and it is their image.
 abbrev pub ReadExactly : Type 0
@@ -25,6 +26,16 @@ ReadExactly = (xs : List ℕ) (f : Fields) (t : Tail) → AllBytes xs → Typed 
 -- what edition 2 adds.
 abbrev pub EditionFront : Type 0
 EditionFront = (f : Fields) (t : Tail) → Fit (widthsOf 2) (valuesOf 2 f t) → imageOf 2 f t ≡ imageOf 1 f t ++ tailBytes t
+
+-- Order 5: "Forward then back gives the old bytes exactly", for every image of edition 1 that keeps the rules of its edition.
+abbrev pub ForwardThenBack : Type 0
+ForwardThenBack = (xs to to' back back' : List ℕ) (r s : ℕ) → AllBytes xs → length xs ≡ 44 → brokenIn xs ≡ 0 → length to ≡ 85 → length back ≡ 44
+    → ImageMoved xs to r to' → ImageMoved to' back s back' → (r ≡ 0) × (s ≡ 0) × (back' ≡ xs)
+
+-- Order 5: an image that keeps the rules of its edition is moved to that edition as it is.
+abbrev pub MovedAsItIs : Type 0
+MovedAsItIs = (xs to to' : List ℕ) (r : ℕ) → AllBytes xs → editionOf xs ≢ 0 → brokenIn xs ≡ 0 → length to ≡ length xs → ImageMoved xs to r to'
+    → (r ≡ 0) × (to' ≡ xs)
 
 -- Order 1: the field told breaks its rule, and every field before it keeps its own.
 abbrev pub FieldTold : Type 0

@@ -1,4 +1,7 @@
-// The saved image of a machine: 85 bytes, its fields as numbers, and the rule that each field keeps.
+// The saved image of a machine: 85 bytes, its fields as numbers, and the rule that each field keeps. The images of an earlier edition, and
+// the way from one to the other, stand in `moves`.
+pub mod moves;
+
 ghost use mathlib.Core.Bool.{true, false};
 ghost use mathlib.Core.Path.{_≡_};
 ghost use lib.ListN.{length};

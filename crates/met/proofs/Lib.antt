@@ -1,5 +1,6 @@
 pub mod Numbers
 pub mod RoundTrip
+pub mod Editions
 pub mod Kept
 pub mod ByParts
 pub mod Writes

@@ -138,7 +138,7 @@ read-from t (read.Good f) m e = (f, refl, cc)
 read-from t (read.Refused why) m e = absurd (let z : _≡_ {A = ℕ} 0 1 = cc in omega arith)
 
 module _ {xs : List ℕ} {m : Machine} (l : core.WasLoaded xs (Good m)) where
-  from-read : (f : Fields) × (readOf xs ≡ read.Good f) × (m ≡ core.machineOf f (tail xs))
+  pub from-read : (f : Fields) × (readOf xs ≡ read.Good f) × (m ≡ core.machineOf f (tail xs))
   unfolding core.loadOf
   from-read = read-from (tail xs) (readOf xs) m (l .answer)
 

@@ -1,5 +1,6 @@
 pub mod Sound
 pub mod Met
+pub mod Forward
 pub mod Faults
 pub mod Reading
 pub mod Unused

@@ -9,7 +9,8 @@ use lib.ListN.{length}
 use Rattle.words.specs.Bits.{bit}
 use Rattle.words.specs.Numbers.{Fit}
 use Rattle.words.specs.Slices.{AllBytes}
-use Rattle.image.specs.Layout.{values, widths, image, Typed}
+use Rattle.image.specs.Layout.{fieldsIn, values, widths, image, Typed}
+use Rattle.image.specs.Editions.{brokenIn, ImageMoved}
 use Rattle.descriptor.specs.declared.Raw.{Raw}
 use Rattle.descriptor.specs.declared.Look.the-variants.{There}
 use Rattle.descriptor.specs.Looking.{namedIn, lookAt, WordsFit}
@@ -17,6 +18,7 @@ use Rattle.regs.specs.Control as control
 use Rattle.regs.specs.Control.{raised}
 use Rattle.machine.specs.declared.Core.{Core}
 use Rattle.machine.specs.declared.Slot.{Slot}
+use Rattle.machine.specs.declared.Slot.the-variants.{Empty}
 use Rattle.machine.specs.declared.Machine.{Machine}
 use Rattle.machine.specs.State.{home, settled}
 use Rattle.machine.specs.declared.Work.{Work}
@@ -30,12 +32,13 @@ use Rattle.machine.specs.declared.SavedMachine.the-variants as saved
 use Rattle.machine.specs.declared.Ran.{Ran}
 use Rattle.machine.specs.declared.RunAnswer.the-variants as many
 use Rattle.machine.specs.declared.registers.WroteRegister.the-variants as wrote
-use Rattle.machine.specs.Saved.{fieldsOf, tailOf, keeps, spoiled, loadOf, WasLoaded, WasSaved}
+use Rattle.machine.specs.Saved.{fieldsOf, coreOf, tailOf, keeps, spoiled, loadOf, WasLoaded, WasSaved}
 use Rattle.machine.specs.Registers.{WasWritten}
 use Rattle.machine.specs.Step.{World, homeBytes, taken, holding, seen, writtenControl, writtenBack, step}
 use Rattle.machine.specs.Run.{run, Lent, Returned, worldOf, HasRun}
 use Rattle.met.specs.Sound.{Sound, SoundWorld}
 use Rattle.met.specs.Met.{Met}
+use Rattle.met.specs.Forward.{inRunZero}
 use Rattle.met.specs.Faults.{AfterWrite}
 use Rattle.met.specs.Reading.{over, ReadsSame, Alike, ToFetch}
 use Rattle.met.specs.Obeys.{longest, Cleared, owes, Supplied, Obeyed, Stands, RunsOn, ObeyedRun}
@@ -62,6 +65,23 @@ LoadsExactly = (xs : List ℕ) (m : Machine) → AllBytes xs → Typed (fieldsOf
 -- has one.
 abbrev pub SameField : Type 0
 SameField = (m : Machine) → Fit widths (values (fieldsOf (m .core)) (tailOf m)) → WordsFit (tailOf m .raw) → keeps m ≡ false → loadOf (image (fieldsOf (m .core)) (tailOf m)) ≡ Refused (spoiled m)
+
+-- Order 5: a machine moved forward is that of its old fields with an empty slot and run number 0, so that every register read, run and
+-- line of it answers as that machine's.
+abbrev pub MovedForward : Type 0
+MovedForward = (xs to to' : List ℕ) (r : ℕ) → length xs ≡ 44 → brokenIn xs ≡ 0 → length to ≡ 85 → ImageMoved xs to r to'
+    → (r ≡ 0) × (loadOf to' ≡ Good (inRunZero (coreOf (fieldsIn 1 xs))))
+
+-- Order 5: a move back is allowed exactly when the slot is empty.
+abbrev pub BackExactly : Type 0
+BackExactly = (xs to to' : List ℕ) (m : Machine) (r : ℕ) → loadOf xs ≡ Good m → length to ≡ 44 → ImageMoved xs to r to'
+    → (r ≡ 0) ↔ (m .slot ≡ Empty)
+
+-- Order 5: "back then forward gives the machine with run number 0". Its slot was empty.
+abbrev pub BackThenForward : Type 0
+BackThenForward = (xs to to' again again' : List ℕ) (m : Machine) (r s : ℕ) → loadOf xs ≡ Good m → m .slot ≡ Empty
+    → length to ≡ 44 → length again ≡ 85 → ImageMoved xs to r to' → ImageMoved to' again s again'
+    → (r ≡ 0) × (s ≡ 0) × (loadOf again' ≡ Good (inRunZero (m .core)))
 
 -- ---- the rules are kept
 

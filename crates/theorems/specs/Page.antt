@@ -1,19 +1,20 @@
 -- Begin here: what is proved of the core, on one page. Each theorem has the sentence that it carries, the name of its statement and, by
 -- its path, the term that proves it. A statement stands whole, with every premise, under its name in specs/Theorems.antt of its crate;
--- those of image_rows in its specs/Rows.antt, and those of sgdma beside the promises, in its specs/Calls.antt. What else a reader
+-- those of image_rows in its specs/Rows.antt and Moves.antt, and those of sgdma beside the promises, in its specs/Calls.antt. What else a reader
 -- believes are the definitions that the statements use, all of them in specs/.
 -- Assumes nothing.
 use Rattle.words.specs.Promise.{AnswersUnique}
 use Rattle.words.specs.Theorems.{RecodeBack, FieldsPacked, RowBack, RowThere}
 use Rattle.bus.specs.Theorems.{LocatedIs}
-use Rattle.image.specs.Theorems.{ReadExactly, EditionFront, FieldTold}
+use Rattle.image.specs.Theorems.{ReadExactly, EditionFront, ForwardThenBack, MovedAsItIs, FieldTold}
 use Rattle.image_rows.specs.Rows.{RowsHold, SampleWritten, SampleRead}
+use Rattle.image_rows.specs.Moves.{MovesHold}
 use Rattle.descriptor.specs.Theorems.{LengthJob, ByOffset, ReadAfterBuild, BuildAfterRead}
 use Rattle.ledger.specs.Theorems.{FoundExactly, NotFoundExactly, RecordsBack, AppendedFound}
 use Rattle.machine.specs.Theorems.{RunAdd, RunTells, BudgetOnly, ResumedRuns, StepPassed, StepSpares, RowSteps, CopySteps, SendSteps, ReceiveSteps}
 use Rattle.known_runs.specs.Theorems.{KnownRunsHold, WorkedCasesHold}
 use Rattle.met.specs.Theorems.{FaultedStands, OnlyResetLeaves, ReadInFetchAlone, UsedAsRead, SlotOutlives, RunNumberRises, RunNumberStays, NoEffectInFetch, NoEffectInMove, NoEffectInWriteBack, KeptAsGiven}
-use Rattle.met.specs.Theorems.{LoadsExactly, SameField, SavedAgain, LoadsBack, WriteKeeps, StepKeeps, RunKeeps, MetKeeps, MetSaves}
+use Rattle.met.specs.Theorems.{LoadsExactly, SameField, SavedAgain, LoadsBack, MovedForward, BackExactly, BackThenForward, WriteKeeps, StepKeeps, RunKeeps, MetKeeps, MetSaves}
 use Rattle.met.specs.Theorems.{OwesAtMost, OwesSteps, StandsThen, Obeys, RunsObey, ClearedByWrite, ObeysInRun, BoundIsMet}
 use Rattle.sums.specs.Theorems.{OneRecordEach, SessionAdds}
 use Rattle.chain.specs.Theorems.{ChainTheorem, ChainAtEveryStep, ChainRecords, BudgetExists, RunsTwice, ChainOfRun, ChainOfRunAtEveryStep, EachFound, KnownRun1, ChainOfThree}
@@ -24,7 +25,7 @@ use Rattle.chain_calls.specs.Theorems.{ReadUnchanged, WriteUnchanged, LineUncha
 use Rattle.chain_calls.specs.Theorems.{NoneRefused, ChainOfCalls, ChainOfCallsAtEveryStep, KnownRun1InC, HonestKeeps, RefuserFails, FixedFails}
 use Rattle.chain_calls.specs.Theorems.{NeverMovingFails, MarkerFails, MadeUpFails, UnrecordedFails, TwoRunsAdd, OneRecordEachInC, SessionAddsInC, EachFoundInC, ObeysInC}
 use Rattle.chain_calls.specs.Theorems.{VicCreateInOrder, VicPortInOrder, VicChooseInOrder, VicUnchanged}
-use Rattle.chain_calls.specs.Theorems.{TimerInOrder, TimerUnchanged}
+use Rattle.chain_calls.specs.Theorems.{MoveInOrder, MoveUnchanged, TimerInOrder, TimerUnchanged}
 use Rattle.chain_calls.specs.Theorems.{FindInOrder, FindUnchanged}
 use Rattle.timer.specs.Calls.{TimerRanUnique}
 use Rattle.timer.specs.Theorems.{TicksAdd, ZerosWithin, TicksSetTO, ReachesEveryPeriod, OneShot, ElapsedIsTicks, TimerSavesLoaded, TimerMetSaves, TimersLoad}
@@ -71,7 +72,8 @@ record-found-unique = Rattle.sgdma.specs.Calls.record-found-unique
 pub timer-ran-unique : TimerRanUnique
 timer-ran-unique = Rattle.timer.specs.Calls.timer-ran-unique
 
--- No second outcome of another call on a timer keeps its promise, nor one of a call on a controller: these promises are of one form.
+-- No second outcome of another call on a timer keeps its promise, nor one of a call on a controller, nor one of sgdma_move_image: these
+-- promises are of one form.
 pub answers-unique : AnswersUnique
 answers-unique = Rattle.words.specs.Promise.answers-unique
 
@@ -108,6 +110,10 @@ descriptor-in-order = Rattle.chain_calls.proofs.Refused.descriptor-in-order
 -- sgdma_find_record gives back the first that applies.
 pub find-in-order : FindInOrder
 find-in-order = Rattle.chain_calls.proofs.Refused.find-in-order
+
+-- sgdma_move_image gives back the first that applies.
+pub move-in-order : MoveInOrder
+move-in-order = Rattle.chain_calls.proofs.OfMoves.move-in-order
 
 -- sgdma_timer_create, sgdma_timer_read, sgdma_timer_write, sgdma_timer_line, sgdma_timer_run and sgdma_timer_elapsed give back the first
 -- that applies.
@@ -159,6 +165,10 @@ descriptor-unchanged = Rattle.chain_calls.proofs.Unchanged.descriptor-unchanged
 -- sgdma_find_record, refused, leaves the answer.
 pub find-unchanged : FindUnchanged
 find-unchanged = Rattle.chain_calls.proofs.Unchanged.find-unchanged
+
+-- sgdma_move_image, refused, leaves the bytes that the image was to be moved to.
+pub move-unchanged : MoveUnchanged
+move-unchanged = Rattle.chain_calls.proofs.OfMoves.move-unchanged
 
 -- A call on a timer, refused, leaves the timer and the value.
 pub timer-unchanged : TimerUnchanged
@@ -324,6 +334,28 @@ met-saves = Rattle.met.proofs.InUse.met-saves
 pub images-load : ImagesLoad
 images-load = Rattle.chain_calls.proofs.Images.images-load
 
+-- ---- images of another edition
+
+-- Order 5: forward then back gives the old bytes exactly, for every image of edition 1 that keeps its rules.
+pub forward-then-back : ForwardThenBack
+forward-then-back = Rattle.image.proofs.Editions.forward-then-back
+
+-- Order 5: back then forward gives the machine with run number 0.
+pub back-then-forward : BackThenForward
+back-then-forward = Rattle.met.proofs.Editions.back-then-forward
+
+-- Order 5: a machine moved forward is that of its old fields, with an empty slot and run number 0.
+pub moved-forward : MovedForward
+moved-forward = Rattle.met.proofs.Editions.moved-forward
+
+-- Order 5: a move back is allowed exactly when the slot is empty.
+pub back-exactly : BackExactly
+back-exactly = Rattle.met.proofs.Editions.back-exactly
+
+-- Order 5: an image that keeps the rules of its edition is moved to that edition as it is.
+pub moved-as-it-is : MovedAsItIs
+moved-as-it-is = Rattle.image.proofs.Editions.moved-as-it-is
+
 -- ---- descriptors as bytes
 
 -- The bytes that the builder writes are 32.
@@ -381,6 +413,10 @@ sample-written = Rattle.image_rows.specs.Rows.sample-written
 -- And the fields that the bytes are read as.
 pub sample-read : SampleRead
 sample-read = Rattle.image_rows.specs.Rows.sample-read
+
+-- Each worked move of an image gives its number and leaves its bytes.
+pub moves-hold : MovesHold
+moves-hold = Rattle.image_rows.specs.Moves.moves-hold
 
 -- ======== demand 3: what one run makes of a chain of descriptors and of a stream
 

@@ -36,7 +36,7 @@ const REFUSALS: [CallRefusals; 7] = [
 
 /// The fields of an image against which some rule counts. No rule counts against
 /// armed, pending, pointer, base and run number, which are 4, 5, 10, 11 and 27.
-const FIELDS: [u8; 22] = [
+pub(super) const FIELDS: [u8; 22] = [
     1, 2, 3, 6, 7, 8, 9, 12, 13, 14, 15, 16, 17, 18, 19, 20, 21, 22, 23, 24, 25, 26,
 ];
 
@@ -81,6 +81,8 @@ pub fn applying(call: &Call) -> Vec<Refusal> {
     applying.retain(|&refusal| match refusal {
         BadSize => has_bad_size(call),
         BadImage => has_bad_image(call),
+        // Of a move alone, which its own coverage looks at.
+        SlotHeld => false,
         OddStream => has_odd_stream(call),
         BadLedger => LedgerFlaw::of(call).is_some(),
         BadMode => matches!(call, Call::Create { mode, .. } if *mode > 2),

@@ -1,4 +1,4 @@
-//! The seven calls on a core for a C host, on bytes; what is asked of a ledger, and
+//! The eight calls on a core for a C host, on bytes; what is asked of a ledger, and
 //! the calls on a controller and on a timer, stand with these.
 //!
 //! Their arguments are those of the C prototypes, with a slice for a pointer and
@@ -7,8 +7,8 @@
 //! paper's order, and only then writes.
 
 use super::{
-    Controllers, Descriptor, Findings, Images, Ledger, Machine, Mode, Ports, Report, Steps, Timers,
-    Window, DESCRIPTOR_SIZE,
+    Controllers, Descriptor, Editions, Findings, Ledger, Machine, Mode, Ports, Report, Steps,
+    Timers, Window, DESCRIPTOR_SIZE,
 };
 
 /// With the ledger "32 bits more in the report, now 18 bytes"
@@ -30,14 +30,17 @@ pub enum Refusal {
     BadSize = 7,
     BadImage = 8,
     OddStream = 9,
+    SlotHeld = 15,
     BadLedger = 19,
 }
 
 impl Refusal {
-    /// "First that applies: 7, 8, 9, 2, 3, 4, 1, 5, 6", and 19 "after 9".
-    pub const ORDER: [Refusal; 10] = [
+    /// "First that applies: 7, 8, 9, 2, 3, 4, 1, 5, 6", and 15 "after 8", 19 "after
+    /// 9".
+    pub const ORDER: [Refusal; 11] = [
         Refusal::BadSize,
         Refusal::BadImage,
+        Refusal::SlotHeld,
         Refusal::OddStream,
         Refusal::BadLedger,
         Refusal::BadMode,
@@ -99,7 +102,7 @@ fn window_at(base: u64, memory: &[u8]) -> Window {
     }
 }
 
-pub trait Calls: Steps + Findings + Images + Controllers + Timers {
+pub trait Calls: Steps + Findings + Editions + Controllers + Timers {
     /// What the model is called where its answers differ from another's.
     const NAME: &'static str = "model";
 
@@ -212,6 +215,10 @@ pub trait Calls: Steps + Findings + Images + Controllers + Timers {
             *answer = self.answer_bytes(&self.read_fields(bytes));
             Ok(())
         })())
+    }
+
+    fn sgdma_move_image(self, from: &[u8], to: &mut [u8]) -> u32 {
+        number(self.move_image(from, to))
     }
 
     fn check_mode(self, mode: u32) -> Result<(), Refusal> {

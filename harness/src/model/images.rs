@@ -8,7 +8,7 @@ use super::{
 /// "The image becomes edition 2: .. 85 bytes", bits most significant first.
 pub const IMAGE_SIZE: usize = 85;
 
-const EDITION: u8 = 2;
+pub(super) const EDITION: u8 = 2;
 
 /// The numbers of an image in the paper's order, whether they keep the rules or
 /// not.
