@@ -1,21 +1,49 @@
 # make bench   the main job: what the bench firmware does, against the model
+# make board   firmware that knows nothing of the model, run on a board that is the model
+# make wave    the same as a wave: a VCD file, for GTKWave
+# make picture  what GTKWave shows of it, as docs/samples.png and docs/copier.png
+# make ledger  a saved ledger as a table and, where it is long, as a timeline: make ledger FILE=..
 # make speed   how fast the library is, against two models, the moves alone and a plain copy
+# make examples  the same forty lines in C, C++, Rust and Python
+# make install   the header, both libraries, the pkg-config file and the manual page: make install PREFIX=..; make uninstall
 # make test    the gate: every proof, every edit that must fail, every test
 #
 # SGDMA_LIB_DIR is the directory of libsgdma.a, where it is not the one to which 'rt staticlib sgdma' writes it.
 
-.PHONY: bench speed test bridge-command
+.PHONY: bench board wave picture ledger examples shared install uninstall speed test bridge-command target-syntax running compiler anew
 
 SGDMA_LIB_DIR ?= target/staticlib
 LIBRARY = $(SGDMA_LIB_DIR)/libsgdma.a
 INCLUDE = include
 BUILD = target/c
+FIRMWARE_DIR = board/firmware
+FIRMWARES = $(patsubst $(FIRMWARE_DIR)/%.c,%,$(wildcard $(FIRMWARE_DIR)/*.c))
 
 CFLAGS = -O2 -g
 WARNINGS = -Wall -Wextra -Wpedantic -Wconversion
 include bench/processor.mk
 
 bench: run-bench
+
+board: $(addprefix run-board-,$(FIRMWARES))
+
+# The run of one firmware as a wave: make wave FIRMWARE=copier; one that lies elsewhere with FIRMWARE_DIR=..
+FIRMWARE = samples
+STEM = $(BUILD)/$(FIRMWARE)
+
+# The registers by their addresses, which the view shows in place of numbers, are those that the reports name. A board that was stopped
+# leaves its wave too.
+wave: $(BUILD)/board-$(FIRMWARE)
+	@rm -f $(STEM).reports
+	@$(RUN) $< $(STEM); ended=$$?; [ -e $(STEM).reports ] || exit $$ended; \
+		awk '$$1 != "step" { print substr($$3, 3), $$7, $$6 }' $(STEM).reports | sort -u >$(STEM).registers; \
+		printf '\nThe wave is %s. To look at it: gtkwave %s\n' $(STEM).vcd '$(STEM).vcd $(wildcard board/$(FIRMWARE).gtkw)'; exit $$ended
+
+picture: $(patsubst board/%.gtkw,picture-%,$(wildcard board/*.gtkw))
+
+picture-%:
+	@$(MAKE) -s wave FIRMWARE=$* >/dev/null
+	@bash board/picture $(BUILD)/$*.vcd board/$*.gtkw docs/$*.png
 
 # Builds and runs one of the C programs below.
 run-%: $(BUILD)/%
@@ -39,10 +67,96 @@ $(BUILD)/bench: $(wildcard bench/*.c)
 $(BUILD)/tests: $(filter-out tests/header.c,$(wildcard tests/*.c)) bench/core.c bench/timer.c
 $(BUILD)/example: $(BUILD)/example.c
 $(BUILD)/bridge: harness/bridge/bridge.c
+$(BUILD)/ledger: $(wildcard ledger/*.c) bench/core.c bench/tell.c bench/progress.c
 
-$(BUILD)/bench $(BUILD)/tests $(BUILD)/example $(BUILD)/bridge: $(LENT) $(wildcard bench/*.h tests/*.h)
+$(BUILD)/bench $(BUILD)/tests $(BUILD)/example $(BUILD)/bridge $(BUILD)/ledger: $(LENT) $(wildcard bench/*.h tests/*.h ledger/*.h)
 	@mkdir -p $(@D)
 	@$(CC) -std=c99 $(CFLAGS) $(WARNINGS) -I$(INCLUDE) -Ibench -o $@ $(filter %.c,$^) $(LIBRARY) $(LDLIBS)
+
+# Firmware: a file that knows the access macros and nothing of the model. For the board its main has another name, and an access is a
+# call; as for the target an access is a load or a store, and the compiler reads the file alone. It is compiled each time, since one of
+# the same name may lie in another folder.
+FIRMWARE_HEADERS = $(wildcard board/include/*.h board/include/*/*.h board/include/*/*/*.h)
+OF_FIRMWARE = -std=c99 $(CFLAGS) $(WARNINGS) -I$(INCLUDE) -Iboard/include
+BOARD = $(addprefix board/,board.c bus.c description.c interrupts.c saved.c stop.c vic.c) $(addprefix bench/,core.c timer.c controller.c)
+BOARD_HEADERS = $(FIRMWARE_HEADERS) $(LENT) $(wildcard board/*.h bench/*.h tests/*.h tests/board/*.h)
+FOR_BOARD = $(OF_FIRMWARE) -Iboard/include/model -Iboard -Ibench -Itests
+
+$(BUILD)/firmware-%.o: $(FIRMWARE_DIR)/%.c $(FIRMWARE_HEADERS) $(LENT) anew
+	@mkdir -p $(@D)
+	@$(CC) $(OF_FIRMWARE) -Iboard/include/model -Dmain=firmware_main -c -o $@ $<
+
+$(BUILD)/board-tests: $(wildcard tests/board/*.c) tests/check.c board/wave.c bench/progress.c
+$(FIRMWARES:%=$(BUILD)/board-%): $(BUILD)/board-%: $(BUILD)/firmware-%.o board/run.c board/workshop.c board/wave.c bench/tell.c bench/progress.c
+
+$(BUILD)/board-tests $(FIRMWARES:%=$(BUILD)/board-%): $(BOARD) $(BOARD_HEADERS)
+	@mkdir -p $(@D)
+	@$(CC) $(FOR_BOARD) -o $@ $(filter %.o %.c,$^) $(LIBRARY) $(LDLIBS)
+
+target-syntax:
+	@$(CC) $(OF_FIRMWARE) -Iboard/include/hardware -fsyntax-only $(FIRMWARES:%=$(FIRMWARE_DIR)/%.c)
+
+anew:
+
+# A saved ledger. With MEMORY, a dump of the window that begins at BASE, a record that its descriptor contradicts is marked. SVG is
+# where the timeline of a long ledger is written.
+SVG = $(BUILD)/ledger.svg
+
+ledger: $(BUILD)/ledger
+	$(if $(FILE),,$(error make ledger FILE=.., the file of a ledger; and MEMORY=.. with BASE=.., a dump and its bus address))
+	@$(RUN) $< '$(FILE)' '$(SVG)' $(if $(MEMORY),'$(MEMORY)' '$(BASE)')
+
+# What stands before a program that is run; and the compiler.
+running:
+	@echo $(RUN)
+
+compiler:
+	@echo $(CC)
+
+# Installing. VERSION is the edition of the image, which the header tells: a library of another edition does not take this one's bytes.
+# DESTDIR stands before PREFIX where the files are put together for another place.
+PREFIX = /usr/local
+VERSION := $(shell sed -n 's/^\#define SGDMA_EDITION  *\([0-9]*\) .*/\1/p' $(INCLUDE)/sgdma.h)
+TO = $(DESTDIR)$(PREFIX)
+SHARED = $(BUILD)/libsgdma.so.$(VERSION)
+INSTALLED = include/sgdma.h lib/libsgdma.a lib/libsgdma.so.$(VERSION) lib/libsgdma.so lib/pkgconfig/sgdma.pc share/man/man3/sgdma.3
+
+$(SHARED): $(LIBRARY)
+	@mkdir -p $(@D)
+	@$(CC) -shared -o $@ -Wl,-soname,$(@F) -Wl,--whole-archive $< -Wl,--no-whole-archive $(LDLIBS)
+
+shared: $(SHARED)
+
+install: $(LENT) $(SHARED)
+	@install -d $(sort $(dir $(INSTALLED:%=$(TO)/%)))
+	@install -m 644 $(INCLUDE)/sgdma.h $(TO)/include
+	@install -m 644 $(LIBRARY) $(SHARED) $(TO)/lib
+	@ln -sf $(notdir $(SHARED)) $(TO)/lib/libsgdma.so
+	@sed 's|@PREFIX@|$(PREFIX)|; s|@VERSION@|$(VERSION)|' install/sgdma.pc.in >$(TO)/lib/pkgconfig/sgdma.pc
+	@awk -f install/manual $(INCLUDE)/sgdma.h >$(TO)/share/man/man3/sgdma.3
+
+uninstall:
+	@rm -f $(INSTALLED:%=$(TO)/%)
+
+# The same program in four languages.
+LANGUAGES = c cpp rs py
+
+examples: $(LANGUAGES:%=run-example-%)
+
+$(BUILD)/example-c: examples/example.c $(LENT)
+	@mkdir -p $(@D)
+	@$(CC) -std=c99 $(CFLAGS) $(WARNINGS) -I$(INCLUDE) -o $@ $< $(LIBRARY) $(LDLIBS)
+
+$(BUILD)/example-cpp: examples/example.cpp $(LENT)
+	@mkdir -p $(@D)
+	@$(CXX) -std=c++11 $(CFLAGS) $(WARNINGS) -I$(INCLUDE) -o $@ $< $(LIBRARY) $(LDLIBS)
+
+$(BUILD)/example-rs: examples/example.rs $(LENT)
+	@mkdir -p $(@D)
+	@rustc --edition 2021 -D warnings -L $(SGDMA_LIB_DIR) -l static=sgdma -o $@ $<
+
+run-example-py: examples/example.py $(SHARED)
+	@PYTHONDONTWRITEBYTECODE=1 PYTHONPATH=python SGDMA_LIBRARY=$(SHARED) python3 $<
 
 # The command by which the harness reaches the library where it cannot link it.
 bridge-command: $(BUILD)/bridge

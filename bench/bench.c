@@ -358,7 +358,7 @@ static bool play(size_t number, const struct scene *scene)
     printf("\n");
     walk(&end->core, &outcome);
     printf("\n");
-    show_ledger(end);
+    show_ledger(end->ledger, end->taken);
     as = as_it_must_be(scene, end, &outcome);
     if (scene->saved_after || scene->spoiled_after)
         as = same_end(scene, end) && as;

@@ -1,6 +1,7 @@
 //! Choosing a port of an interrupt controller: the library against the model.
 
-use super::{agreed, least_of_both, missed, CALLS_AT_ONCE};
+use super::rows::{heading, Rows};
+use super::CALLS_AT_ONCE;
 use harness::call::{Call, Lent, Party, VicCall};
 use harness::model::{Config, Controller, CHOICE_SIZE};
 
@@ -49,20 +50,14 @@ fn choices() -> [(&'static str, Call); 5] {
 }
 
 pub fn compare_choices(library: &dyn Party) {
-    println!("\nChoosing a port, in nanoseconds, and how many times as long as the model\n");
-    println!(
-        "{:<32}{:>14}{:>7}{:>16}{:>5}",
-        "", "library", "model", "x model", "aim"
+    heading(
+        "Choosing a port, in nanoseconds, and how many times as long as the model",
+        "",
     );
-    for (name, call) in choices() {
-        agreed(library, name, &call);
-        let [ours, models] = least_of_both(library, &call, CALLS_AT_ONCE);
-        let ratio = ours / models;
-        println!(
-            "{name:<32}{:>14.1}{:>7.1}{ratio:>16.2}{AIM:>5.1}{}",
-            ours * 1e9,
-            models * 1e9,
-            missed(&[("x model", ratio <= AIM)]),
-        );
-    }
+    let rows = Rows {
+        aim: AIM,
+        at_once: CALLS_AT_ONCE,
+        parts: 1e9,
+    };
+    rows.compare(library, choices());
 }

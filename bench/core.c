@@ -4,13 +4,19 @@
 #include <stdio.h>
 #include <stdlib.h>
 
+static void tell_and_end(const char *call, uint32_t number)
+{
+    fprintf(stderr, "%s was refused: %" PRIu32 ", field %" PRIu32 "\n", call,
+            SGDMA_REFUSAL(number), SGDMA_FIELD(number));
+    exit(2);
+}
+
+void (*at_refusal)(const char *call, uint32_t number) = tell_and_end;
+
 void must_be_done(const char *call, uint32_t number)
 {
-    if (number != SGDMA_DONE) {
-        fprintf(stderr, "%s was refused: %" PRIu32 ", field %" PRIu32 "\n", call,
-                SGDMA_REFUSAL(number), SGDMA_FIELD(number));
-        exit(2);
-    }
+    if (number != SGDMA_DONE)
+        at_refusal(call, number);
 }
 
 uint32_t value_of(const char *call, uint32_t number,

@@ -74,7 +74,11 @@ struct slot {
     uint32_t address; /* 0 where it is empty */
 };
 
-/* Ends the program, and tells the call, where the number is a refusal. */
+/* What is done where a call was refused: it tells the call and ends the program. One
+   that is put in its place must not return either. */
+extern void (*at_refusal)(const char *call, uint32_t number);
+
+/* Where the number is a refusal, does what is done then. */
 void must_be_done(const char *call, uint32_t number);
 
 /* The value that a call has written, which must have been done. */

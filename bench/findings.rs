@@ -1,7 +1,7 @@
 //! A ledger that is asked: the library against the model, which is a plain loop over
 //! all the used records.
 
-use super::{agreed, least_of_both, missed};
+use super::rows::{heading, Rows};
 use harness::call::{Call, Lent, Party};
 use harness::model::{FINDING_SIZE, RECORD_SIZE};
 
@@ -48,20 +48,14 @@ fn questions() -> [(&'static str, Call); 5] {
 }
 
 pub fn compare_findings(library: &dyn Party) {
-    println!("\nA ledger of 100,000 records, asked, in microseconds, and how many times as long as the model\n");
-    println!(
-        "{:<31}{:>15}{:>7}{:>16}{:>5}",
-        "", "library", "model", "x model", "aim"
+    heading(
+        "A ledger of 100,000 records, asked, in microseconds, and how many times as long as the model",
+        "",
     );
-    for (name, call) in questions() {
-        agreed(library, name, &call);
-        let [ours, models] = least_of_both(library, &call, 1);
-        let ratio = ours / models;
-        println!(
-            "{name:<31}{:>15.1}{:>7.1}{ratio:>16.2}{AIM:>5.1}{}",
-            ours * 1e6,
-            models * 1e6,
-            missed(&[("x model", ratio <= AIM)]),
-        );
-    }
+    let rows = Rows {
+        aim: AIM,
+        at_once: 1,
+        parts: 1e6,
+    };
+    rows.compare(library, questions());
 }

@@ -74,7 +74,7 @@ static bool play_half(uint32_t enables, bool pointer_too, size_t fresh)
     printf("\n");
     as = chain_as(&firmware, fresh) && as;
     printf("\n");
-    show_ledger(&firmware);
+    show_ledger(firmware.ledger, firmware.taken);
     return as && firmware.ledger.used == DESCRIPTORS;
 }
 

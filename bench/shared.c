@@ -3,6 +3,7 @@
 #include <inttypes.h>
 #include <stdio.h>
 
+#include "controller.h"
 #include "show.h"
 #include "timer.h"
 
@@ -23,32 +24,20 @@ static const uint32_t MUST[] = {1, 0, 1, TIMER, 0, TIMER, 0, 0};
 enum { MUST_COUNT = sizeof MUST / sizeof *MUST };
 
 struct bench {
-    uint8_t vic[SGDMA_VIC_SIZE];
+    struct controller controller;
     struct firmware cores[CORES];
     struct timer timer;
     uint32_t served[MOST_SERVED];
     size_t count;
 };
 
-/* What the controller tells. */
-struct told {
-    bool chosen;
-    uint32_t port;
-    uint32_t level;
-    uint32_t handler;
-};
-
 static void begin(struct bench *bench, uint32_t enables)
 {
     bench->count = 0;
-    must_be_done("sgdma_vic_create", sgdma_vic_create(bench->vic, sizeof bench->vic, PORTS,
-                                                      VECTOR_BYTES, HANDLERS));
+    controller_make(&bench->controller, PORTS, VECTOR_BYTES, HANDLERS);
     for (uint32_t port = 0; port < PORTS; port++) {
-        must_be_done("sgdma_vic_configure",
-                     sgdma_vic_configure(bench->vic, sizeof bench->vic, port,
-                                         LEVELS[port], port, 0));
-        must_be_done("sgdma_vic_enable",
-                     sgdma_vic_enable(bench->vic, sizeof bench->vic, port, 1));
+        controller_configure(&bench->controller, port, LEVELS[port], port, false);
+        controller_enable(&bench->controller, port, true);
     }
     for (size_t i = 0; i < CORES; i++)
         firmware_begin(&bench->cores[i], enables);
@@ -67,23 +56,8 @@ static bool bring_line(struct bench *bench, uint32_t port)
     bool up = port == TIMER ? timer_line(&bench->timer)
                             : core_line(&bench->cores[port].core);
 
-    must_be_done("sgdma_vic_line",
-                 sgdma_vic_line(bench->vic, sizeof bench->vic, port, up));
+    controller_line(&bench->controller, port, up);
     return up;
-}
-
-static struct told ask(const struct bench *bench)
-{
-    uint8_t answer[SGDMA_VIC_ANSWER_SIZE];
-    struct told told;
-
-    must_be_done("sgdma_vic_choose", sgdma_vic_choose(bench->vic, sizeof bench->vic,
-                                                      answer, sizeof answer));
-    told.chosen = number_at(answer + SGDMA_VIC_ANSWER_CHOSEN_AT, 2) == 1;
-    told.port = number_at(answer + SGDMA_VIC_ANSWER_PORT_AT, 2);
-    told.level = number_at(answer + SGDMA_VIC_ANSWER_LEVEL_AT, 1);
-    told.handler = number_at(answer + SGDMA_VIC_ANSWER_ADDRESS_AT, 4);
-    return told;
 }
 
 /* Reads the status of the timer, and clears what was read. */
@@ -108,7 +82,7 @@ static void serve_port(struct bench *bench, uint32_t port)
 /* Serves the port that is told, and the next, until none is. */
 static void serve(struct bench *bench)
 {
-    struct told told = ask(bench);
+    struct told told = controller_choose(&bench->controller);
 
     while (told.chosen && bench->count < MOST_SERVED) {
         printf("                              %-6s  %5" PRIu32 "  0x%04" PRIX32,
@@ -116,7 +90,7 @@ static void serve(struct bench *bench)
         serve_port(bench, told.port);
         printf("\n");
         bench->served[bench->count++] = told.port;
-        told = ask(bench);
+        told = controller_choose(&bench->controller);
     }
 }
 
@@ -162,7 +136,7 @@ bool play_shared(size_t number, uint32_t enables)
            firmware_done(&bench.cores[0]), firmware_done(&bench.cores[1]));
     for (size_t i = 0; i < CORES; i++) {
         printf("\n    %s\n", NAMES[i]);
-        show_ledger(&bench.cores[i]);
+        show_ledger(bench.cores[i].ledger, bench.cores[i].taken);
     }
     return show_verdict(served_as(&bench));
 }

@@ -1,12 +1,12 @@
 /*
  * What is printed of a scene: a row for each slice, a row for each descriptor
- * with the memory it stands for, and a row for each record of the ledger. All of
- * it fits 80 columns.
+ * with the memory it stands for. All of it fits 80 columns.
  */
 #ifndef SHOW_H
 #define SHOW_H
 
 #include "firmware.h"
+#include "tell.h"
 
 /* A descriptor, and the bytes where its samples land. */
 struct found {
@@ -27,23 +27,10 @@ void show_legend(void);
 void show_slice_heading(void);
 void show_slice(size_t number, const struct slice *slice);
 
-/* A status as it was read, in number and names: of a core, and of a timer. */
-void show_status(uint32_t status);
-void show_timer_status(uint32_t status);
-
 void show_found_heading(void);
 void show_found(const struct found *found);
 
-/* A refusal; where it is that of an image, with the field in words. */
-void show_refused(uint32_t number);
-
-/* The code and address of a fault, where there is one. */
-void show_fault(struct fault fault);
-
 /* Whether a scene is as it must be, which is told where it is not. */
 bool show_verdict(bool as);
-
-/* The records used, and the sum of their bytes beside the beats taken. */
-void show_ledger(const struct firmware *firmware);
 
 #endif

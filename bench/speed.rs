@@ -11,6 +11,7 @@
 
 mod choices;
 mod findings;
+mod rows;
 mod timers;
 
 use harness::bulk::Bulk;
@@ -21,6 +22,7 @@ use harness::model::{
     control, descriptor_control, offset, Descriptor, Paper, Reason, DESCRIPTOR_SIZE, RECORD_SIZE,
     REPORT_SIZE, VALUE_SIZE,
 };
+use rows::{heading, Rows};
 use std::hint::black_box;
 use std::process::ExitCode;
 use std::time::{Duration, Instant};
@@ -443,23 +445,19 @@ fn calls() -> [(&'static str, Call); 4] {
     ]
 }
 
+/// The rows of calls that take no step.
+const CALLS: Rows = Rows {
+    aim: AIM_OF_A_CALL,
+    at_once: CALLS_AT_ONCE,
+    parts: 1e9,
+};
+
 fn compare_calls(library: &dyn Party) {
-    println!("\nCalls, in nanoseconds, and how many times as long as the model's\n");
-    println!(
-        "{:<31}{:>15}{:>7}{:>16}{:>5}",
-        "", "library", "model", "x model", "aim"
+    heading(
+        "Calls, in nanoseconds, and how many times as long as the model's",
+        "",
     );
-    for (name, call) in calls() {
-        agreed(library, name, &call);
-        let [ours, models] = least_of_both(library, &call, CALLS_AT_ONCE);
-        let ratio = ours / models;
-        println!(
-            "{name:<31}{:>15.1}{:>7.1}{ratio:>16.2}{AIM_OF_A_CALL:>5.1}{}",
-            ours * 1e9,
-            models * 1e9,
-            missed(&[("x model", ratio <= AIM_OF_A_CALL)]),
-        );
-    }
+    CALLS.compare(library, calls());
 }
 
 /// The cost of a step does not depend on the stream's length or the window's.

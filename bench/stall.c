@@ -82,7 +82,7 @@ bool play_stall(size_t number, uint32_t enables)
     time_stall(&stall);
     as = run_slices(&stall) == SGDMA_REASON_ENDED && as;
     printf("\n");
-    show_ledger(&stall.firmware);
+    show_ledger(stall.firmware.ledger, stall.firmware.taken);
     status = timer_read(&stall.timer, SGDMA_TIMER_REGISTER_STATUS);
     as = as && stall.earlier == MUST_EARLIER && stall.later == MUST_LATER &&
          stall.ticks == MUST_TICKS &&

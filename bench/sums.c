@@ -180,7 +180,7 @@ bool play_sums(size_t number, uint32_t enables)
     }
     show_fault(core_fault(&sums.firmware.core));
     printf("\n");
-    show_ledger(&sums.firmware);
+    show_ledger(sums.firmware.ledger, sums.firmware.taken);
     show_total(&account);
     return show_verdict(dated_as(sums.firmware.ledger) && as);
 }

@@ -1,6 +1,7 @@
 //! The calls on a timer: the library against the model, and many ticks against one.
 
-use super::{agreed, least, least_of_both, missed, timed_party, AIM_OF_A_CALL, CALLS_AT_ONCE};
+use super::rows::heading;
+use super::{agreed, least, missed, timed_party, CALLS, CALLS_AT_ONCE};
 use harness::call::{Call, Lent, Party, TimerCall};
 use harness::model::{timer_control, timer_offset, Paper, Timer, FULL_PERIOD, VALUE_SIZE};
 
@@ -97,12 +98,9 @@ fn least_of_three(library: &dyn Party, call: &Call, other: &Call) -> [f64; 3] {
 }
 
 pub fn compare_timers(library: &dyn Party) {
-    println!(
-        "\nA timer, in nanoseconds, and how many times as long as the model and as one tick\n"
-    );
-    println!(
-        "{:<31}{:>15}{:>7}{:>16}{:>5}{:>10}{:>5}",
-        "", "library", "model", "x model", "aim", "x 1 tick", "aim"
+    heading(
+        "A timer, in nanoseconds, and how many times as long as the model and as one tick",
+        "  x 1 tick  aim",
     );
     for (name, call, one) in runs() {
         agreed(library, name, &call);
@@ -110,24 +108,12 @@ pub fn compare_timers(library: &dyn Party) {
         let ratio = ours / tick;
         println!(
             "{}{ratio:>10.2}{AIM_OF_TICKS:>5.1}{}",
-            shown(name, ours, models),
+            CALLS.shown(name, ours, models),
             missed(&[
-                ("x model", ours / models <= AIM_OF_A_CALL),
+                CALLS.is_met(ours, models),
                 ("x 1 tick", ratio <= AIM_OF_TICKS),
             ]),
         );
     }
-    for (name, call) in others() {
-        agreed(library, name, &call);
-        let [ours, models] = least_of_both(library, &call, CALLS_AT_ONCE);
-        let missed = missed(&[("x model", ours / models <= AIM_OF_A_CALL)]);
-        println!("{}{missed}", shown(name, ours, models));
-    }
-}
-
-/// The part of a row that all have.
-fn shown(name: &str, ours: f64, models: f64) -> String {
-    let ratio = ours / models;
-    let [ours, models] = [ours, models].map(|seconds| seconds * 1e9);
-    format!("{name:<31}{ours:>15.1}{models:>7.1}{ratio:>16.2}{AIM_OF_A_CALL:>5.1}")
+    CALLS.compare(library, others());
 }

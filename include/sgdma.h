@@ -463,6 +463,8 @@ extern "C" {
  * leaves of one that keeps them: SGDMA_BAD_IMAGE tells that the bytes are no
  * image, or were changed by something else.
  */
+#define SGDMA_EDITION                   2 /* field 1 of an image that the calls take */
+
 #define SGDMA_FIELD_EDITION             UINT32_C(1)
 #define SGDMA_FIELD_MODE                UINT32_C(2)
 #define SGDMA_FIELD_PHASE               UINT32_C(3)

@@ -194,7 +194,7 @@ static void check_numbers(void)
         check("44 bytes", sgdma_move_image(image, OLD, (uint8_t[NEW]){0}, NEW),
               bad_image(edition == 1 ? 0 : SGDMA_FIELD_EDITION));
         check("85 bytes", sgdma_move_image(image, NEW, (uint8_t[OLD]){0}, OLD),
-              bad_image(edition == 2 ? 0 : SGDMA_FIELD_EDITION));
+              bad_image(edition == SGDMA_EDITION ? 0 : SGDMA_FIELD_EDITION));
     }
 }
 

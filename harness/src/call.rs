@@ -11,7 +11,7 @@ pub use controllers::VicCall;
 pub use timers::TimerCall;
 
 use crate::bulk::Bulk;
-use crate::model::{Calls, Paper};
+use crate::model::{Calls, Descriptor, Paper};
 use std::fmt::{self, Display, Formatter};
 use std::ops::{Deref, DerefMut};
 
@@ -235,6 +235,21 @@ impl Argument<'_> {
 }
 
 impl Call {
+    /// Builds the descriptor with these fields, of which the builder takes what
+    /// firmware sets.
+    pub fn build(window: Lent, base: u64, address: u32, fields: &Descriptor) -> Call {
+        Call::BuildDescriptor {
+            window,
+            base,
+            address,
+            source: fields.source,
+            destination: fields.destination,
+            next: fields.next,
+            length: fields.length,
+            control: fields.control,
+        }
+    }
+
     pub fn function(&self) -> Function {
         match self {
             Call::Create { .. } => Function::Create,

@@ -121,16 +121,8 @@ impl<'party> Firmware<'party> {
     }
 
     pub fn build(&mut self, address: u32, fields: &Descriptor) {
-        let after = self.call(Call::BuildDescriptor {
-            window: Lent::from(self.memory.as_slice()),
-            base: u64::from(self.base),
-            address,
-            source: fields.source,
-            destination: fields.destination,
-            next: fields.next,
-            length: fields.length,
-            control: fields.control,
-        });
+        let window = Lent::from(self.memory.as_slice());
+        let after = self.call(Call::build(window, u64::from(self.base), address, fields));
         self.keep(&after);
     }
 

@@ -376,16 +376,7 @@ impl Host {
         let (window, base) = self.descriptor_window();
         let address = self.descriptor_address();
         let fields = self.descriptor(address);
-        Call::BuildDescriptor {
-            window,
-            base,
-            address,
-            source: fields.source,
-            destination: fields.destination,
-            next: fields.next,
-            length: fields.length,
-            control: fields.control,
-        }
+        Call::build(window, base, address, &fields)
     }
 
     fn read_descriptor(&mut self) -> Call {

@@ -109,6 +109,16 @@ fn assert_same(core: &Firmware, other: &Firmware) {
     assert!(core.records() == other.records());
 }
 
+/// The full window at the top of the bus, with this one descriptor at its begin, and
+/// as many beats as one descriptor can take.
+fn streamed<'a>(party: &'a dyn Party, fields: &Descriptor) -> (Firmware<'a>, Ran) {
+    let mut core = Firmware::new(party, STREAM_TO_MEMORY, TOP, FULL);
+    core.build(TOP, fields);
+    started(&mut core, TOP);
+    let ran = core.run(&plain_beats(65_535), 0, u32::MAX);
+    (core, ran)
+}
+
 /// A stream over the full window but its first byte, and so over its own
 /// descriptor: what is written back was kept, not read again. It goes over the
 /// chain's end too, which was read ahead as it was.
@@ -122,10 +132,7 @@ fn a_full_window_is_filled() {
         ..Descriptor::default()
     };
     for party in parties() {
-        let mut core = Firmware::new(party.as_ref(), STREAM_TO_MEMORY, TOP, FULL);
-        core.build(TOP, &fields);
-        started(&mut core, TOP);
-        let ran = core.run(&plain_beats(65_535), 0, u32::MAX);
+        let (core, ran) = streamed(party.as_ref(), &fields);
         assert_eq!(ran, ended(65_539, 65_535, 1), "{}", party.name());
         assert_eq!(core.records(), [record(1, TOP, [0xFF, 0xFF, 0, 0])]);
         let mut expected = vec![0xC9];
@@ -145,10 +152,7 @@ fn a_long_descriptor_faults_at_the_end_of_the_bus() {
         ..Descriptor::default()
     };
     for party in parties() {
-        let mut core = Firmware::new(party.as_ref(), STREAM_TO_MEMORY, TOP, FULL);
-        core.build(TOP, &fields);
-        started(&mut core, TOP);
-        let ran = core.run(&plain_beats(65_535), 0, u32::MAX);
+        let (core, ran) = streamed(party.as_ref(), &fields);
         let found = (ran.reason, ran.steps, ran.taken, core.fault());
         let faulted = Reason::Faulted as u16;
         assert_eq!(

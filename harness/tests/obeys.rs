@@ -103,7 +103,12 @@ fn check_supplied(core: &mut Core) -> u32 {
     let owed = owed(&core.fields());
     assert!(owed <= BOUND);
     let told = core.run(owed.saturating_sub(1), 1, BOUND);
-    assert!(has_obeyed(&told), "{}: reason {}", core.party.name(), told.reason);
+    assert!(
+        has_obeyed(&told),
+        "{}: reason {}",
+        core.party.name(),
+        told.reason
+    );
     assert!(told.steps <= owed, "{} steps of {owed}", told.steps);
     assert!(!core.is_busy());
     owed
@@ -122,7 +127,12 @@ fn check_in_pieces(core: &mut Core, rng: &mut Rng) {
         }
     }
     let told = core.run(owed, 1, BOUND);
-    assert!(has_obeyed(&told), "{}: reason {}", core.party.name(), told.reason);
+    assert!(
+        has_obeyed(&told),
+        "{}: reason {}",
+        core.party.name(),
+        told.reason
+    );
     assert!(steps + told.steps <= owed);
     assert!(!core.is_busy());
 }
@@ -133,23 +143,24 @@ fn a_core_obeys_within_what_it_owes() {
     let mut rng = Rng::new(901);
     for party in parties() {
         let mut owing = 0;
-        let outcome: Result<(), Infallible> = drive(party.as_ref(), 902, CALLS, &mut |_, answer| {
-            let (Call::Run { image, window, .. }, 0) = (&answer.after, answer.returned) else {
-                return Ok(());
-            };
-            let mut core = Core {
-                party: party.as_ref(),
-                image: image.to_vec(),
-                window: window.to_vec(),
-            };
-            core.clear(rng.below(1 << 32) as u32);
-            if owed(&core.fields()) < 200 && rng.chance(50) {
-                check_in_pieces(&mut core, &mut rng);
-            } else {
-                owing += u32::from(check_supplied(&mut core) > 0);
-            }
-            Ok(())
-        });
+        let outcome: Result<(), Infallible> =
+            drive(party.as_ref(), 902, CALLS, &mut |_, answer| {
+                let (Call::Run { image, window, .. }, 0) = (&answer.after, answer.returned) else {
+                    return Ok(());
+                };
+                let mut core = Core {
+                    party: party.as_ref(),
+                    image: image.to_vec(),
+                    window: window.to_vec(),
+                };
+                core.clear(rng.below(1 << 32) as u32);
+                if owed(&core.fields()) < 200 && rng.chance(50) {
+                    check_in_pieces(&mut core, &mut rng);
+                } else {
+                    owing += u32::from(check_supplied(&mut core) > 0);
+                }
+                Ok(())
+            });
         let Ok(()) = outcome;
         assert!(owing > 500, "only {owing} owed a step");
     }

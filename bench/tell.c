@@ -1,0 +1,153 @@
+#include "tell.h"
+
+#include <inttypes.h>
+#include <stdio.h>
+
+static const char *const REASONS[] = {
+    [SGDMA_REASON_REST] = "Rest",
+    [SGDMA_REASON_ENDED] = "Ended",
+    [SGDMA_REASON_HALTED] = "Halted",
+    [SGDMA_REASON_FAULTED] = "Faulted",
+    [SGDMA_REASON_NEEDS_INPUT] = "NeedsInput",
+    [SGDMA_REASON_OUTPUT_FULL] = "OutputFull",
+    [SGDMA_REASON_BUDGET] = "Budget",
+    [SGDMA_REASON_LEDGER_FULL] = "LedgerFull",
+};
+
+struct bit {
+    uint32_t bit;
+    const char *name;
+};
+
+static const struct bit STATUS_BITS[] = {
+    {SGDMA_STATUS_ERROR, "ERROR"},
+    {SGDMA_STATUS_EOP_ENCOUNTERED, "EOP"},
+    {SGDMA_STATUS_DESCRIPTOR_COMPLETED, "DESCRIPTOR"},
+    {SGDMA_STATUS_CHAIN_COMPLETED, "CHAIN"},
+    {SGDMA_STATUS_BUSY, "BUSY"},
+};
+
+static const struct bit TIMER_STATUS_BITS[] = {
+    {SGDMA_TIMER_STATUS_TO, "TO"},
+    {SGDMA_TIMER_STATUS_RUN, "RUN"},
+};
+
+#define IN_HAND "be 0 but in Move and WriteBack"
+
+/* The fields of an image that can be told, and what each must do or be. */
+static const struct {
+    const char *name;
+    const char *rule;
+} FIELDS[] = {
+    [SGDMA_FIELD_EDITION] = {"edition", "be 2"},
+    [SGDMA_FIELD_MODE] = {"mode", "be 0, 1 or 2"},
+    [SGDMA_FIELD_PHASE] = {"phase", "be 0 to 6, and Halted in mode 2 only"},
+    [SGDMA_FIELD_FAULT] =
+        {"fault code", "be 0, but in Faulted 10 to 14, and one of the mode"},
+    [SGDMA_FIELD_STATUS] =
+        {"status",
+         "have 0 in bits 5 to 7, BUSY, ERROR and EOP as phase and mode allow"},
+    [SGDMA_FIELD_COUNT] = {"count of descriptors", "be at most 254"},
+    [SGDMA_FIELD_CONTROL] =
+        {"control",
+         "have 0 in bits 18 to 31, SW_RESET as armed, RUN in Ended and Halted"},
+    [SGDMA_FIELD_WINDOW_LENGTH] =
+        {"window length", "be at most 65,536, and no more than 2^32 with base"},
+    [SGDMA_FIELD_DESCRIPTOR_ADDRESS] =
+        {"descriptor address", IN_HAND "; there a multiple of 4, inside"},
+    [SGDMA_FIELD_SOURCE] = {"source", IN_HAND},
+    [SGDMA_FIELD_DESTINATION] = {"destination", IN_HAND},
+    [SGDMA_FIELD_LENGTH] = {"length", IN_HAND "; there not 0 in modes 0 and 1"},
+    [SGDMA_FIELD_DESCRIPTOR_CONTROL] =
+        {"descriptor control", IN_HAND "; there owned"},
+    [SGDMA_FIELD_ERRORS] =
+        {"errors", IN_HAND "; there 0 in bit 7 and modes 0, 1"},
+    [SGDMA_FIELD_MOVED] =
+        {"bytes moved", IN_HAND "; there fit length and errors"},
+    [SGDMA_FIELD_EOP_SEEN] =
+        {"EOP seen", IN_HAND "; there fit the bytes moved"},
+    [SGDMA_FIELD_ZERO] = {"zero bits", "be 0"},
+    [SGDMA_FIELD_FAULT_ADDRESS] = {"fault address", "be 0 but in Faulted"},
+    [SGDMA_FIELD_SLOT_KIND] =
+        {"slot kind", "be 0, empty, but in Fetch, Move and WriteBack"},
+    [SGDMA_FIELD_SLOT_ZERO] = {"zero bits of the slot", "be 0"},
+    [SGDMA_FIELD_SLOT_ADDRESS] =
+        {"slot address", "be 0 if empty, else the pointer, and fit the kind"},
+    [SGDMA_FIELD_SLOT_BYTES] =
+        {"slot bytes", "be 0, but those of a descriptor any"},
+};
+
+const char *reason_name(uint32_t reason)
+{
+    return reason < sizeof REASONS / sizeof *REASONS ? REASONS[reason] : "?";
+}
+
+static void show_bits(uint32_t status, const struct bit *bits, size_t count)
+{
+    printf("  0x%02" PRIX32, status);
+    for (size_t i = 0; i < count; i++)
+        if (status & bits[i].bit)
+            printf(" %s", bits[i].name);
+}
+
+void show_status(uint32_t status)
+{
+    show_bits(status, STATUS_BITS, sizeof STATUS_BITS / sizeof *STATUS_BITS);
+}
+
+void show_timer_status(uint32_t status)
+{
+    show_bits(status, TIMER_STATUS_BITS,
+              sizeof TIMER_STATUS_BITS / sizeof *TIMER_STATUS_BITS);
+}
+
+void show_refused(uint32_t number)
+{
+    uint32_t field = SGDMA_FIELD(number);
+
+    printf("    refused: %" PRIu32, SGDMA_REFUSAL(number));
+    if (field < sizeof FIELDS / sizeof *FIELDS && FIELDS[field].name)
+        printf(", field %" PRIu32 ": %s\n        must %s", field,
+               FIELDS[field].name, FIELDS[field].rule);
+    printf("\n");
+}
+
+void show_fault(struct fault fault)
+{
+    if (fault.code)
+        printf("    fault %" PRIu32 " at 0x%04" PRIX32 "\n", fault.code,
+               fault.address);
+}
+
+void show_record(size_t number, const struct record *record)
+{
+    unsigned actual = record->actual, errors = record->status;
+
+    printf("    %6zu  %3" PRIu32 "  %*s0x%04" PRIX32 "  %5u    0x%02X  %s", number,
+           record->run, record->descriptor > 0xFFFF ? 0 : 4, "", record->descriptor,
+           actual, errors, record->eop ? "yes" : "no");
+}
+
+void show_ledger_heading(void)
+{
+    printf("    ledger  run  descriptor  bytes  errors  EOP");
+}
+
+void show_records(struct ledger ledger)
+{
+    show_ledger_heading();
+    printf("\n");
+    for (size_t i = 0; i < ledger.used; i++) {
+        struct record record = record_at(ledger, i);
+
+        show_record(i + 1, &record);
+        printf("\n");
+    }
+}
+
+void show_ledger(struct ledger ledger, uint32_t taken)
+{
+    show_records(ledger);
+    printf("       sum                   %5" PRIu32 "  of %" PRIu32 " beats taken\n",
+           ledger_bytes(ledger), taken);
+}

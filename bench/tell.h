@@ -1,0 +1,30 @@
+/*
+ * What a core, a timer and a ledger tell, in words, on the screen.
+ */
+#ifndef TELL_H
+#define TELL_H
+
+#include "core.h"
+
+/* Why a run stopped. */
+const char *reason_name(uint32_t reason);
+
+/* A status as it was read, in number and names: of a core, and of a timer. */
+void show_status(uint32_t status);
+void show_timer_status(uint32_t status);
+
+/* A refusal; where it is that of an image, with the field in words. */
+void show_refused(uint32_t number);
+
+/* The code and address of a fault, where there is one. */
+void show_fault(struct fault fault);
+
+/* The heading of a ledger and the row of a record, each without the line's end. */
+void show_ledger_heading(void);
+void show_record(size_t number, const struct record *record);
+
+/* A row for each record used; and with the sum of their bytes beside the beats taken. */
+void show_records(struct ledger ledger);
+void show_ledger(struct ledger ledger, uint32_t taken);
+
+#endif

@@ -1,0 +1,36 @@
+/*
+ * The registers of the interval timer in its 32-bit form (chapter 26, table 26-3), which
+ * counts registers: control is byte 4 from the base.
+ *
+ * The handbook prints the names of the registers and of their bits (tables 26-3, 26-5
+ * and 26-6), and none of these macros. They are made of those names as chapter 29 makes
+ * its own.
+ */
+#ifndef ALTERA_AVALON_TIMER_REGS_H
+#define ALTERA_AVALON_TIMER_REGS_H
+
+#include "io.h"
+#include "sgdma.h"
+
+#define IORD_ALTERA_AVALON_TIMER_STATUS(base)       IORD(base, SGDMA_TIMER_REGISTER_STATUS)
+#define IOWR_ALTERA_AVALON_TIMER_STATUS(base, data) IOWR(base, SGDMA_TIMER_REGISTER_STATUS, data)
+#define ALTERA_AVALON_TIMER_STATUS_TO_MSK  SGDMA_TIMER_STATUS_TO
+#define ALTERA_AVALON_TIMER_STATUS_RUN_MSK SGDMA_TIMER_STATUS_RUN
+
+#define IORD_ALTERA_AVALON_TIMER_CONTROL(base)       IORD(base, SGDMA_TIMER_REGISTER_CONTROL)
+#define IOWR_ALTERA_AVALON_TIMER_CONTROL(base, data) IOWR(base, SGDMA_TIMER_REGISTER_CONTROL, data)
+#define ALTERA_AVALON_TIMER_CONTROL_ITO_MSK   SGDMA_TIMER_CONTROL_ITO
+#define ALTERA_AVALON_TIMER_CONTROL_CONT_MSK  SGDMA_TIMER_CONTROL_CONT
+#define ALTERA_AVALON_TIMER_CONTROL_START_MSK SGDMA_TIMER_CONTROL_START
+#define ALTERA_AVALON_TIMER_CONTROL_STOP_MSK  SGDMA_TIMER_CONTROL_STOP
+
+#define IORD_ALTERA_AVALON_TIMER_PERIODL(base)       IORD(base, SGDMA_TIMER_REGISTER_PERIODL)
+#define IOWR_ALTERA_AVALON_TIMER_PERIODL(base, data) IOWR(base, SGDMA_TIMER_REGISTER_PERIODL, data)
+#define IORD_ALTERA_AVALON_TIMER_PERIODH(base)       IORD(base, SGDMA_TIMER_REGISTER_PERIODH)
+#define IOWR_ALTERA_AVALON_TIMER_PERIODH(base, data) IOWR(base, SGDMA_TIMER_REGISTER_PERIODH, data)
+#define IORD_ALTERA_AVALON_TIMER_SNAPL(base)         IORD(base, SGDMA_TIMER_REGISTER_SNAPL)
+#define IOWR_ALTERA_AVALON_TIMER_SNAPL(base, data)   IOWR(base, SGDMA_TIMER_REGISTER_SNAPL, data)
+#define IORD_ALTERA_AVALON_TIMER_SNAPH(base)         IORD(base, SGDMA_TIMER_REGISTER_SNAPH)
+#define IOWR_ALTERA_AVALON_TIMER_SNAPH(base, data)   IOWR(base, SGDMA_TIMER_REGISTER_SNAPH, data)
+
+#endif
