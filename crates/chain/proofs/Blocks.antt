@@ -14,7 +14,8 @@ use Rattle.bus.specs.declared.Window.{Window}
 use Rattle.bus.specs.Window.{inWindow, placeOf}
 use Rattle.descriptor.specs.declared.Descriptor.{Descriptor}
 use Rattle.descriptor.specs.Layout.{owned, descriptorAt, lastFour}
-use Rattle.chain.specs.Chain.{All, Link, linkAt, Off, Apart, Share, Sent, sentByAll, gathered, Done, Waiting, FirstFew}
+use Rattle.links.specs.Form.{All, Link, linkAt, Off, Apart}
+use Rattle.chain.specs.Chain.{Share, Sent, sentByAll, Done, Waiting, FirstFew}
 use Rattle.chain.proofs.Lists.{all-map, all-right}
 use Rattle.chain.proofs.Memory.{Placed, placed, part-ext, says-same, actual-says, control-says, cleared, lastAt, lastAt-last}
 
@@ -84,8 +85,8 @@ inv-block {w = w} {before = before} {ss = ss} {m = m} v l h a b =
 -- ---- a descriptor done, and one waiting
 
 -- it is done once its last four bytes are written
-pub done-by-four : (w : Window) (m : List ℕ) (s : Share) → placeOf w (s .link .at) + 32 ≤ length m → length (s .beats) < 65536
-    → part m (placeOf w (s .link .at) + 28) 4 ≡ lastFour (length (s .beats)) (gathered 0 (s .beats)) (s .link .says .control .0 % 128)
+pub done-by-four : (w : Window) (m : List ℕ) (s : Share) → placeOf w (s .link .at) + 32 ≤ length m → s .count < 65536
+    → part m (placeOf w (s .link .at) + 28) 4 ≡ lastFour (s .count) (s .errors) (s .link .says .control .0 % 128)
     → Done w m s
 done-by-four w m s f b e =
     record {

@@ -1,5 +1,5 @@
 -- A budget of 32 bits that is enough exists: no more than 2,048 descriptors without a byte in common find place in a window, and none
--- takes more than 65,535 beats.
+-- moves more than 65,535 bytes.
 -- Assumes nothing.
 use Prim.Native.Nat.{ℕ, zero, suc, _+_, _-_, _*_, _≤_, _<_}
 use mathlib.Core.Path.{_≡_, refl, sym}
@@ -7,18 +7,19 @@ use mathlib.Core.Bool.{Bool, true, false}
 use mathlib.Core.List.{List, [], _∷_}
 use native.Mathlib.Omega.{arith}
 use lib.Dec.{leb}
-use lib.ListN.{length, drop, length-append}
+use lib.ListN.{length, length-append}
 use borrow.Author.Tests.{leb-true, leb-false, le-leb, lt-leb}
 use Rattle.words.specs.Bits.{flag}
 use Rattle.bus.specs.Window.{keepsLimits, inWindow}
 use Rattle.image.proofs.Tests.{and-left}
-use Rattle.chain.specs.Chain.{All, Pairwise, Link, links, last, everyLink, Apart, wants, takes, Enough, sharesOf, cost}
+use Rattle.links.specs.Form.{All, Pairwise, Link, Apart}
+use Rattle.chain.specs.Chain.{links, last, everyLink, Share, cost, shares}
 use Rattle.chain.specs.Theorems.{BudgetExists}
 use Rattle.chain.proofs.Lists.{all-map, all-left}
 use Rattle.chain.proofs.Memory.{Placed, placed}
-use Rattle.chain.proofs.Links.{wants-some, wants-short, all-bytes, links-short}
-use Rattle.chain.proofs.Moves.{takes-taken, takes-fit}
-use Rattle.chain.proofs.Theorem.{length-links, chain-theorem}
+use Rattle.chain.proofs.Links.{all-bytes, links-short}
+use Rattle.chain.proofs.FromStream.{shares-short}
+use Rattle.chain.proofs.Theorem.{length-links, length-shares, chain-theorem}
 
 -- ---- how many descriptors without a byte in common there are
 
@@ -85,14 +86,9 @@ at-most lo (suc m) ls a b =
 
 -- ---- what they cost
 
-cost-most : (ls : List Link) (bs : List ℕ) → Enough ls bs → All (λ l. l .says .length < 65536) ls → cost (sharesOf ls bs) ≤ 65537 * length ls
-cost-most [] bs e a = omega arith
-cost-most (l ∷ ls) bs e a =
-    let t = takes (wants (l .says)) bs in
-    let fit : length t ≤ wants (l .says) = takes-fit (takes-taken (wants (l .says)) bs (wants-some (l .says)) (e .0)) .1 in
-    let short : wants (l .says) < 65536 = wants-short (l .says) (a .0) in
-    let rest = cost-most ls (drop (length t) bs) (e .1) (a .1) in
-    omega arith
+cost-most : (ss : List Share) → All (λ (s : Share). s .count < 65536) ss → cost ss ≤ 65537 * length ss
+cost-most [] a = omega arith
+cost-most (s ∷ ss) a = let rest = cost-most ss (a .1) in omega (arith, a .0)
 
 -- ---- the theorem
 
@@ -101,13 +97,14 @@ unfolding keepsLimits
 budget-exists g h limits =
     let w = g .window in
     let size : w .length ≤ 65536 = leb-true _ _ (and-left _ _ (and-left _ _ limits)) in
-    let stand : All (λ l. Placed w (l .at) 32) (everyLink g) = all-map (λ l i. placed w (l .at) 32 i) (everyLink g) (h .inside) in
+    let stand : All (λ l. Placed w (l .at) 32) (everyLink g) = all-map (λ l i. placed w (l .at) 32 i) (everyLink g) (h .form .placed .inside) in
     let all : before (w .base + 32 * 2048) (everyLink g) ≡ length (everyLink g) =
     all-before (w .base + 32 * 2048) (everyLink g) (all-map (λ l p. omega arith) (everyLink g) stand) in
-    let most = at-most (w .base) 2048 (everyLink g) (h .apart) (all-map (λ l p. p .low) (everyLink g) stand) in
+    let most = at-most (w .base) 2048 (everyLink g) (h .form .placed .apart) (all-map (λ l p. p .low) (everyLink g) stand) in
     let owned = length-links w (g .memory) (g .pointer) (g .k) in
     let own : length (links g) + 1 ≡ length (everyLink g) = sym (length-append (links g) (last g ∷ [])) in
     let short = links-short w (g .memory) (g .pointer) (g .k) (all-bytes (g .memory) (h .bytes)) (h .lent)
-    (all-left (λ l. inWindow w (l .at) 32 ≡ true) (links g) (last g ∷ []) (h .inside)) in
-    let paid = cost-most (links g) (g .beats) (h .stream) short in
+    (all-left (λ l. inWindow w (l .at) 32 ≡ true) (links g) (last g ∷ []) (h .form .placed .inside)) in
+    let paid = cost-most (shares g) (shares-short (links g) (g .beats) short) in
+    let same = length-shares (links g) (g .beats) in
     record { few = omega arith; steps = omega arith; outcome = chain-theorem g h 4294967295 (omega arith) }

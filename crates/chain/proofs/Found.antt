@@ -1,7 +1,7 @@
 -- After the run each of the chain's descriptors is found in the ledger.
 -- Assumes nothing.
 use Prim.Native.Nat.{ℕ, zero, suc, _+_, _*_, _/_, _%_, _^_, _≤_, _<_}
-use mathlib.Core.Path.{_≡_, refl, sym, ap, subst, _∙_}
+use mathlib.Core.Path.{_≡_, refl, sym, ap, subst⁻¹, _∙_}
 use mathlib.Core.Logic.{_≢_}
 use mathlib.Core.Bool.{Bool, true, false, cond, _&&_}
 use mathlib.Core.List.{List, [], _∷_, _++_}
@@ -10,13 +10,13 @@ use lib.Bits.{or-lt}
 use lib.Dec.{eqb, leb}
 use lib.ListN.{length, drop}
 use borrow.Author.Tests.{eq-eqb, ne-eqb, leb-true, le-leb}
-use Rattle.words.specs.Promise.{Gives}
 use Rattle.words.specs.Slices.{put, AllBytes}
 use Rattle.words.specs.Guards.{if_then_else_}
 use Rattle.words.proofs.Slices.{length-put}
 use Rattle.bus.specs.declared.Window.{Window}
 use Rattle.bus.specs.Window.{keepsLimits, inWindow}
 use Rattle.flow.specs.Beats.{beatError, beatEop, beatsIn}
+use Rattle.flow.specs.Rows.{gathered}
 use Rattle.ledger.specs.declared.Entry.{Entry}
 use Rattle.ledger.specs.declared.Finding.{Finding}
 use Rattle.ledger.specs.declared.Finding.the-variants.{Found, NotFound}
@@ -27,16 +27,16 @@ use Rattle.ledger.proofs.Rows.{length-ledger, capacity-le}
 use Rattle.ledger.proofs.ReadBack.{records-back}
 use Rattle.ledger.proofs.Latest.{records-within, asked-of}
 use Rattle.image.proofs.Tests.{and-left, and-right}
-use Rattle.machine.specs.declared.RunAnswer.{RunAnswer}
-use Rattle.machine.specs.Run.{Lent, Returned}
-use Rattle.chain.specs.Chain.{All, Pairwise, Given, Link, links, last, wants, takes, Enough, Share, sharesOf, shares, cost, gathered, recordOf, recordsOf, Apart, Premises}
-use Rattle.chain.specs.Calls.{givenBy, Called}
+use Rattle.machine.specs.Run.{Lent}
+use Rattle.links.specs.Form.{All, Pairwise, Link, Apart}
+use Rattle.chain.specs.Chain.{Given, links, last, Share, recordOf, recordsOf, wants, takes, shareOf, sharesOf, shares, Premises}
+use Rattle.chain.specs.Calls.{givenBy}
 use Rattle.chain.specs.Theorems.{EachFound}
-use Rattle.chain.proofs.Lists.{all-map, all-left}
+use Rattle.chain.proofs.Lists.{all-map, all-left, linksOf}
 use Rattle.chain.proofs.Memory.{placed}
-use Rattle.chain.proofs.Links.{wants-some, wants-short, links-short, all-bytes}
-use Rattle.chain.proofs.Moves.{takes-taken, takes-fit}
-use Rattle.chain.proofs.Theorem.{length-links, length-records}
+use Rattle.chain.proofs.Links.{links-short, all-bytes}
+use Rattle.chain.proofs.FromStream.{links-of, shares-short}
+use Rattle.chain.proofs.Theorem.{length-links, length-shares, length-records}
 use Rattle.chain.proofs.OfRun.{limits, finishes}
 
 -- ---- the records' numbers fit their places
@@ -67,24 +67,23 @@ errors-fit : (e : ℕ) (bs : List ℕ) → e < 2 ^ 7 → Beats bs → gathered e
 errors-fit e [] h a = h
 errors-fit e (b ∷ bs) h a = errors-fit _ bs (or-lt 7 e (beatError b) h (let k = a .0 in omega arith)) (a .1)
 
-records-fit : (ls : List Link) (bs : List ℕ) → Enough ls bs → All (λ l. l .says .length < 65536) ls → All (λ l. l .at < 2 ^ 32) ls → Beats bs
-    → AllFit (recordsOf 1 (sharesOf ls bs))
-records-fit [] bs e s p a = tt
-records-fit (l ∷ ls) bs e s p a =
-    let t = takes (wants (l .says)) bs in
-    let fit : length t ≤ wants (l .says) = takes-fit (takes-taken (wants (l .says)) bs (wants-some (l .says)) (e .0)) .1 in
-    let short : wants (l .says) < 65536 = wants-short (l .says) (s .0) in
-    let errors : gathered 0 t < 2 ^ 7 = errors-fit 0 t (omega arith) (takes-beats (wants (l .says)) bs a) in
-    ((omega arith, p .0, omega arith, omega arith), records-fit ls (drop (length t) bs) (e .1) (s .1) (p .1) (drop-beats (length t) bs a))
+shares-errors : (ls : List Link) (bs : List ℕ) → Beats bs → All (λ (s : Share). s .errors < 2 ^ 7) (sharesOf ls bs)
+shares-errors [] bs a = tt
+shares-errors (l ∷ ls) bs a =
+    (errors-fit 0 (takes (wants (l .says)) bs) (omega arith) (takes-beats (wants (l .says)) bs a), shares-errors ls _ (drop-beats (shareOf l bs .taken) bs a))
+
+records-fit : (ss : List Share) → All (λ (s : Share). s .count < 65536) ss → All (λ (s : Share). s .errors < 2 ^ 7) ss
+    → All (λ l. l .at < 2 ^ 32) (linksOf ss) → AllFit (recordsOf 1 ss)
+records-fit [] c e p = tt
+records-fit (s ∷ ss) c e p = ((omega arith, p .0, c .0, omega (arith, e .0)), records-fit ss (c .1) (e .1) (p .1))
 
 -- ---- the latest among them
 
 module _ (address : ℕ) where
   -- records of other descriptors leave what was found before them
-  latest-none : (before : Finding) (ls : List Link) (bs : List ℕ) → All (λ l. l .at ≢ address) ls
-      → latest 1 address before (recordsOf 1 (sharesOf ls bs)) ≡ before
-  latest-none before [] bs a = refl
-  latest-none before (l ∷ ls) bs a = rw (latest, ne-eqb (l .at) address (a .0)) (latest-none before ls _ (a .1))
+  latest-none : (before : Finding) (ss : List Share) → All (λ l. l .at ≢ address) (linksOf ss) → latest 1 address before (recordsOf 1 ss) ≡ before
+  latest-none before [] a = refl
+  latest-none before (s ∷ ss) a = rw (latest, ne-eqb (s .link .at) address (a .0)) (latest-none before ss (a .1))
 
   latest-append : (before : Finding) (es fs : List Entry) → latest 1 address before (es ++ fs) ≡ latest 1 address (latest 1 address before es) fs
   latest-append before [] fs = refl
@@ -100,15 +99,13 @@ pairs-left (l ∷ ls) ms a = (all-left (Apart l) ls ms (a .0), pairs-left ls ms 
 apart-others : (l m : Link) → Apart l m → m .at ≢ l .at
 apart-others l m h e = h 0 (omega arith) 0 (omega arith) (omega (arith, e))
 
-latest-each : (before : (address : ℕ) → Finding) (ls : List Link) (bs : List ℕ) → Pairwise Apart ls
-    → All (λ s. latest 1 (s .link .at) (before (s .link .at)) (recordsOf 1 (sharesOf ls bs)) ≡ Found (length (s .beats))) (sharesOf ls bs)
-latest-each before [] bs a = tt
-latest-each before (l ∷ ls) bs a =
-    let t = takes (wants (l .says)) bs in
-    let rest = drop (length t) bs in
-    let first : Entry = recordOf 1 (record { link = l; beats = t }) in (
-      rw (latest, eq-eqb (l .at) (l .at) refl) (latest-none (l .at) (Found (length t)) ls rest (all-map (λ m h. apart-others l m h) ls (a .0))),
-      latest-each (λ (address : ℕ). if isOf 1 address first then Found (length t) else before address) ls rest (a .1),
+latest-each : (before : (address : ℕ) → Finding) (ss : List Share) → Pairwise Apart (linksOf ss)
+    → All (λ s. latest 1 (s .link .at) (before (s .link .at)) (recordsOf 1 ss) ≡ Found (s .count)) ss
+latest-each before [] a = tt
+latest-each before (s ∷ ss) a =
+    let l = s .link in (
+      rw (latest, eq-eqb (l .at) (l .at) refl) (latest-none (l .at) (Found (s .count)) ss (all-map (λ m h. apart-others l m h) (linksOf ss) (a .0))),
+      latest-each (λ (address : ℕ). if isOf 1 address (recordOf 1 s) then Found (s .count) else before address) ss (a .1),
     )
 
 -- ---- in a ledger that has them behind those used
@@ -119,11 +116,14 @@ module _ (window : Window) (pointer control : ℕ) (l : Lent) (k : ℕ) (h : Pre
   abbrev g : Given
   g = givenBy window pointer control k l
 
+  abbrev theirs : linksOf (shares g) ≡ links g
+  theirs = links-of (links g) (g .beats)
+
   abbrev rs : List Entry
   rs = recordsOf 1 (shares g)
 
   k-records : length rs ≡ k
-  k-records = length-records (links g) (g .beats) ∙ length-links window (l .window) pointer k
+  k-records = length-records (shares g) ∙ length-shares (links g) (g .beats) ∙ length-links window (l .window) pointer k
 
   room : 12 * (l .used + length rs) ≤ length (l .ledger)
   room =
@@ -138,13 +138,14 @@ module _ (window : Window) (pointer control : ℕ) (l : Lent) (k : ℕ) (h : Pre
   fit : AllFit rs
   unfolding keepsLimits
   fit =
-      let inside = all-left (λ l. inWindow window (l .at) 32 ≡ true) (links g) (last g ∷ []) (h .inside) in
+      let inside = all-left (λ l. inWindow window (l .at) 32 ≡ true) (links g) (last g ∷ []) (h .form .placed .inside) in
       let high : window .base + window .length ≤ 4294967296 =
       leb-true _ _ (and-right (leb (window .length) 65536 && leb (window .base) 4294967295) _ limits) in
-      records-fit (links g) (g .beats) (h .stream)
-      (links-short window (l .window) pointer k (all-bytes (l .window) (h .bytes)) (h .lent) inside)
-      (all-map (λ l i. let p = placed window (l .at) 32 i in omega (arith, p .address, p .fits, high)) (links g) inside)
-      (beats-of (l .beats) beats)
+      records-fit (shares g)
+      (shares-short (links g) (g .beats) (links-short window (l .window) pointer k (all-bytes (l .window) (h .bytes)) (h .lent) inside))
+      (shares-errors (links g) (g .beats) (beats-of (l .beats) beats))
+      (subst⁻¹ (All (λ l. l .at < 2 ^ 32)) theirs
+      (all-map (λ l i. let p = placed window (l .at) 32 i in omega (arith, p .address, p .fits, high)) (links g) inside))
 
   abbrev left : List ℕ
   left = put (l .ledger) (12 * l .used) (ledgerBytes rs)
@@ -166,11 +167,11 @@ module _ (window : Window) (pointer control : ℕ) (l : Lent) (k : ℕ) (h : Pre
         ∙ ap (latest 1 address NotFound) (records-back (l .ledger) (l .used) rs fit room)
         ∙ latest-append address NotFound (entriesIn (l .ledger) (l .used)) rs
 
-    pub each-in : All (λ s. findingIn after (l .used + k) 1 (s .link .at) ≡ Found (length (s .beats))) (shares g)
+    pub each-in : All (λ s. findingIn after (l .used + k) 1 (s .link .at) ≡ Found (s .count)) (shares g)
     each-in =
         all-map (λ s e. found-in (s .link .at) ∙ e) (shares g)
-        (latest-each (λ (address : ℕ). latest 1 address NotFound (entriesIn (l .ledger) (l .used))) (links g) (g .beats)
-        (pairs-left (links g) (last g ∷ []) (h .apart)))
+        (latest-each (λ (address : ℕ). latest 1 address NotFound (entriesIn (l .ledger) (l .used))) (shares g)
+        (subst⁻¹ (Pairwise Apart) theirs (pairs-left (links g) (last g ∷ []) (h .form .placed .apart))))
 
 -- Each of the k is found in run 1, with its count.
 pub each-found : EachFound

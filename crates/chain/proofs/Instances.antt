@@ -15,7 +15,8 @@ use Rattle.bus.specs.Window.{inWindow, placeOf}
 use Rattle.descriptor.specs.Layout.{bytesFor, descriptorAt}
 use Rattle.image.proofs.Tests.{and-left, and-right}
 use Rattle.machine.specs.declared.Ran.{Ran}
-use Rattle.chain.specs.Chain.{All, Given, everyLink, Off, Sent, sent, Premises, Outcome}
+use Rattle.links.specs.Form.{All, Off}
+use Rattle.chain.specs.Chain.{Given, everyLink, Sent, sent, Premises, Outcome}
 use Rattle.chain.specs.Known.{after, told, known, three}
 use Rattle.chain.specs.Theorems.{KnownRun1, ChainOfThree}
 use Rattle.chain.proofs.Theorem.{chain-theorem}
@@ -62,11 +63,15 @@ known-meets =
       stop-clear = refl;
       lent = refl;
       bytes = are-bytes (known .memory) refl;
-      k-owned = (refl, tt);
-      last-unowned = refl;
-      aligned = (refl, (refl, tt));
-      inside = (refl, (refl, tt));
-      apart = ((λ i a j b. omega arith, tt), (tt, tt));
+      form = record {
+        k-owned = (refl, tt);
+        last-unowned = refl;
+        placed = record {
+          aligned = (refl, (refl, tt));
+          inside = (refl, (refl, tt));
+          apart = ((λ i a j b. omega arith, tt), (tt, tt));
+        };
+      };
       stream = (refl, tt);
       ledger = omega arith;
       lands = (refl, (refl, (refl, (refl, tt))));
@@ -109,14 +114,18 @@ three-meets =
       stop-clear = refl;
       lent = refl;
       bytes = are-bytes (three .memory) refl;
-      k-owned = (refl, (refl, (refl, tt)));
-      last-unowned = refl;
-      aligned = (refl, (refl, (refl, (refl, tt))));
-      inside = (refl, (refl, (refl, (refl, tt))));
-      apart = (
-        (λ i a j b. omega arith, (λ i a j b. omega arith, (λ i a j b. omega arith, tt))),
-        ((λ i a j b. omega arith, (λ i a j b. omega arith, tt)), ((λ i a j b. omega arith, tt), (tt, tt))),
-      );
+      form = record {
+        k-owned = (refl, (refl, (refl, tt)));
+        last-unowned = refl;
+        placed = record {
+          aligned = (refl, (refl, (refl, (refl, tt))));
+          inside = (refl, (refl, (refl, (refl, tt))));
+          apart = (
+            (λ i a j b. omega arith, (λ i a j b. omega arith, (λ i a j b. omega arith, tt))),
+            ((λ i a j b. omega arith, (λ i a j b. omega arith, tt)), ((λ i a j b. omega arith, tt), (tt, tt))),
+          );
+        };
+      };
       stream = (refl, (refl, (refl, tt)));
       ledger = omega arith;
       lands = (refl, (refl, (refl, (refl, (refl, (refl, (refl, (refl, tt))))))));

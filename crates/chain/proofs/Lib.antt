@@ -2,11 +2,11 @@ pub mod Lists
 pub mod Memory
 pub mod Links
 pub mod Rules
-pub mod Moves
 pub mod Blocks
 pub mod Start
 pub mod One
 pub mod Walk
+pub mod FromStream
 pub mod Theorem
 pub mod Twice
 pub mod OfRun

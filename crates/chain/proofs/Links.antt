@@ -19,7 +19,8 @@ use Rattle.descriptor.specs.declared.Descriptor.{Descriptor}
 use Rattle.descriptor.specs.Layout.{owned, descriptorAt}
 use Rattle.descriptor.proofs.Reading.{by-offset, there}
 use Rattle.image.specs.Rules.{asked}
-use Rattle.chain.specs.Chain.{All, Link, linkAt, linksFrom, linkAfter, wants}
+use Rattle.links.specs.Form.{All, Link, linkAt, linksFrom, linkAfter}
+use Rattle.chain.specs.Chain.{wants}
 use Rattle.chain.proofs.Memory.{Placed, placed}
 
 -- in the memory m the chain from the address a on is the owned ls, and then the unowned e
@@ -61,10 +62,6 @@ chain-is w m a (suc k) o u = (refl, o .0, chain-is w m _ k (o .1) u)
 
 -- ---- lengths
 
--- what a descriptor wants is L, as the step rule has it in mode 2
-pub wants-is : (d : Descriptor) → wants d ≡ asked 2 (d .length)
-wants-is d = refl
-
 asked-some : (n : ℕ) → 0 < asked 2 n
 asked-some n = by (eqb n 0) refl
   where
@@ -73,7 +70,7 @@ asked-some n = by (eqb n 0) refl
     by false h = let k : n ≢ 0 = eqb-false n 0 h in omega arith
 
 pub wants-some : (d : Descriptor) → 0 < wants d
-wants-some d = subst⁻¹ (λ (n : ℕ). 0 < n) (wants-is d) (asked-some (d .length))
+wants-some d = asked-some (d .length)
 
 asked-short : (n : ℕ) → n < 65536 → asked 2 n < 65536
 asked-short n k = by (eqb n 0)
@@ -83,7 +80,7 @@ asked-short n k = by (eqb n 0)
     by false = k
 
 pub wants-short : (d : Descriptor) → d .length < 65536 → wants d < 65536
-wants-short d k = subst⁻¹ (λ (n : ℕ). n < 65536) (wants-is d) (asked-short (d .length) k)
+wants-short d k = asked-short (d .length) k
 
 pub all-bytes : (xs : List ℕ) → All (λ x. x < 256) xs → AllBytes xs
 all-bytes [] a = tt

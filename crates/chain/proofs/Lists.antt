@@ -3,7 +3,8 @@
 use Prim.Native.Nat.{ℕ, zero, suc}
 use mathlib.Core.List.{List, [], _∷_, _++_}
 use lib.ListN.{drop}
-use Rattle.chain.specs.Chain.{All, Link, Share, sharesOf}
+use Rattle.links.specs.Form.{All, Link}
+use Rattle.chain.specs.Chain.{Share}
 
 module _ {A : Type 0} where
   pub all-map : {P Q : A → Type 0} → ((x : A) → P x → Q x) → (xs : List A) → All P xs → All Q xs
@@ -37,7 +38,12 @@ pub all-swap : {A B : Type 0} (R : A → B → Type 0) (xs : List A) (ys : List 
 all-swap R xs [] a = tt
 all-swap R xs (y ∷ ys) a = (all-map (λ x b. b .0) xs a, all-swap R xs ys (all-map (λ x b. b .1) xs a))
 
--- of the links, so of their shares
-pub all-shares : (P : Link → Type 0) (ls : List Link) (bs : List ℕ) → All P ls → All (λ (s : Share). P (s .link)) (sharesOf ls bs)
-all-shares P [] bs a = tt
-all-shares P (l ∷ ls) bs a = (a .0, all-shares P ls _ (a .1))
+-- the links of shares
+abbrev pub linksOf : List Share → List Link
+linksOf [] = []
+linksOf (s ∷ ss) = s .link ∷ linksOf ss
+
+-- of the links, so of the shares
+pub all-linked : (P : Link → Type 0) (ss : List Share) → All P (linksOf ss) → All (λ (s : Share). P (s .link)) ss
+all-linked P [] a = tt
+all-linked P (s ∷ ss) a = (a .0, all-linked P ss (a .1))

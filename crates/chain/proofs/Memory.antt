@@ -23,7 +23,8 @@ use Rattle.descriptor.specs.Looking.{rawAt}
 use Rattle.descriptor.specs.Layout.{owned, descriptorAt, lastFour}
 use Rattle.descriptor.proofs.Reading.{by-offset, there}
 use Rattle.image.proofs.Tests.{and-left, and-right}
-use Rattle.chain.specs.Chain.{All, Sent}
+use Rattle.links.specs.Form.{All}
+use Rattle.chain.specs.Chain.{Sent}
 
 -- ---- the window
 

@@ -20,7 +20,6 @@ use Rattle.image.specs.declared.Tail.{Tail}
 use Rattle.image.specs.Rules.{keepsRules, lowestBroken}
 use Rattle.image.proofs.EachRule.{each-rule, each-keeps}
 use Rattle.regs.specs.Control.{runFrom}
-use Rattle.regs.specs.Offsets.{isRegister}
 use Rattle.machine.specs.declared.Core.{Core}
 use Rattle.machine.specs.declared.Slot.the-variants.{Empty}
 use Rattle.machine.specs.declared.Machine.{Machine}
@@ -28,7 +27,7 @@ use Rattle.machine.specs.declared.registers.WroteRegister.{WroteRegister}
 use Rattle.machine.specs.declared.registers.WroteRegister.the-variants as wrote
 use Rattle.machine.specs.declared.RunAnswer.{RunAnswer}
 use Rattle.machine.specs.State.{withPointer, withControl, freshCore, machineWith, fresh}
-use Rattle.machine.specs.Saved.{fieldsOf, tailOf, keeps, spoiled}
+use Rattle.machine.specs.Saved.{fieldsOf, tailOf, keeps}
 use Rattle.machine.specs.Registers.{controlStored, writtenTo, writeOf, WasWritten}
 use Rattle.machine.specs.Step.{World}
 use Rattle.machine.specs.Run.{run, even, Lent, Returned, Served, serves, servedOf, worldOf, outputOver, returned, ranAs, runAnswer}

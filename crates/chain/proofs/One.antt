@@ -1,148 +1,137 @@
--- One owned descriptor, from the Fetch that sees it to its mark.
+-- One owned descriptor, from the Fetch that sees it to its mark, by what its share says. How its bytes are moved is the mode's, and all
+-- that is asked of a mode is `Carried`.
 -- Assumes nothing.
-use Prim.Native.Nat.{ℕ, suc, _+_, _%_, _≤_, _<_}
-use mathlib.Core.Path.{_≡_, refl, sym, ap, _∙_}
-use mathlib.Core.Logic.{_≢_}
-use mathlib.Core.Bool.{true}
+use Prim.Native.Nat.{ℕ, suc, _+_, _-_, _%_, _≤_, _<_}
+use mathlib.Core.Path.{_≡_, refl, ap, _∙_}
+use mathlib.Core.Bool.{true, false, _&&_}
 use mathlib.Core.List.{List, [], _∷_, _++_}
 use native.Mathlib.Omega.{arith}
-use lib.ListN.{length, getD}
-use Rattle.words.specs.Slices.{part, putAt}
+use lib.Dec.{eqb}
+use lib.ListN.{length, getD, drop}
+use Rattle.words.specs.Slices.{part}
 use Rattle.words.proofs.Slices.{put-in, part-put}
 use Rattle.bus.specs.declared.Window.{Window}
 use Rattle.bus.specs.Window.{inWindow, placeOf}
 use Rattle.descriptor.specs.Layout.{owned, lastFour}
 use Rattle.descriptor.specs.Looking.{lookAt}
-use Rattle.regs.specs.declared.Mode.{Mode}
-use Rattle.regs.specs.Modes.{modeNumber}
-use Rattle.image.specs.Rules.{asked}
+use Rattle.links.specs.Form.{All}
 use Rattle.machine.specs.declared.Work.{Work}
-use Rattle.machine.specs.declared.Phase.the-variants.{Fetch}
-use Rattle.machine.specs.Step.{World, taken, seen, begun, whole, step}
+use Rattle.machine.specs.declared.Phase.the-variants.{Fetch, WriteBack}
+use Rattle.machine.specs.State.{withPhase}
+use Rattle.machine.specs.Step.{World, taken, laid, seen, wantsLength, step}
 use Rattle.machine.specs.Laws.{Along, more}
 use Rattle.machine.proofs.Puts.{length-put-at, put-off}
 use Rattle.machine.proofs.RunLaws.{along-last}
-use Rattle.chain.specs.Chain.{All, Link, wants, takes, enough, Share, gathered, recordOf, Sent, sentBy, Done}
-use Rattle.chain.proofs.Lists.{all-map, all-map2, all-each}
-use Rattle.chain.proofs.Memory.{Placed, placed, lastAt, last-writer}
-use Rattle.chain.proofs.Links.{wants-is, wants-some, wants-short}
-use Rattle.chain.proofs.Rules.{Set, Sees, fetchedWorld, fetch-step, markedWorld, write-step}
-use Rattle.chain.proofs.Moves.{Takes, takes-taken, takes-fit, worked, worked-at, worked-control, worked-moved, worked-errors, worked-eop, deliveredWorld, moves}
-use Rattle.chain.proofs.Blocks.{OffBytes, OffFour, BlocksKept, kept-none, kept-byte, done-by-four}
+use Rattle.chain.specs.Chain.{Share, Done}
+use Rattle.chain.proofs.Lists.{all-map}
+use Rattle.chain.proofs.Memory.{Placed, placed, writes, lastAt, last-writer}
+use Rattle.chain.proofs.Rules.{Set, Sees, fetchedWorld, fetch-step, markedWorld, Unhalted, write-step}
+use Rattle.chain.proofs.Blocks.{OffFour, BlocksKept, kept-none, done-by-four}
 
 abbrev pub windowOf : World → Window
 windowOf w = w .core .window
 
-module _ (w : World) (l : Link) where
-  abbrev pub itsBeats : List ℕ
-  itsBeats = takes (wants (l .says)) (w .input)
+-- the work in hand when its bytes are moved
+abbrev workOf : Share → Work
+workOf s =
+    let d = s .link .says in
+    record {
+      at = s .link .at;
+      source = d .source;
+      destination = d .destination;
+      length = d .length;
+      control = d .control;
+      errors = s .errors;
+      moved = s .count;
+      eop = s .eop;
+    }
 
-  abbrev pub itsShare : Share
-  itsShare = record { link = l; beats = itsBeats }
-
-  abbrev begins : Work
-  begins = begun (l .at) (l .says)
-
-  abbrev k : Work
-  k = worked begins itsBeats
-
+module _ (w : World) (s : Share) where
   -- after its bytes, and after its mark
   abbrev pub afterBytes : World
-  afterBytes = deliveredWorld (fetchedWorld w l) begins itsBeats (w .input)
+  afterBytes =
+      let v = fetchedWorld w (s .link) in
+      laid v (withPhase (WriteBack (workOf s)) (v .core)) (writes (windowOf w) (s .sent) (w .memory)) (drop (s .taken) (w .input)) (w .output ++ s .made) (w .room - length (s .made))
 
   abbrev pub afterMark : World
-  afterMark = markedWorld afterBytes k
+  afterMark = markedWorld afterBytes (workOf s)
 
   abbrev four : List ℕ
-  four = lastFour (length itsBeats) (gathered 0 itsBeats) (l .says .control .0 % 128)
+  four = lastFour (s .count) (s .errors) (s .link .says .control .0 % 128)
+
+-- what a mode gives of a share at the Fetch of its descriptor
+pub record Carried (w : World) (s : Share) : Type 0 where
+  -- it is not too short to be fetched, nor too long for its count
+  pub long : (wantsLength (w .core .mode) && eqb (s .link .says .length) 0) ≡ false
+  pub short : s .count < 65536
+  -- its bytes are moved, a step for each, and on the way no byte of memory differs but where they are sent
+  pub moves : Along (λ x. BlocksKept (windowOf w) (w .memory) (s .sent) (x .memory)) (s .count) (fetchedWorld w (s .link)) (afterBytes w s)
+  -- the beats that it takes are there, and its errors do not stop the machine
+  pub there : s .taken ≤ length (w .input)
+  pub goes-on : Unhalted (w .core) (s .errors)
+
+-- and of all of a chain, each at its own Fetch
+abbrev pub Ready : World → List Share → Type 0
+Ready w [] = Unit {0}
+Ready w (s ∷ ss) = Carried w s × Ready (afterMark w s) ss
 
 -- what holds at that Fetch
-pub record AtOne (w : World) (l : Link) : Type 0 where
+pub record AtOne (w : World) (s : Share) : Type 0 where
   pub fetching : w .core .phase ≡ Fetch
   pub set : Set (w .core)
   pub lent : length (w .memory) ≡ w .core .window .length
-  pub points : w .core .pointer .0 ≡ l .at
-  pub sees : Sees w (l .says)
-  pub owns : owned (l .says .control .0) ≡ true
-  pub short : l .says .length < 65536
-  pub inside : inWindow (w .core .window) (l .at) 32 ≡ true
-  pub stream : enough (wants (l .says)) (w .input) ≡ true
+  pub points : w .core .pointer .0 ≡ s .link .at
+  pub sees : Sees w (s .link .says)
+  pub owns : owned (s .link .says .control .0) ≡ true
+  pub inside : inWindow (w .core .window) (s .link .at) 32 ≡ true
   pub ledger : 0 < w .left
-  pub lands : All (λ s. inWindow (w .core .window) (s .to) 1 ≡ true) (sentBy (itsShare w l))
+  pub lands : All (λ x. inWindow (w .core .window) (x .to) 1 ≡ true) (s .sent)
+  pub carried : Carried w s
 
-module _ (w : World) (l : Link) (r : AtOne w l) where
-  abbrev t : List ℕ
-  t = itsBeats w l
-
-  abbrev share : Share
-  share = itsShare w l
-
-  pub taking : Takes (wants (l .says)) t (w .input)
-  taking = takes-taken (wants (l .says)) (w .input) (wants-some (l .says)) (r .stream)
-
-  pub stands : Placed (windowOf w) (l .at) 32
-  stands = placed (windowOf w) (l .at) 32 (r .inside)
+module _ (w : World) (s : Share) (r : AtOne w s) where
+  pub stands : Placed (windowOf w) (s .link .at) 32
+  stands = placed (windowOf w) (s .link .at) 32 (r .inside)
 
   -- ---- its bytes
 
-  pub sending : Along (λ x. BlocksKept (windowOf w) (w .memory) (sentBy share) (x .memory)) (suc (length t)) w (afterBytes w l)
+  pub sending : Along (λ x. BlocksKept (windowOf w) (w .memory) (s .sent) (x .memory)) (suc (s .count)) w (afterBytes w s)
   sending =
-      let want : whole (fetchedWorld w l .core) (begins w l) ≡ wants (l .says) =
-      ap (λ (x : Mode). asked (modeNumber x) (l .says .length)) (r .set .mode-is) ∙ sym (wants-is (l .says)) in
-      more (kept-none _ _ _) (fetch-step w l (r .fetching) (r .set) (r .points) (r .sees) (r .owns))
-      (moves (BlocksKept (windowOf w) (w .memory) (sentBy share))
-      (λ s. (inWindow (windowOf w) (s .to) 1 ≡ true) × ((p : ℕ) → OffBytes (windowOf w) (sentBy share) p → s .to ≢ windowOf w .base + p))
-      taking (fetchedWorld w l) (begins w l) refl (r .set) refl (omega arith) (λ s q. q .0)
-      (λ m s q h. kept-byte (windowOf w) (w .memory) (sentBy share) m s (placed _ _ _ (q .0)) (q .1) h)
-      (all-map2 (λ s x y. (x, y)) (sentBy share) (r .lands) (all-each (λ (p : ℕ) (s : Sent). s .to ≢ windowOf w .base + p) (sentBy share)))
-      (kept-none _ _ _))
+      more (kept-none _ _ _) (fetch-step w (s .link) (r .fetching) (r .set) (r .points) (r .sees) (r .owns) (r .carried .long)) (r .carried .moves)
 
-  pub kept : BlocksKept (windowOf w) (w .memory) (sentBy share) (afterBytes w l .memory)
+  pub kept : BlocksKept (windowOf w) (w .memory) (s .sent) (afterBytes w s .memory)
   kept = along-last sending
 
   -- ---- its mark
 
-  pub mark-step : step (afterBytes w l) ≡ taken (afterMark w l)
-  mark-step = write-step (afterBytes w l) (k w l) refl (r .set) (r .ledger)
+  pub mark-step : step (afterBytes w s) ≡ taken (afterMark w s)
+  mark-step = write-step (afterBytes w s) (workOf s) refl (r .set) (r .carried .goes-on) (r .ledger)
 
-  mark-is : afterMark w l .memory ≡ putAt (afterBytes w l .memory) (placeOf (windowOf w) (l .at) + 28) (four w l)
-  mark-is =
-      let n : k w l .moved ≡ length t = worked-moved (begins w l) t ∙ omega arith in
-      rw (worked-at (begins w l) t, n, worked-errors (begins w l) t, worked-control (begins w l) t)
+  pub mark-size : length (afterMark w s .memory) ≡ length (w .memory)
+  mark-size = length-put-at (afterBytes w s .memory) _ (four w s) ∙ kept .size
 
-  pub mark-records : afterMark w l .records ≡ w .records ++ recordOf (w .run) share ∷ []
-  mark-records =
-      let n : k w l .moved ≡ length t = worked-moved (begins w l) t ∙ omega arith in
-      rw (worked-at (begins w l) t, n, worked-errors (begins w l) t, worked-eop (begins w l) t)
-
-  pub mark-size : length (afterMark w l .memory) ≡ length (w .memory)
-  mark-size = ap length mark-is ∙ length-put-at (afterBytes w l .memory) _ _ ∙ kept .size
-
-  pub mark-off : (p : ℕ) → OffFour (windowOf w) p l → getD (afterMark w l .memory) p 0 ≡ getD (afterBytes w l .memory) p 0
+  pub mark-off : (p : ℕ) → OffFour (windowOf w) p (s .link) → getD (afterMark w s .memory) p 0 ≡ getD (afterBytes w s .memory) p 0
   mark-off p o =
-      ap (λ (m : List ℕ). getD m p 0) mark-is
-      ∙ put-off (afterBytes w l .memory) _ _ p
-      (λ j h f. o j h (let g : p ≡ placeOf (windowOf w) (l .at) + 28 + j = f in omega (arith, stands .address)))
+      put-off (afterBytes w s .memory) _ (four w s) p
+      (λ j h f. o j h (let g : p ≡ placeOf (windowOf w) (s .link .at) + 28 + j = f in omega (arith, stands .address)))
 
-  fits : placeOf (windowOf w) (l .at) + 32 ≤ length (w .memory)
+  fits : placeOf (windowOf w) (s .link .at) + 32 ≤ length (w .memory)
   fits = omega (arith, stands .fits, r .lent)
 
-  pub done-here : Done (windowOf w) (afterMark w l .memory) share
+  pub done-here : Done (windowOf w) (afterMark w s .memory) s
   done-here =
-      let p : ℕ = placeOf (windowOf w) (l .at) in
-      let room : p + 28 + length (four w l) ≤ length (afterBytes w l .memory) = omega (arith, fits, kept .size) in
-      done-by-four (windowOf w) (afterMark w l .memory) share (omega (arith, fits, mark-size))
-      (let f = takes-fit taking in omega (arith, wants-short (l .says) (r .short)))
-      (ap (λ (m : List ℕ). part m (p + 28) 4) (mark-is ∙ put-in (afterBytes w l .memory) (p + 28) (four w l) room)
-      ∙ part-put (afterBytes w l .memory) (p + 28) (four w l) 4 room refl)
+      let p : ℕ = placeOf (windowOf w) (s .link .at) in
+      let room : p + 28 + length (four w s) ≤ length (afterBytes w s .memory) = omega (arith, fits, kept .size) in
+      done-by-four (windowOf w) (afterMark w s .memory) s (omega (arith, fits, mark-size)) (r .carried .short)
+      (ap (λ (m : List ℕ). part m (p + 28) 4) (put-in (afterBytes w s .memory) (p + 28) (four w s) room)
+      ∙ part-put (afterBytes w s .memory) (p + 28) (four w s) 4 room refl)
 
   -- the bytes that it leaves
-  pub bytes-here : (p : ℕ) → OffFour (windowOf w) p l
-      → getD (afterMark w l .memory) p 0 ≡ lastAt (windowOf w .base + p) (sentBy share) (getD (w .memory) p 0)
+  pub bytes-here : (p : ℕ) → OffFour (windowOf w) p (s .link)
+      → getD (afterMark w s .memory) p 0 ≡ lastAt (windowOf w .base + p) (s .sent) (getD (w .memory) p 0)
   bytes-here p o =
-      mark-off p o ∙ last-writer (windowOf w) p (sentBy share) (w .memory) (r .lent) (all-map (λ s h. placed _ _ _ h) (sentBy share) (r .lands))
+      mark-off p o ∙ last-writer (windowOf w) p (s .sent) (w .memory) (r .lent) (all-map (λ s h. placed _ _ _ h) (s .sent) (r .lands))
 
   -- what the next Fetch sees was read when this one was fetched
-  pub sees-next : seen (afterMark w l) ≡ lookAt (windowOf w) (w .memory) (l .says .next)
+  pub sees-next : seen (afterMark w s) ≡ lookAt (windowOf w) (w .memory) (s .link .says .next)
   unfolding seen
   sees-next = refl

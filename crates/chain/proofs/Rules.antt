@@ -1,8 +1,8 @@
--- The step rule where the chain meets it, phase by phase, in stream-to-memory mode.
+-- The step rule where the chain meets it, phase by phase.
 -- Assumes nothing.
 use Prim.Native.Nat.{ℕ, zero, suc, _+_, _-_, _%_, _<_}
 use mathlib.Core.Path.{_≡_, refl, sym, ap, subst, _∙_}
-use mathlib.Core.Bool.{Bool, true, false, not, cond, _&&_, _||_, and-false}
+use mathlib.Core.Bool.{Bool, true, false, not, cond, _&&_, _||_}
 use mathlib.Core.List.{List, [], _∷_, _++_}
 use native.Mathlib.Omega.{arith}
 use lib.Dec.{eqb}
@@ -30,17 +30,15 @@ use Rattle.machine.specs.declared.Slot.{Slot}
 use Rattle.machine.specs.declared.Slot.the-variants.{Empty, Ahead}
 use Rattle.machine.specs.State.{remade, withPointer, withPhase, withBusy, rested, settled}
 use Rattle.machine.specs.Step.{World, taken, became, stored, received, noted, holding, settle, seen, entryFor, backTo, restStep, ended, wantsLength, begun, fetched, meets, fetchStep, whole, destinationOf, withByte, onward, receiveFrom, moveStep, writtenControl, writtenBack, completed, writeBackStep, stepIn, step}
-use Rattle.chain.specs.Chain.{Link, linkAt}
+use Rattle.links.specs.Form.{Link, linkAt}
 
--- the machine runs, in this mode, and neither parks nor stops on errors
-pub record SetSo (mode : Mode) (control : Control) : Type 0 where
-  pub mode-is : mode ≡ StreamToMemory
+-- the machine runs and does not park
+pub record SetSo (control : Control) : Type 0 where
   pub runs : run control ≡ true
   pub unparked : park control ≡ false
-  pub unstopped : stopDmaEr control ≡ false
 
 abbrev pub Set : Core → Type 0
-Set m = SetSo (m .mode) (m .control)
+Set m = SetSo (m .control)
 
 pub rest-step : (w : World) → w .core .phase ≡ Rest → run (w .core .control) ≡ true
     → step w ≡ taken (became w (withPhase Fetch (withBusy true (w .core))))
@@ -90,18 +88,17 @@ module _ (w : World) (l : Link) (p : w .core .phase ≡ Fetch) (c : Set (w .core
       ∙ ap (λ (x : Look). settle (meets w x)) (v .look)
       ∙ ap (λ (d : Descriptor). settle (fetched w d)) (v .names)
 
-  pub fetch-step : owned (l .says .control .0) ≡ true → step w ≡ taken (fetchedWorld w l)
+  pub fetch-step : owned (l .says .control .0) ≡ true → (wantsLength (w .core .mode) && eqb (l .says .length) 0) ≡ false
+      → step w ≡ taken (fetchedWorld w l)
   unfolding fetched
-  fetch-step o =
-      let long : (d : Descriptor) → (wantsLength (w .core .mode) && eqb (d .length) 0) ≡ false =
-      λ d. ap (λ (x : Mode). wantsLength x && eqb (d .length) 0) (c .mode-is) in
+  fetch-step o long =
       looked ∙ rw (o, long) (ap (λ (a : ℕ). taken (fetchedWorld w (record { at = a; says = l .says }))) h)
 
   pub end-step : owned (l .says .control .0) ≡ false → step w ≡ taken (holding (became w (ended (w .core))) Empty)
   unfolding fetched
   end-step o = looked ∙ rw o
 
--- ---- Move
+-- ---- Move, from stream to memory
 
 -- a beat is taken, and its byte written
 abbrev pub receivedWorld : World → Work → ℕ → List ℕ → Phase → World
@@ -122,12 +119,12 @@ kept-going m k slot = by (k .eop || eqb (k .moved) (whole m k))
     by true = refl
     by false = refl
 
-pub move-step : (w : World) (k : Work) (b : ℕ) (bs : List ℕ) (q : Phase) → w .core .phase ≡ Move k → Set (w .core)
+pub move-step : (w : World) (k : Work) (b : ℕ) (bs : List ℕ) (q : Phase) → w .core .phase ≡ Move k → w .core .mode ≡ StreamToMemory
     → w .input ≡ b ∷ bs → inWindow (w .core .window) (destinationOf k) 1 ≡ true
     → goesTo (w .core) (withBeat b k) ≡ q → step w ≡ taken (receivedWorld w k b bs q)
 unfolding step onward
 move-step w k b bs q p c i h g =
-    ap (λ (x : Phase). settle (stepIn x w)) p ∙ ap (λ (x : Mode). settle (moveStep x w k)) (c .mode-is) ∙ ap (λ (bs : List ℕ). settle (receiveFrom w k bs)) i
+    ap (λ (x : Phase). settle (stepIn x w)) p ∙ ap (λ (x : Mode). settle (moveStep x w k)) c ∙ ap (λ (bs : List ℕ). settle (receiveFrom w k bs)) i
     ∙ rw h (λ x. taken (holding (receivedWorld w k b bs (g x)) (kept-going (w .core) (withBeat b k) (w .slot) x)))
 
 -- ---- WriteBack
@@ -145,14 +142,20 @@ markedBy w k left =
 abbrev pub markedWorld : World → Work → World
 markedWorld w k = markedBy w k (w .left - 1)
 
-write-by : (w : World) (k : Work) → Set (w .core) → (left : ℕ) → w .left ≡ left → 0 < left → backTo w k left ≡ taken (markedWorld w k)
+-- its errors do not stop the machine
+abbrev pub Unhalted : Core → (errors : ℕ) → Type 0
+Unhalted m errors = (not (eqb errors 0) && stopDmaEr (m .control)) ≡ false
+
+write-by : (w : World) (k : Work) → Set (w .core) → Unhalted (w .core) (k .errors) → (left : ℕ) → w .left ≡ left → 0 < left
+    → backTo w k left ≡ taken (markedWorld w k)
 unfolding writtenBack writtenControl completed
-write-by w k c zero l h = absurd (omega arith)
-write-by w k c (suc left) l h =
+write-by w k c u zero l h = absurd (omega arith)
+write-by w k c u (suc left) l h =
     let one : left ≡ w .left - 1 = omega (arith, l) in
-    let back : backTo w k (suc left) ≡ taken (markedBy w k left) = simp (c .runs, c .unparked, c .unstopped, and-false) in
+    let back : backTo w k (suc left) ≡ taken (markedBy w k left) = simp (c .runs, c .unparked, u) in
     back ∙ ap (λ (n : ℕ). taken (markedBy w k n)) one
 
-pub write-step : (w : World) (k : Work) → w .core .phase ≡ WriteBack k → Set (w .core) → 0 < w .left → step w ≡ taken (markedWorld w k)
+pub write-step : (w : World) (k : Work) → w .core .phase ≡ WriteBack k → Set (w .core) → Unhalted (w .core) (k .errors) → 0 < w .left
+    → step w ≡ taken (markedWorld w k)
 unfolding step writeBackStep
-write-step w k p c h = ap (λ (x : Phase). settle (stepIn x w)) p ∙ ap settle (write-by w k c (w .left) refl h)
+write-step w k p c u h = ap (λ (x : Phase). settle (stepIn x w)) p ∙ ap settle (write-by w k c u (w .left) refl h)

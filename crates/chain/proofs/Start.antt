@@ -1,7 +1,7 @@
 -- The machine of demand 3 after its two writes, and after the step out of Rest.
 -- Assumes nothing.
 use Prim.Native.Nat.{ℕ, _/_, _%_}
-use mathlib.Core.Path.{_≡_, refl, ap, ap₂}
+use mathlib.Core.Path.{_≡_, ap, ap₂}
 use mathlib.Core.Bool.{true, false, and-false}
 use native.Mathlib.Omega.{arith}
 use Rattle.words.specs.Bits.{bit}
@@ -52,12 +52,8 @@ module _ (g : Given) where
       (write-runs (g .control) (withPointer (g .pointer) (freshCore StreamToMemory (g .window))) (and-false (bit 16 (g .control))) h)
       (first-run (g .control) h)
 
-  pub set-so : run (asControl (g .control)) ≡ true → park (asControl (g .control)) ≡ false → stopDmaEr (asControl (g .control)) ≡ false
-      → Set (fetching .core)
-  set-so r p s =
-      record {
-        mode-is = refl;
-        runs = rw (stored-5 (g .control)) r;
-        unparked = rw (stored-17 (g .control)) p;
-        unstopped = rw (stored-6 (g .control)) s;
-      }
+  pub set-so : run (asControl (g .control)) ≡ true → park (asControl (g .control)) ≡ false → Set (fetching .core)
+  set-so r p = record { runs = rw (stored-5 (g .control)) r; unparked = rw (stored-17 (g .control)) p }
+
+  pub unstopped : stopDmaEr (asControl (g .control)) ≡ false → stopDmaEr (fetching .core .control) ≡ false
+  unstopped s = rw (stored-6 (g .control)) s

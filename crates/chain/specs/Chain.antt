@@ -1,24 +1,25 @@
--- Demand 3: what one run makes of a chain of descriptors in memory and of the beats of a stream. What is given, the chain, what
--- the stream gives each descriptor, where each byte lands; then the premises and the conclusions in the demand's order and words.
--- The theorems are `chain-theorem` and `chain-at-every-step`.
+-- Demand 3: what one run makes of a chain of descriptors in memory and of the beats of a stream. What is given, the chain, what each
+-- descriptor moves; then the premises and the conclusions in the demand's order and words. The form of a chain in memory is `Form` of
+-- crate links. The theorems are `chain-theorem` and `chain-at-every-step`.
 -- Assumes nothing.
 use Prim.Native.Nat.{ℕ, zero, suc, _+_, _%_, _≤_, _<_}
 use mathlib.Core.Path.{_≡_}
 use mathlib.Core.Logic.{_≢_}
 use mathlib.Core.Bool.{Bool, true, false, cond, _||_}
 use mathlib.Core.List.{List, [], _∷_, _++_}
-use lib.Bits.{bitOr}
-use lib.Dec.{eqb}
 use lib.ListN.{length, getD, take, drop}
 use Rattle.words.specs.Slices.{part}
 use Rattle.bus.specs.declared.Window.{Window}
 use Rattle.bus.specs.Window.{inWindow, placeOf}
 use Rattle.descriptor.specs.declared.Descriptor.{Descriptor}
-use Rattle.descriptor.specs.Layout.{writeFixed, owned, descriptorAt, lastFour}
+use Rattle.descriptor.specs.Layout.{writeFixed, owned, lastFour}
+use Rattle.links.specs.Form.{All, Link, linkAt, linksFrom, linkAfter, everyFrom, Off, Form}
 use Rattle.regs.specs.declared.Mode.the-variants.{StreamToMemory}
 use Rattle.regs.specs.Control as register
 use Rattle.ledger.specs.declared.Entry.{Entry}
-use Rattle.flow.specs.Beats.{beatError, beatEop, beatData}
+use Rattle.flow.specs.Beats.{beatEop, beatData}
+use Rattle.flow.specs.Rows.{landing, gathered}
+use Rattle.image.specs.Rules.{asked}
 use Rattle.machine.specs.declared.Machine.{Machine}
 use Rattle.machine.specs.declared.Reason.the-variants.{Ended, Budget}
 use Rattle.machine.specs.declared.Ran.{Ran}
@@ -26,15 +27,6 @@ use Rattle.machine.specs.State.{fresh}
 use Rattle.machine.specs.Registers.{writtenTo}
 use Rattle.machine.specs.Step.{World, opened}
 use Rattle.machine.specs.Run.{run}
-
-abbrev pub All {ℓ} : {A : Type ℓ} → (A → Type 0) → List A → Type 0
-All P [] = Unit {0}
-All P (x ∷ xs) = P x × All P xs
-
--- of each and every later one
-abbrev pub Pairwise {ℓ} : {A : Type ℓ} → (A → A → Type 0) → List A → Type 0
-Pairwise R [] = Unit {0}
-Pairwise R (x ∷ xs) = All (R x) xs × Pairwise R xs
 
 -- ---- what is given
 
@@ -61,24 +53,6 @@ worldFor g = opened (machineFor g) (g .memory) (g .beats) (g .room) (g .left)
 
 -- ---- the chain in memory
 
--- a descriptor: its address, and what it says
-pub record Link : Type 0 where
-  pub at : ℕ
-  pub says : Descriptor
-
-abbrev pub linkAt : Window → List ℕ → ℕ → Link
-linkAt window memory a = record { at = a; says = descriptorAt memory (placeOf window a) }
-
--- so many from the address a on, each at the next_desc_ptr of the one before
-abbrev pub linksFrom : Window → List ℕ → ℕ → ℕ → List Link
-linksFrom window memory a zero = []
-linksFrom window memory a (suc n) = linkAt window memory a ∷ linksFrom window memory (linkAt window memory a .says .next) n
-
--- and the one after them
-abbrev pub linkAfter : Window → List ℕ → ℕ → ℕ → Link
-linkAfter window memory a zero = linkAt window memory a
-linkAfter window memory a (suc n) = linkAfter window memory (linkAt window memory a .says .next) n
-
 -- the k, the one at their end, and all of them
 abbrev pub links : Given → List Link
 links g = linksFrom (g .window) (g .memory) (g .pointer) (g .k)
@@ -87,21 +61,57 @@ abbrev pub last : Given → Link
 last g = linkAfter (g .window) (g .memory) (g .pointer) (g .k)
 
 abbrev pub everyLink : Given → List Link
-everyLink g = links g ++ (last g ∷ [])
+everyLink g = everyFrom (g .window) (g .memory) (g .pointer) (g .k)
 
--- the address q is none of a descriptor's 32
-abbrev pub Off : Link → ℕ → Type 0
-Off l q = (i : ℕ) → i < 32 → q ≢ l .at + i
+-- ---- what a descriptor moves
 
--- two descriptors have no byte in common
-abbrev pub Apart : Link → Link → Type 0
-Apart l m = (i : ℕ) → i < 32 → Off m (l .at + i)
+-- a byte on its way to an address
+pub record Sent : Type 0 where
+  pub to : ℕ
+  pub byte : ℕ
+
+-- what one descriptor moves: the conclusions speak of this alone, whatever the mode
+pub record Share : Type 0 where
+  -- the descriptor
+  pub link : Link
+  -- how many bytes it moves
+  pub count : ℕ
+  -- the errors gathered with them, and whether the last came with EOP
+  pub errors : ℕ
+  pub eop : Bool
+  -- what it sends where, in this order
+  pub sent : List Sent
+  -- which beats it makes, and how many it takes
+  pub made : List ℕ
+  pub taken : ℕ
+
+-- the beats taken, and the steps: for each its bytes and 2 more
+abbrev pub given : List Share → ℕ
+given [] = 0
+given (s ∷ ss) = s .taken + given ss
+
+abbrev pub cost : List Share → ℕ
+cost [] = 0
+cost (s ∷ ss) = s .count + 2 + cost ss
+
+-- the bytes sent, in the order in which they are sent
+abbrev pub sentByAll : List Share → List Sent
+sentByAll [] = []
+sentByAll (s ∷ ss) = s .sent ++ sentByAll ss
+
+-- the record of each, dated with the run
+abbrev pub recordOf : (run : ℕ) → Share → Entry
+recordOf run s = record { run = run; at = s .link .at; actual = s .count; status = s .errors; eop = s .eop }
+
+abbrev pub recordsOf : (run : ℕ) → List Share → List Entry
+recordsOf run [] = []
+recordsOf run (s ∷ ss) = recordOf run s ∷ recordsOf run ss
 
 -- ---- what the stream gives a descriptor
 
--- bytes_to_transfer; a 0 means 65,535. Said anew, for this file to be read alone; that it is L of the step rule is `wants-is`
+-- L in stream-to-memory mode: bytes_to_transfer; a 0 means 65,535
 abbrev pub wants : Descriptor → ℕ
-wants d = cond (eqb (d .length) 0) 65535 (d .length)
+wants d = asked 2 (d .length)
 
 -- of the beats n, or up to the first EOP
 abbrev pub takes : ℕ → List ℕ → List ℕ
@@ -115,75 +125,43 @@ enough zero bs = true
 enough (suc n) [] = false
 enough (suc n) (b ∷ bs) = beatEop b || enough n bs
 
--- a descriptor and the beats that the stream gives it
-pub record Share : Type 0 where
-  pub link : Link
-  pub beats : List ℕ
-
--- each takes from what those before it left
-abbrev pub sharesOf : List Link → List ℕ → List Share
-sharesOf [] bs = []
-sharesOf (l ∷ ls) bs = record { link = l; beats = takes (wants (l .says)) bs } ∷ sharesOf ls (drop (length (takes (wants (l .says)) bs)) bs)
-
-abbrev pub Enough : List Link → List ℕ → Type 0
-Enough [] bs = Unit {0}
-Enough (l ∷ ls) bs = (enough (wants (l .says)) bs ≡ true) × Enough ls (drop (length (takes (wants (l .says)) bs)) bs)
-
-abbrev pub shares : Given → List Share
-shares g = sharesOf (links g) (g .beats)
-
--- the bytes given, and the steps: for each its bytes and 2 more
-abbrev pub given : List Share → ℕ
-given [] = 0
-given (s ∷ ss) = length (s .beats) + given ss
-
-abbrev pub cost : List Share → ℕ
-cost [] = 0
-cost (s ∷ ss) = length (s .beats) + 2 + cost ss
-
--- the errors of beats, gathered by OR. Said anew as well; that the steps gather the same is `worked-errors`
-abbrev pub gathered : (errors : ℕ) → List ℕ → ℕ
-gathered errors [] = errors
-gathered errors (b ∷ bs) = gathered (bitOr errors (beatError b)) bs
-
 -- whether the last of the beats had EOP
 abbrev pub endsPacket : (before : Bool) → List ℕ → Bool
 endsPacket before [] = before
 endsPacket before (b ∷ bs) = endsPacket (beatEop b) bs
 
--- the record of each, dated with the run
-abbrev pub recordOf : (run : ℕ) → Share → Entry
-recordOf run s =
-    record { run = run; at = s .link .at; actual = length (s .beats); status = gathered 0 (s .beats); eop = endsPacket false (s .beats) }
-
-abbrev pub recordsOf : (run : ℕ) → List Share → List Entry
-recordsOf run [] = []
-recordsOf run (s ∷ ss) = recordOf run s ∷ recordsOf run ss
-
--- ---- where each byte lands
-
--- a byte on its way to an address
-pub record Sent : Type 0 where
-  pub to : ℕ
-  pub byte : ℕ
-
--- byte i at destination + i, without i under WRITE_FIXED. Said anew as well; that the steps write there is in `moves`
-abbrev pub landing : (fixed : Bool) (destination i : ℕ) → ℕ
-landing fixed destination i = cond fixed destination (destination + i)
-
--- the bytes of beats, from byte i on
+-- the bytes of beats, from byte i on, each at destination + i, without i under WRITE_FIXED
 abbrev pub sentFrom : (fixed : Bool) (destination i : ℕ) → List ℕ → List Sent
 sentFrom fixed destination i [] = []
 sentFrom fixed destination i (b ∷ bs) =
     record { to = landing fixed destination i; byte = beatData b } ∷ sentFrom fixed destination (i + 1) bs
 
-abbrev pub sentBy : Share → List Sent
-sentBy s = sentFrom (writeFixed (s .link .says .control .0)) (s .link .says .destination) 0 (s .beats)
+-- the share of a descriptor, by the mode: from stream to memory it is what it takes of the beats bs
+abbrev pub shareOf : Link → List ℕ → Share
+shareOf l bs =
+    let its = takes (wants (l .says)) bs in
+    record {
+      link = l;
+      count = length its;
+      errors = gathered 0 its;
+      eop = endsPacket false its;
+      sent = sentFrom (writeFixed (l .says .control .0)) (l .says .destination) 0 its;
+      made = [];
+      taken = length its;
+    }
 
--- in the order in which they are sent
-abbrev pub sentByAll : List Share → List Sent
-sentByAll [] = []
-sentByAll (s ∷ ss) = sentBy s ++ sentByAll ss
+-- along the chain, each from what those before it left
+abbrev pub sharesOf : List Link → List ℕ → List Share
+sharesOf [] bs = []
+sharesOf (l ∷ ls) bs = shareOf l bs ∷ sharesOf ls (drop (shareOf l bs .taken) bs)
+
+-- and there is enough for each
+abbrev pub Enough : List Link → List ℕ → Type 0
+Enough [] bs = Unit {0}
+Enough (l ∷ ls) bs = (enough (wants (l .says)) bs ≡ true) × Enough ls (drop (shareOf l bs .taken) bs)
+
+abbrev pub shares : Given → List Share
+shares g = sharesOf (links g) (g .beats)
 
 abbrev pub sent : Given → List Sent
 sent g = sentByAll (shares g)
@@ -198,13 +176,8 @@ pub record Premises (g : Given) : Type 0 where
   -- the window is lent whole, and what it holds is bytes
   pub lent : length (g .memory) ≡ g .window .length
   pub bytes : All (λ x. x < 256) (g .memory)
-  -- "k owned descriptors and one unowned at its end"
-  pub k-owned : All (λ l. owned (l .says .control .0) ≡ true) (links g)
-  pub last-unowned : owned (last g .says .control .0) ≡ false
-  -- "all aligned, in the window and not overlapping"
-  pub aligned : All (λ l. l .at % 4 ≡ 0) (everyLink g)
-  pub inside : All (λ l. inWindow (g .window) (l .at) 32 ≡ true) (everyLink g)
-  pub apart : Pairwise Apart (everyLink g)
+  -- "k owned descriptors and one unowned at its end, all aligned, in the window and not overlapping"
+  pub form : Form (g .window) (g .memory) (g .pointer) (g .k)
   -- "The stream holds every byte the chain will take"
   pub stream : Enough (links g) (g .beats)
   -- "room for k records"
@@ -219,9 +192,8 @@ pub record Premises (g : Given) : Type 0 where
 -- and its control as fetched but for OWNED
 pub record Done (window : Window) (memory : List ℕ) (s : Share) : Type 0 where
   pub marked : owned (linkAt window memory (s .link .at) .says .control .0) ≡ false
-  pub count : linkAt window memory (s .link .at) .says .actual ≡ length (s .beats)
-  pub four : part memory (placeOf window (s .link .at) + 28) 4
-      ≡ lastFour (length (s .beats)) (gathered 0 (s .beats)) (s .link .says .control .0 % 128)
+  pub count : linkAt window memory (s .link .at) .says .actual ≡ s .count
+  pub four : part memory (placeOf window (s .link .at) + 28) 4 ≡ lastFour (s .count) (s .errors) (s .link .says .control .0 % 128)
 
 -- one not yet done: still owned, its 32 bytes as they were before
 pub record Waiting (window : Window) (before memory : List ℕ) (s : Share) : Type 0 where

@@ -12,7 +12,8 @@ use Rattle.descriptor.specs.Layout.{bytesFor}
 use Rattle.machine.specs.declared.Ran.{Ran}
 use Rattle.machine.specs.declared.Reason.the-variants.{Ended}
 use Rattle.machine.specs.Run.{run, ranAs}
-use Rattle.chain.specs.Chain.{All, Given, worldFor, Sent, Premises}
+use Rattle.links.specs.Form.{All}
+use Rattle.chain.specs.Chain.{Given, worldFor, Sent, Premises}
 
 -- ---- what is concluded, in numbers
 

@@ -12,7 +12,8 @@ use Rattle.ledger.specs.declared.Finding.the-variants.{Found}
 use Rattle.ledger.specs.Finding.{findingIn}
 use Rattle.machine.specs.declared.RunAnswer.{RunAnswer}
 use Rattle.machine.specs.Run.{run, Lent, Returned, ranAs}
-use Rattle.chain.specs.Chain.{All, Given, worldFor, shares, cost, recordsOf, Premises, FirstFew, AtEveryStep, Outcome}
+use Rattle.links.specs.Form.{All}
+use Rattle.chain.specs.Chain.{Given, worldFor, shares, cost, recordsOf, Premises, FirstFew, AtEveryStep, Outcome}
 use Rattle.chain.specs.Enough.{WithinBudget}
 use Rattle.chain.specs.Twice.{twice, LinksToItself, RanTwice}
 use Rattle.chain.specs.Calls.{givenBy, Called, Finished}
@@ -68,7 +69,7 @@ EachFound = (window : Window) (pointer control : ℕ) (l : Lent) (budget : ℕ) 
     → Called window pointer control l budget r b
     → let g : Given = givenBy window pointer control k l in
     Premises g → 2 + cost (shares g) ≤ budget → AllBytes (l .beats)
-    → All (λ s. findingIn (b .ledger) (l .used + k) 1 (s .link .at) ≡ Found (length (s .beats))) (shares g)
+    → All (λ s. findingIn (b .ledger) (l .used + k) 1 (s .link .at) ≡ Found (s .count)) (shares g)
 
 -- ---- the premises can be met
 

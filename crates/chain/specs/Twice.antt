@@ -13,7 +13,8 @@ use Rattle.regs.specs.Control as register
 use Rattle.ledger.specs.declared.Entry.{Entry}
 use Rattle.machine.specs.declared.Reason.the-variants.{Ended}
 use Rattle.machine.specs.declared.Ran.{Ran}
-use Rattle.chain.specs.Chain.{All, Given, Link, linkAt, Off, wants, takes, Share, sharesOf, Enough, given, cost, recordsOf, Sent, sentByAll, Done}
+use Rattle.links.specs.Form.{All, Link, linkAt, Off}
+use Rattle.chain.specs.Chain.{Given, Sent, Share, given, cost, sentByAll, recordsOf, shareOf, sharesOf, Enough, Done}
 
 -- the descriptor at the pointer
 abbrev pub itself : Given → Link
@@ -24,9 +25,7 @@ abbrev pub twice : Given → List Share
 twice g = sharesOf (itself g ∷ itself g ∷ []) (g .beats)
 
 abbrev pub second : Given → Share
-second g =
-    let wanted = wants (itself g .says) in
-    record { link = itself g; beats = takes wanted (drop (length (takes wanted (g .beats))) (g .beats)) }
+second g = shareOf (itself g) (drop (shareOf (itself g) (g .beats) .taken) (g .beats))
 
 pub record LinksToItself (g : Given) : Type 0 where
   -- RUN set with PARK and STOP_DMA_ER clear

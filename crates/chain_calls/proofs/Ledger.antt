@@ -167,5 +167,5 @@ found-by-call ledger used run address count answer size e r answer' f =
 pub each-found-in-c : EachFoundInC
 each-found-in-c l created pointed started left k c w h n answer size =
     let found = chain-of-calls l created pointed started left k c w h n in
-    all-map (λ s e. found-by-call (left .back .ledger) (l .lent .used + k) 1 (s .link .at) (length (s .beats)) answer size e) (shares (givenIn l k))
+    all-map (λ s e. found-by-call (left .back .ledger) (l .lent .used + k) 1 (s .link .at) (s .count) answer size e) (shares (givenIn l k))
     (each-in (l .window) (l .pointer) (l .control) (l .lent) k h (w .limits) (w .is-ledger) (w .beat-bytes) (found .ledger))

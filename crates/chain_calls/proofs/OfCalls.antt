@@ -28,7 +28,8 @@ use Rattle.met.specs.Met.{Met}
 use Rattle.met.specs.Met as met
 use Rattle.met.proofs.RoundTrip.{loads}
 use Rattle.met.proofs.InUse.{met-sound}
-use Rattle.chain.specs.Chain.{All, Given, machineFor, worldFor, shares, cost, given, Premises, Outcome}
+use Rattle.links.specs.Form.{All}
+use Rattle.chain.specs.Chain.{Given, machineFor, worldFor, shares, cost, given, Premises, Outcome}
 use Rattle.chain.specs.Calls.{Finished}
 use Rattle.chain.specs.Calls as methods
 use Rattle.chain.proofs.Theorem.{chain-at-every-step}

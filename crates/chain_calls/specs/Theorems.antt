@@ -14,7 +14,8 @@ use Rattle.machine.specs.declared.LoadedMachine.the-variants.{Good}
 use Rattle.machine.specs.Saved.{loadOf}
 use Rattle.machine.specs.Run.{Lent, Returned, asLent}
 use Rattle.answers.specs.Answers.{findingBytes}
-use Rattle.chain.specs.Chain.{All, shares, cost, Premises}
+use Rattle.links.specs.Form.{All}
+use Rattle.chain.specs.Chain.{shares, cost, Premises}
 use Rattle.chain.specs.Known.{known}
 use Rattle.sgdma.specs.Calls.{Created, RegisterRead, RegisterWritten, LineRead, RunMade, DescriptorBuilt, DescriptorRead, RecordFound}
 use Rattle.timer.specs.Calls.{TimerCreated, TimerRead, TimerWritten, TimerLine, TimerRan, TimerElapsed}
@@ -200,7 +201,7 @@ EachFoundInC = (l : Lends) (created pointed started : ℕ) (left : RunLeft) (k :
     → Called l created pointed started left → WellLent l → Premises (givenIn l k) → 2 + cost (shares (givenIn l k)) ≤ l .budget
     → (answer : List ℕ) → length answer ≡ 4
     → All (λ s. (r : ℕ) (answer' : List ℕ) → RecordFound (left .back .ledger) (l .lent .used + k) 1 (s .link .at) answer r answer'
-    → (r ≡ 0) × (answer' ≡ findingBytes true (length (s .beats)))) (shares (givenIn l k))
+    → (r ≡ 0) × (answer' ≡ findingBytes true (s .count))) (shares (givenIn l k))
 
 -- Known run 1 through the C calls: the numbers, all 85 bytes of the image, the window's 256, the report's 18, the ledger's 12.
 abbrev pub KnownRun1InC : Type 0

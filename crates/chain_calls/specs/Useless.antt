@@ -13,7 +13,8 @@ use Rattle.machine.specs.declared.Machine.{Machine}
 use Rattle.machine.specs.declared.LoadedMachine.the-variants.{Good}
 use Rattle.machine.specs.Saved.{loadOf}
 use Rattle.machine.specs.Run.{Report, run, asLent, serves, servedOf, worldOf, runNumber}
-use Rattle.chain.specs.Chain.{All, machineFor, links, Share, shares, Sent, sentByAll, Premises}
+use Rattle.links.specs.Form.{All}
+use Rattle.chain.specs.Chain.{machineFor, links, Share, shares, Sent, sentByAll, Premises}
 use Rattle.sgdma.specs.Calls.{imageOf, isSize, runCall, ranOver, reportOver, returnedIn}
 use Rattle.chain_calls.specs.InC.{RunLent, RunLeft, Promised, Lends, WellLent, givenIn, runLent}
 use Rattle.chain_calls.specs.Told.{stepsTold, usedTold}

@@ -27,7 +27,7 @@ use Rattle.machine.specs.declared.Phase.{Phase}
 use Rattle.machine.specs.declared.Phase.the-variants.{Move, WriteBack}
 use Rattle.machine.specs.declared.Slot.{Slot}
 use Rattle.machine.specs.State.{withPhase, settled}
-use Rattle.machine.specs.Step.{World, taken, laid, became, stored, received, sent, holding, settle, step, whole, byteAddress, sourceOf, destinationOf, withByte, onward, copyStep, sendStep, receiveFrom, moveStep, beatFor}
+use Rattle.machine.specs.Step.{World, taken, laid, became, stored, received, sent, holding, settle, step, whole, sourceOf, destinationOf, withByte, onward, copyStep, sendStep, receiveFrom, moveStep, beatFor}
 use Rattle.machine.specs.Helpers.Turns.{stepsOn, steps}
 use Rattle.machine.specs.Helpers.AtOnce.{movedBy, Moving, Row, Unmarked}
 use Rattle.machine.specs.Theorems.{RowSteps, CopySteps, SendSteps, ReceiveSteps}
@@ -106,7 +106,7 @@ module _ {mode : Mode} {window : Window} {k : Work} {most : ℕ} {m : Core} (g :
 
 -- ---- addresses along the row
 
-fixed-or-on : (fixed : Bool) (start moved i : ℕ) → byteAddress fixed start (moved + i) ≡ landing fixed (byteAddress fixed start moved) i
+fixed-or-on : (fixed : Bool) (start moved i : ℕ) → landing fixed start (moved + i) ≡ landing fixed (landing fixed start moved) i
 fixed-or-on true start moved i = refl
 fixed-or-on false start moved i = omega arith
 

@@ -29,6 +29,7 @@ use Rattle.regs.specs.Control.{ieChain, run, stopDmaEr, maxDescProcessed, park,
 use Rattle.image.specs.Rules.{asked}
 use Rattle.ledger.specs.declared.Entry.{Entry}
 use Rattle.flow.specs.Beats.{beatError, beatEop, beatData, outputBeat}
+use Rattle.flow.specs.Rows.{landing}
 use Rattle.machine.specs.declared.Core.{Core}
 use Rattle.machine.specs.declared.Slot.{Slot}
 use Rattle.machine.specs.declared.Slot.the-variants.{Empty, Ahead}
@@ -221,15 +222,12 @@ fetchStep w =
 abbrev pub whole : Core → Work → ℕ
 whole m k = asked (modeNumber (m .mode)) (k .length)
 
--- byte i is at start + i, without i under the FIXED bit. Of places crate flow says the same for its rows; `fixed-or-on` ties them
-abbrev pub byteAddress : Bool → (start i : ℕ) → ℕ
-byteAddress fixed start i = cond fixed start (start + i)
-
+-- byte i is at start + i, without i under the FIXED bit: `landing`
 unfoldable pub sourceOf : Work → ℕ
-sourceOf k = byteAddress (readFixed (k .control .0)) (k .source) (k .moved)
+sourceOf k = landing (readFixed (k .control .0)) (k .source) (k .moved)
 
 unfoldable pub destinationOf : Work → ℕ
-destinationOf k = byteAddress (writeFixed (k .control .0)) (k .destination) (k .moved)
+destinationOf k = landing (writeFixed (k .control .0)) (k .destination) (k .moved)
 
 -- one byte more, its errors gathered by OR; and whether its beat had EOP
 abbrev pub withByte : (errors : ℕ) (eop : Bool) → Work → Work

@@ -9,9 +9,10 @@ ghost use Rattle.words.specs.Orders.{bytesOf};
 ghost use Rattle.words.specs.Slices.{putAt};
 ghost use Rattle.bus.specs.Window.{inWindow};
 ghost use Rattle.image.specs.Rules.{asked as askedOf};
+ghost use Rattle.flow.specs.Rows.{landing};
 ghost use Rattle.regs.specs.Modes.{modeNumber};
 ghost use Rattle.machine.specs.declared.Phase.the-variants.{Move, WriteBack};
-ghost use Rattle.machine.specs.Step.{World, byteAddress, sourceOf, destinationOf, withByte, onward as onwardOf, beatFor};
+ghost use Rattle.machine.specs.Step.{World, sourceOf, destinationOf, withByte, onward as onwardOf, beatFor};
 ghost use Rattle.machine.specs.Step.{copyStep, sendStep, receiveFrom, moveStep};
 ghost use Rattle.machine.specs.Helpers.Worlds.{Within};
 ghost use Rattle.machine.specs.Helpers.Waiting.{Waits, Goes};
@@ -46,7 +47,7 @@ pub(crate) fn asked(mode: Mode, length: u16) -> u16
 
 // Byte i is at start + i, without i under the FIXED bit.
 fn byte_address(fixed: bool, start: u32, i: u16) -> u64
-    ensures { λ r. ⌜ r ≡ byteAddress fixed start i ⌝ }
+    ensures { λ r. ⌜ r ≡ landing fixed start i ⌝ }
 {
     if fixed {
         start as u64

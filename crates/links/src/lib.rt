@@ -1,0 +1,1 @@
+// The chain in memory: its form is in specs/Form.antt.
