@@ -3,6 +3,7 @@
 # make wave    the same as a wave: a VCD file, for GTKWave
 # make picture  what GTKWave shows of it, as docs/samples.png and docs/copier.png
 # make ledger  a saved ledger as a table and, where it is long, as a timeline: make ledger FILE=..
+# make check   a chain in a dump of the memory, whether it is sound: make check FILE=.. BASE=.. POINTER=..
 # make speed   how fast the library is, against two models, the moves alone and a plain copy
 # make examples  the same forty lines in C, C++, Rust and Python
 # make install   the header, both libraries, the pkg-config file and the manual page: make install PREFIX=..; make uninstall
@@ -10,7 +11,7 @@
 #
 # SGDMA_LIB_DIR is the directory of libsgdma.a, where it is not the one to which 'rt staticlib sgdma' writes it.
 
-.PHONY: bench board wave picture ledger examples shared install uninstall speed test bridge-command target-syntax running compiler anew
+.PHONY: bench board wave picture ledger check examples shared install uninstall speed test bridge-command target-syntax running compiler anew
 
 SGDMA_LIB_DIR ?= target/staticlib
 LIBRARY = $(SGDMA_LIB_DIR)/libsgdma.a
@@ -67,11 +68,14 @@ $(BUILD)/bench: $(wildcard bench/*.c)
 $(BUILD)/tests: $(filter-out tests/header.c,$(wildcard tests/*.c)) bench/core.c bench/timer.c
 $(BUILD)/example: $(BUILD)/example.c
 $(BUILD)/bridge: harness/bridge/bridge.c
-$(BUILD)/ledger: $(wildcard ledger/*.c) bench/core.c bench/tell.c bench/progress.c
+$(BUILD)/ledger: $(wildcard ledger/*.c) dump/file.c bench/core.c bench/tell.c bench/progress.c
+$(BUILD)/dump: $(wildcard dump/*.c) bench/core.c bench/tell.c
 
-$(BUILD)/bench $(BUILD)/tests $(BUILD)/example $(BUILD)/bridge $(BUILD)/ledger: $(LENT) $(wildcard bench/*.h tests/*.h ledger/*.h)
+C_PROGRAMS = bench tests example bridge ledger dump
+
+$(C_PROGRAMS:%=$(BUILD)/%): $(LENT) $(wildcard bench/*.h tests/*.h ledger/*.h dump/*.h)
 	@mkdir -p $(@D)
-	@$(CC) -std=c99 $(CFLAGS) $(WARNINGS) -I$(INCLUDE) -Ibench -o $@ $(filter %.c,$^) $(LIBRARY) $(LDLIBS)
+	@$(CC) -std=c99 $(CFLAGS) $(WARNINGS) -I$(INCLUDE) -Ibench -Idump -o $@ $(filter %.c,$^) $(LIBRARY) $(LDLIBS)
 
 # Firmware: a file that knows the access macros and nothing of the model. For the board its main has another name, and an access is a
 # call; as for the target an access is a load or a store, and the compiler reads the file alone. It is compiled each time, since one of
@@ -105,6 +109,11 @@ SVG = $(BUILD)/ledger.svg
 ledger: $(BUILD)/ledger
 	$(if $(FILE),,$(error make ledger FILE=.., the file of a ledger; and MEMORY=.. with BASE=.., a dump and its bus address))
 	@$(RUN) $< '$(FILE)' '$(SVG)' $(if $(MEMORY),'$(MEMORY)' '$(BASE)')
+
+# A chain in a dump of the memory: FILE is the dump, which begins at the bus address BASE, and the chain begins at POINTER.
+check: $(BUILD)/dump
+	$(if $(FILE),,$(error make check FILE=.., a dump of the memory; with BASE=.. and POINTER=.., the bus addresses of the dump and of the chain))
+	@$(RUN) $< check '$(FILE)' '$(BASE)' '$(POINTER)'
 
 # What stands before a program that is run; and the compiler.
 running:

@@ -3,6 +3,7 @@
  * it is not. Each scene is played, shown and compared with what must come of
  * it; the program fails where one is not as it must be.
  */
+#include "checked.h"
 #include "late.h"
 #include "shared.h"
 #include "show.h"
@@ -121,8 +122,8 @@ static const struct scene SCENES[] = {
     },
 };
 
-/* Four more are played by themselves. */
-enum { SCENE_COUNT = sizeof SCENES / sizeof *SCENES, ALL_SCENES = SCENE_COUNT + 4 };
+/* Five more are played by themselves. */
+enum { SCENE_COUNT = sizeof SCENES / sizeof *SCENES, ALL_SCENES = SCENE_COUNT + 5 };
 
 /* What came of a scene. */
 struct outcome {
@@ -376,6 +377,7 @@ int main(void)
     good += play_stall(SCENE_COUNT + 2, ENABLES);
     good += play_shared(SCENE_COUNT + 3, ENABLES);
     good += play_sums(SCENE_COUNT + 4, ENABLES);
+    good += play_checked(SCENE_COUNT + 5, ENABLES);
     printf("\n%zu of %d scenes are as they must be\n", good, ALL_SCENES);
     return good == ALL_SCENES ? 0 : 1;
 }

@@ -196,6 +196,25 @@ struct descriptor core_descriptor(const struct core *core, uint32_t address)
     return d;
 }
 
+struct checked check_chain(const uint8_t *window, size_t length, uint32_t base,
+                           uint32_t pointer)
+{
+    uint8_t answer[SGDMA_CHECK_SIZE];
+    struct checked checked;
+
+    must_be_done("sgdma_check_chain",
+                 sgdma_check_chain(window, length, base, pointer, answer, sizeof answer));
+    checked.verdict = number_at(answer + SGDMA_CHECK_VERDICT_AT, 2);
+    checked.position = number_at(answer + SGDMA_CHECK_POSITION_AT, 4);
+    checked.address = number_at(answer + SGDMA_CHECK_ADDRESS_AT, 4);
+    return checked;
+}
+
+struct checked core_check(const struct core *core, uint32_t pointer)
+{
+    return check_chain(core->memory, core->length, core->base, pointer);
+}
+
 bool is_done(const struct descriptor *d)
 {
     return !(d->control & SGDMA_DESC_OWNED_BY_HW);

@@ -1,6 +1,6 @@
 /*
- * A core as firmware holds it: its image, the memory it lends, and the seven
- * calls on them, with numbers in place of bytes.
+ * A core as firmware holds it: its image, the memory it lends, and the calls on
+ * them, with numbers in place of bytes.
  *
  * Every call made here must be done. A refusal is an error of the program that
  * makes the call: it is told, and the program ends.
@@ -74,6 +74,13 @@ struct slot {
     uint32_t address; /* 0 where it is empty */
 };
 
+/* What a check tells of a chain. */
+struct checked {
+    uint32_t verdict;
+    uint32_t position; /* of what is wrong; where it is sound, how many are owned */
+    uint32_t address;  /* of what is wrong, or of the end */
+};
+
 /* What is done where a call was refused: it tells the call and ends the program. One
    that is put in its place must not return either. */
 extern void (*at_refusal)(const char *call, uint32_t number);
@@ -124,6 +131,11 @@ uint32_t core_look(const struct core *core);
 void core_build(struct core *core, uint32_t address, const struct descriptor *d);
 struct descriptor core_descriptor(const struct core *core, uint32_t address);
 bool is_done(const struct descriptor *d);
+
+/* Checks the chain at a pointer, in a slice at a base; and in the core's memory. */
+struct checked check_chain(const uint8_t *window, size_t length, uint32_t base,
+                           uint32_t pointer);
+struct checked core_check(const struct core *core, uint32_t pointer);
 
 /* The byte of memory at a bus address of the window. */
 uint8_t *core_byte(const struct core *core, uint32_t address);

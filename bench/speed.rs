@@ -9,6 +9,7 @@
 //! The ratios are printed beside what is aimed at, with a word where that is
 //! missed; nothing fails by it.
 
+mod chains;
 mod choices;
 mod findings;
 mod rows;
@@ -493,6 +494,7 @@ fn main() -> ExitCode {
     choices::compare_choices(library.as_ref());
     timers::compare_timers(library.as_ref());
     findings::compare_findings(library.as_ref());
+    chains::compare_chains(library.as_ref());
     show_growth(library.as_ref());
     ExitCode::SUCCESS
 }

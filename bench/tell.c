@@ -32,6 +32,13 @@ static const struct bit TIMER_STATUS_BITS[] = {
     {SGDMA_TIMER_STATUS_RUN, "RUN"},
 };
 
+/* What is wrong with a descriptor of a chain. */
+static const char *const CAUSES[] = {
+    [SGDMA_CHAIN_MISALIGNED] = "is not a multiple of 4",
+    [SGDMA_CHAIN_OUTSIDE] = "has not its 32 bytes in the window",
+    [SGDMA_CHAIN_OVERLAPS] = "overlaps an earlier descriptor",
+};
+
 #define IN_HAND "be 0 but in Move and WriteBack"
 
 /* The fields of an image that can be told, and what each must do or be. */
@@ -117,6 +124,16 @@ void show_fault(struct fault fault)
     if (fault.code)
         printf("    fault %" PRIu32 " at 0x%04" PRIX32 "\n", fault.code,
                fault.address);
+}
+
+void show_checked(const struct checked *checked)
+{
+    if (checked->verdict == SGDMA_CHAIN_SOUND)
+        printf("sound: %" PRIu32 " owned, and the end at 0x%04" PRIX32 "\n",
+               checked->position, checked->address);
+    else
+        printf("not sound: at position %" PRIu32 " 0x%04" PRIX32 " %s\n",
+               checked->position, checked->address, CAUSES[checked->verdict]);
 }
 
 void show_record(size_t number, const struct record *record)

@@ -1,5 +1,5 @@
 /*
- * What a core, a timer and a ledger tell, in words, on the screen.
+ * What a core, a timer, a ledger and a check tell, in words, on the screen.
  */
 #ifndef TELL_H
 #define TELL_H
@@ -18,6 +18,9 @@ void show_refused(uint32_t number);
 
 /* The code and address of a fault, where there is one. */
 void show_fault(struct fault fault);
+
+/* What a check tells of a chain: that it is sound, or where and why it is not. */
+void show_checked(const struct checked *checked);
 
 /* The heading of a ledger and the row of a record, each without the line's end. */
 void show_ledger_heading(void);

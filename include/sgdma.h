@@ -7,6 +7,7 @@
  *
  *   sgdma_create              a fresh core, for one mode and one window of memory
  *   sgdma_build_descriptor    a chain of descriptors in that memory
+ *   sgdma_check_chain         whether the chain has an end, or where it is wrong
  *   sgdma_write_register      the pointer to the chain, then control with RUN
  *   sgdma_run                 so many steps over memory, streams and ledger
  *   sgdma_line                whether the interrupt line is up
@@ -64,7 +65,8 @@
  *
  *   Numbers in lent bytes have the most significant byte first, in the image,
  *   the report, the value, the descriptor answer, the beats, the records of the
- *   ledger and what it tells, the controller and its answer, and the timer.
+ *   ledger and what it tells, what a check tells, the controller and its answer,
+ *   and the timer.
  *   Descriptors in the window are little-endian, as the core has them.
  */
 #ifndef SGDMA_H
@@ -87,6 +89,7 @@ extern "C" {
 #define SGDMA_REPORT_SIZE             18
 #define SGDMA_DESCRIPTOR_ANSWER_SIZE  18
 #define SGDMA_FINDING_SIZE            4
+#define SGDMA_CHECK_SIZE              10
 #define SGDMA_VIC_SIZE                88
 #define SGDMA_VIC_ANSWER_SIZE         12
 #define SGDMA_TIMER_SIZE              14
@@ -353,7 +356,8 @@ extern "C" {
  * not misled by that; firmware that trusts a done mark alone sees to it, on a fresh
  * core in mode 2 and before it sets RUN, that
  *   - the descriptors of the chain are multiples of 4, in the window, and apart
- *     from each other, the one that is not owned at the end too;
+ *     from each other, the one that is not owned at the end too, which
+ *     sgdma_check_chain tells;
  *   - PARK and STOP_DMA_ER are 0;
  *   - each destination and the bytes_to_transfer bytes from there on (the one
  *     byte, under WRITE_FIXED_ADDRESS) are in the window and touch none of these
@@ -367,6 +371,47 @@ extern "C" {
  * chain and dated with run 1. A budget of 4,294,967,295 is enough for every such
  * chain.
  */
+
+/*
+ * A sound chain
+ *
+ * A chain begins at the pointer and goes on by next_desc_ptr, from each descriptor
+ * that is owned to the next. The first that is not owned is its end, and belongs to
+ * it. It is sound where it has an end and each descriptor of it, the end too, is a
+ * multiple of 4, in the window and apart from all the others: what is asked above of
+ * the chain.
+ *
+ * Firmware that builds chains makes others too. Some never end, since one of their
+ * descriptors leads back to an earlier one; under PARK a core would go round there
+ * for ever. sgdma_check_chain walks the chain before RUN is set. It tells its end and
+ * how many descriptors are owned; or the position, counted from 0, of the first
+ * descriptor that is wrong, its address and why:
+ *
+ *   SGDMA_CHAIN_MISALIGNED  the address is not a multiple of 4
+ *   SGDMA_CHAIN_OUTSIDE     its 32 bytes are not in the window
+ *   SGDMA_CHAIN_OVERLAPS    it has a byte in common with an earlier descriptor of
+ *                           the chain, as it has where it is that one again
+ *
+ * Where several of these are so, the first of them is told. An address that is told
+ * with one of them is the one that was led to: by the pointer, at position 0, and
+ * else by the descriptor before. Nothing else of a descriptor is looked at, neither
+ * what it is to transfer nor where from and to.
+ *
+ * No more than 2,048 descriptors are apart in a window. So the walk ends, whatever
+ * the memory holds; no more than 2,047 are owned in a sound chain, and no position
+ * that is told is above 2,048.
+ */
+#define SGDMA_CHAIN_SOUND       0
+#define SGDMA_CHAIN_MISALIGNED  1
+#define SGDMA_CHAIN_OUTSIDE     2
+#define SGDMA_CHAIN_OVERLAPS    3
+
+/*
+ * The answer of sgdma_check_chain, 10 bytes: where each number stands.
+ */
+#define SGDMA_CHECK_VERDICT_AT   0 /* 16 bits: SGDMA_CHAIN_SOUND, or what is wrong */
+#define SGDMA_CHECK_POSITION_AT  2 /* 32 bits: of what is wrong; sound: how many are owned */
+#define SGDMA_CHECK_ADDRESS_AT   6 /* 32 bits: of what is wrong; sound: of the end */
 
 /*
  * The report of a run, 18 bytes: where each number stands.
@@ -810,6 +855,24 @@ uint32_t sgdma_build_descriptor(uint8_t *window, size_t window_len,
 uint32_t sgdma_read_descriptor(const uint8_t *window, size_t window_len,
                                uint64_t base, uint32_t address,
                                uint8_t *answer, size_t answer_len);
+
+/*
+ * Checks the chain that begins at a pointer, in the window that stands at base.
+ *
+ * Reads    window: the descriptors of the chain
+ * Writes   answer: the verdict, a position and an address, 10 bytes
+ * Returns  SGDMA_BAD_SIZE    answer_len is not 10
+ *          SGDMA_BAD_WINDOW  base and window_len break the limits of a window
+ *          SGDMA_DONE        also where the chain is not sound, which the verdict
+ *                            tells, whatever the pointer is
+ *
+ * The window is one slice with its base: the one that the descriptors live in. No
+ * core is asked and none is changed; what is told is of the memory as it is now. What
+ * it costs grows with the chain, not with its square.
+ */
+uint32_t sgdma_check_chain(const uint8_t *window, size_t window_len,
+                           uint64_t base, uint32_t pointer,
+                           uint8_t *answer, size_t answer_len);
 
 /*
  * Tells whether the descriptor at a bus address was written back in a run, and its

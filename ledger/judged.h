@@ -6,13 +6,7 @@
 #define JUDGED_H
 
 #include "core.h"
-
-/* A dump of a window, no longer than one may be; NULL where there is none. */
-struct dump {
-    const uint8_t *bytes;
-    size_t length;
-    uint32_t base;
-};
+#include "file.h"
 
 enum verdict {
     NOT_ASKED,    /* there is no dump */

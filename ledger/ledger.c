@@ -12,41 +12,13 @@
 #include <stdio.h>
 #include <stdlib.h>
 
+#include "file.h"
 #include "tell.h"
 #include "timeline.h"
 
-enum { MANY = 40, SOME_MARKED = 1, NOT_READ = 2 };
+const char program_name[] = "ledger";
 
-struct file {
-    uint8_t *bytes;
-    size_t length;
-};
-
-static void give_up(const char *path, const char *why)
-{
-    fprintf(stderr, "ledger: %s: %s\n", path, why);
-    exit(NOT_READ);
-}
-
-static struct file read_file(const char *path)
-{
-    struct file file = {NULL, 0};
-    size_t room = 0, got;
-    FILE *from = fopen(path, "rb");
-
-    if (!from)
-        give_up(path, "it cannot be opened");
-    do {
-        room = 2 * room + 65536;
-        file.bytes = realloc(file.bytes, room);
-        if (!file.bytes)
-            give_up(path, "it is too large");
-        got = fread(file.bytes + file.length, 1, room - file.length, from);
-        file.length += got;
-    } while (file.length == room);
-    fclose(from);
-    return file;
-}
+enum { MANY = 40, SOME_MARKED = 1 };
 
 static struct ledger ledger_in(const char *path)
 {
@@ -57,26 +29,6 @@ static struct ledger ledger_in(const char *path)
         give_up(path, "SGDMA_BAD_LEDGER: it does not hold whole records");
     ledger.used = (uint32_t)ledger.room;
     return ledger;
-}
-
-static uint32_t address_in(const char *text)
-{
-    char *end;
-    unsigned long long address = strtoull(text, &end, 0);
-
-    if (end == text || *end || address > UINT32_MAX)
-        give_up(text, "BASE must be an address of the bus");
-    return (uint32_t)address;
-}
-
-static struct dump dump_in(const char *path, const char *base)
-{
-    struct file file = read_file(path);
-    struct dump dump = {file.bytes, file.length, address_in(base)};
-
-    if (dump.length > SGDMA_WINDOW_LENGTH_MAX || dump.length > UINT32_MAX - dump.base + UINT64_C(1))
-        give_up(path, "SGDMA_BAD_WINDOW: it is longer than a window there");
-    return dump;
 }
 
 static size_t count_marked(struct ledger ledger, const enum verdict *verdicts)
@@ -161,6 +113,6 @@ int main(int count, char **arguments)
         draw(arguments[2], ledger, verdicts);
     free(verdicts);
     free(ledger.bytes);
-    free((void *)dump.bytes);
+    free(dump.bytes);
     return marked ? SOME_MARKED : 0;
 }

@@ -290,6 +290,49 @@ def editions() -> Dict[int, int]:
     return dict(enumerate(sizes, 1))
 
 
+class Checked(NamedTuple):
+    """What a check tells of a chain: where it is sound, how many descriptors are owned and where the end is; else where and why not.
+
+    >>> ram = bytearray(96)
+    >>> sgdma_build_descriptor(ram, 0x1000, 0x1000, 0, 0, 0x1040, 1, SGDMA_DESC_OWNED_BY_HW)
+    >>> print(Checked.of(ram, 0x1000, 0x1000))
+    sound: 1 owned, and the end at 0x1040
+    >>> print(Checked.of(ram, 0x1000, 0x1044))
+    not sound: at position 0 0x1044 has not its 32 bytes in the window
+    """
+
+    verdict: int
+    position: int
+    address: int
+
+    @classmethod
+    def of(cls, memory: Readable, base: int, pointer: int) -> "Checked":
+        answer = bytearray(_CONSTANTS["SGDMA_CHECK_SIZE"])
+        _CALLS["sgdma_check_chain"](memory, base, pointer, answer)
+        names = (("VERDICT", 2), ("POSITION", 4), ("ADDRESS", 4))
+        return cls(*(number_at(answer, _CONSTANTS[f"SGDMA_CHECK_{name}_AT"], size) for name, size in names))
+
+    def sound(self) -> bool:
+        return self.verdict == _CONSTANTS["SGDMA_CHAIN_SOUND"]
+
+    def __str__(self) -> str:
+        if self.sound():
+            return f"sound: {self.position} owned, and the end at 0x{self.address:04X}"
+        causes = {
+            _CONSTANTS["SGDMA_CHAIN_MISALIGNED"]: "is not a multiple of 4",
+            _CONSTANTS["SGDMA_CHAIN_OUTSIDE"]: "has not its 32 bytes in the window",
+            _CONSTANTS["SGDMA_CHAIN_OVERLAPS"]: "overlaps an earlier descriptor",
+        }
+        return f"not sound: at position {self.position} 0x{self.address:04X} {causes[self.verdict]}"
+
+
+def _check(options: argparse.Namespace) -> int:
+    """The sub-command check; 1 where the chain is not sound."""
+    checked = Checked.of(options.dump.read_bytes(), options.base, options.pointer)
+    print(checked)
+    return 0 if checked.sound() else 1
+
+
 def _move_image(options: argparse.Namespace) -> int:
     """The sub-command move-image; where it is refused no file is written."""
     moved = bytearray(editions()[options.edition])
@@ -310,6 +353,13 @@ def _address(text: str) -> int:
 _address.__name__ = "bus address"  # as argparse names what it does not take
 
 
+def _add_chain(command: argparse.ArgumentParser) -> None:
+    """A dump, and where its chain begins."""
+    command.add_argument("dump", type=Path, help="a dump of the window")
+    command.add_argument("--base", type=_address, required=True, help="the bus address at which the dump begins")
+    command.add_argument("--pointer", type=_address, required=True, help="the bus address at which the chain begins")
+
+
 def _parser() -> argparse.ArgumentParser:
     parser = argparse.ArgumentParser(
         prog="python3 -m sgdma",
@@ -322,6 +372,9 @@ def _parser() -> argparse.ArgumentParser:
     ledger.add_argument("--memory", type=Path, help="a dump of the window: a record that its descriptor contradicts is marked")
     ledger.add_argument("--base", type=_address, default=0, help="the bus address at which the dump begins")
     ledger.set_defaults(run=_show_ledger)
+    check = commands.add_parser("check", help="a chain in a dump of the memory, whether it is sound")
+    _add_chain(check)
+    check.set_defaults(run=_check)
     move = commands.add_parser("move-image", help="the image of a core, moved to another edition")
     move.add_argument("image", type=Path, help="the image; its size tells its edition")
     move.add_argument("moved", type=Path, help="where the moved image is written")

@@ -31,6 +31,7 @@ void test_dates(void);
 void test_sums(void);
 void test_largest_ledger(void);
 void test_finding(void);
+void test_chains(void);
 void test_refusals(void);
 void test_fields(void);
 void test_editions(void);

@@ -46,7 +46,7 @@ class Commands(unittest.TestCase):
     def test_help_names_the_commands(self) -> None:
         ended, told, _ = self.run_command("--help")
         self.assertEqual(ended, 0)
-        for command in ("ledger", "move-image"):
+        for command in ("check", "ledger", "move-image"):
             self.assertIn(f"    {command} ", told)
 
     def test_an_image_is_moved_back_and_forward(self) -> None:
@@ -69,6 +69,24 @@ class Commands(unittest.TestCase):
         spoiled = started()
         spoiled[3] = 0xFF
         self.refused(spoiled, "SGDMA_BAD_IMAGE (8): field 8 SGDMA_FIELD_COUNT")
+
+    def dump(self, *links: Tuple[int, int]) -> Path:
+        """A dump of 96 bytes at 0x1000, in which each of these descriptors is owned and leads to another."""
+        memory = bytearray(96)
+        for address, to in links:
+            s.sgdma_build_descriptor(memory, 0x1000, address, 0, 0, to, 1, s.SGDMA_DESC_OWNED_BY_HW | s.SGDMA_DESC_GENERATE_EOP)
+        return self.file("dump", memory)
+
+    def test_a_chain_is_checked(self) -> None:
+        at = ("--base", "0x1000", "--pointer", 4096)
+        sound = self.dump((0x1000, 0x1040), (0x1040, 0x1020))
+        self.assertEqual(self.run_command("check", sound, *at), (0, "sound: 2 owned, and the end at 0x1020\n", ""))
+        back = self.dump((0x1000, 0x1040), (0x1040, 0x1000))
+        self.assertEqual(self.run_command("check", back, *at), (1, "not sound: at position 2 0x1000 overlaps an earlier descriptor\n", ""))
+        odd = self.dump((0x1000, 0x1042))
+        self.assertEqual(self.run_command("check", odd, *at), (1, "not sound: at position 1 0x1042 is not a multiple of 4\n", ""))
+        ended, _, said = self.run_command("check", sound, "--base", 0xFFFFFFF0, "--pointer", 0)
+        self.assertEqual((ended, said.split(":")[1]), (2, " SGDMA_BAD_WINDOW (3)"))
 
     def test_a_file_that_is_not_there(self) -> None:
         ended, _, said = self.run_command("ledger", self.room / "none")

@@ -50,6 +50,12 @@ uint32_t lent_find_record(struct lent *l)
                              l->answer, l->answer_len);
 }
 
+uint32_t lent_check_chain(struct lent *l)
+{
+    return sgdma_check_chain(l->window, l->window_len, l->base, l->address, l->answer,
+                             l->answer_len);
+}
+
 static void start(struct lent *l)
 {
     check("create", lent_create(l), SGDMA_DONE);

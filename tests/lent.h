@@ -15,7 +15,7 @@ struct lent {
     uint8_t beats[8];
     uint8_t out[8];
     uint8_t ledger[3 * SGDMA_RECORD_SIZE];
-    uint8_t answer[SGDMA_DESCRIPTOR_ANSWER_SIZE + 2]; /* or value, report, finding */
+    uint8_t answer[SGDMA_DESCRIPTOR_ANSWER_SIZE + 2]; /* or value, report, .. */
     size_t image_len, window_len, beats_len, out_len, ledger_len, answer_len;
     uint64_t base;
     uint32_t mode, offset, address, used, run;
@@ -31,6 +31,7 @@ lent_call lent_run;
 lent_call lent_build_descriptor;
 lent_call lent_read_descriptor;
 lent_call lent_find_record;
+lent_call lent_check_chain;
 
 /* What a call with no error is given, over a core that has steps to take, up to
    the write-back of a descriptor. */

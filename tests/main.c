@@ -15,6 +15,7 @@ int main(void)
     test_sums();
     test_largest_ledger();
     test_finding();
+    test_chains();
     test_refusals();
     test_fields();
     test_editions();

@@ -2,6 +2,8 @@
  * Refusals: each call is made with every set of its errors at once. The first of
  * them in the paper's order is returned, and no lent byte has changed.
  */
+#include <stdbool.h>
+
 #include "lent.h"
 #include "sets.h"
 
@@ -59,7 +61,23 @@ static const struct call CALLS[] = {
      {{short_answer, SGDMA_BAD_SIZE}, {long_answer, SGDMA_BAD_SIZE},
       {part_of_a_record, SGDMA_BAD_LEDGER}, {one_record_short, SGDMA_BAD_LEDGER},
       {most_used, SGDMA_BAD_LEDGER}, {last_run, SGDMA_RUN_UNKNOWN}}},
+    {"sgdma_check_chain", lent_check_chain, SGDMA_CHECK_SIZE,
+     {{short_answer, SGDMA_BAD_SIZE}, {long_answer, SGDMA_BAD_SIZE},
+      {bad_base, SGDMA_BAD_WINDOW}}},
 };
+
+/* The calls that are lent no image. */
+static lent_call *const WITHOUT_IMAGE[] = {
+    lent_build_descriptor, lent_read_descriptor, lent_find_record, lent_check_chain,
+};
+
+static bool has_image(lent_call *call)
+{
+    for (size_t i = 0; i < COUNT(WITHOUT_IMAGE); i++)
+        if (WITHOUT_IMAGE[i] == call)
+            return false;
+    return true;
+}
 
 /* An image of the size that edition 1 had: "7 means 85 bytes for edition 2". */
 static void check_edition_1(void)
@@ -71,8 +89,7 @@ static void check_edition_1(void)
     for (size_t i = 0; i < COUNT(CALLS); i++) {
         struct lent l;
 
-        if (CALLS[i].make == lent_build_descriptor ||
-            CALLS[i].make == lent_read_descriptor || CALLS[i].make == lent_find_record)
+        if (!has_image(CALLS[i].make))
             continue;
         lent_prepare(&l, CALLS[i].answer_len);
         l.image[0] = (uint8_t)((l.image[0] & 0x0F) | ITS_EDITION);
@@ -93,6 +110,7 @@ static void check_null(void)
           SGDMA_OUTSIDE);
     check("answer", sgdma_read_descriptor(NULL, 0, 0, 0, NULL, 0), SGDMA_BAD_SIZE);
     check("finding", sgdma_find_record(NULL, 0, 0, 0, 0, NULL, 0), SGDMA_BAD_SIZE);
+    check("check", sgdma_check_chain(NULL, 0, 0, 0, NULL, 0), SGDMA_BAD_SIZE);
     check("no window", sgdma_create(image, sizeof image, 0, 0, 0), SGDMA_DONE);
     check("window, streams and ledger",
           sgdma_run(image, sizeof image, NULL, 0, NULL, 0, NULL, 0, NULL, 0, 0, 9,
@@ -102,6 +120,9 @@ static void check_null(void)
                     report, sizeof report), SGDMA_BAD_LEDGER);
     check("an empty ledger, asked",
           sgdma_find_record(NULL, 0, 0, 0, 0, report, SGDMA_FINDING_SIZE), SGDMA_DONE);
+    check("an empty window, checked",
+          sgdma_check_chain(NULL, 0, 0, 0, report, SGDMA_CHECK_SIZE), SGDMA_DONE);
+    check("nothing is in it", report[SGDMA_CHECK_VERDICT_AT + 1], SGDMA_CHAIN_OUTSIDE);
 }
 
 void test_refusals(void)

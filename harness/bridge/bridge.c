@@ -27,6 +27,7 @@ enum function {
     READ_DESCRIPTOR,
     FIND_RECORD,
     MOVE_IMAGE,
+    CHECK_CHAIN,
     VIC_CREATE,
     VIC_CONFIGURE,
     VIC_ENABLE,
@@ -116,6 +117,8 @@ static uint32_t call_core(uint64_t function, const uint64_t *number, const struc
         return sgdma_find_record(SLICE(0), number[0], number[1], number[2], SLICE(1));
     case MOVE_IMAGE:
         return sgdma_move_image(SLICE(0), SLICE(1));
+    case CHECK_CHAIN:
+        return sgdma_check_chain(SLICE(0), number[0], number[1], SLICE(1));
     }
     fail("no such function");
     return 0;

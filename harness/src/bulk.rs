@@ -1,10 +1,12 @@
 //! The core as one writes it who wants it fast: in Move as many bytes are moved
-//! at once as budget, descriptor, stream, room and window allow.
+//! at once as budget, descriptor, stream, room and window allow; and a chain is
+//! walked with a mark for each word of the window.
 //!
 //! The library is held to the speed of this model, so it does all that a run has
 //! to do. Whatever moves no byte it shares with the plain model: the image with
 //! its rules, the refusals, Fetch, WriteBack with the ledger's record, the report.
 
+mod chains;
 pub mod rows;
 
 use crate::model::{

@@ -90,6 +90,7 @@ pub enum Function {
     ReadDescriptor,
     FindRecord,
     MoveImage,
+    CheckChain,
     VicCreate,
     VicConfigure,
     VicEnable,
@@ -171,6 +172,12 @@ pub enum Call {
     MoveImage {
         from: Lent,
         to: Lent,
+    },
+    CheckChain {
+        window: Lent,
+        base: u64,
+        pointer: u32,
+        answer: Lent,
     },
     Vic(VicCall),
     Timer(TimerCall),
@@ -261,6 +268,7 @@ impl Call {
             Call::ReadDescriptor { .. } => Function::ReadDescriptor,
             Call::FindRecord { .. } => Function::FindRecord,
             Call::MoveImage { .. } => Function::MoveImage,
+            Call::CheckChain { .. } => Function::CheckChain,
             Call::Vic(call) => call.function(),
             Call::Timer(call) => call.function(),
         }
@@ -283,7 +291,8 @@ impl Call {
         match self {
             Call::Run { window, .. }
             | Call::BuildDescriptor { window, .. }
-            | Call::ReadDescriptor { window, .. } => Some(window),
+            | Call::ReadDescriptor { window, .. }
+            | Call::CheckChain { window, .. } => Some(window),
             _ => None,
         }
     }
@@ -317,6 +326,8 @@ impl Call {
                      Lent("answer", answer)],
             Call::MoveImage { from, to } =>
                 vec![Lent("from", from), Lent("to", to)],
+            Call::CheckChain { window, base, pointer, answer } =>
+                vec![Lent("window", window), Wide(base), Long(pointer), Lent("answer", answer)],
             Call::Vic(call) => call.arguments(),
             Call::Timer(call) => call.arguments(),
         }
@@ -336,6 +347,7 @@ impl Display for Call {
             Function::ReadDescriptor => "read_descriptor",
             Function::FindRecord => "find_record",
             Function::MoveImage => "move_image",
+            Function::CheckChain => "check_chain",
             Function::VicCreate => "vic_create",
             Function::VicConfigure => "vic_configure",
             Function::VicEnable => "vic_enable",
@@ -421,6 +433,8 @@ impl<Model: Calls> Party for Model {
             Call::FindRecord { ledger, used, run, address, answer } =>
                 self.sgdma_find_record(ledger, *used, *run, *address, answer),
             Call::MoveImage { from, to } => self.sgdma_move_image(from, to),
+            Call::CheckChain { window, base, pointer, answer } =>
+                self.sgdma_check_chain(window, *base, *pointer, answer),
             Call::Vic(call) => call.answer(*self),
             Call::Timer(call) => call.answer(*self),
         }

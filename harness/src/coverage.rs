@@ -4,6 +4,7 @@
 //! least once. [`Coverage`] counts these, and what there is beside a core has
 //! points of its own.
 
+pub mod chains;
 pub mod controllers;
 mod counts;
 pub mod editions;

@@ -82,6 +82,14 @@ pub mod c {
             to: *mut u8,
             to_len: usize,
         ) -> u32;
+        pub fn sgdma_check_chain(
+            window: *const u8,
+            window_len: usize,
+            base: u64,
+            pointer: u32,
+            answer: *mut u8,
+            answer_len: usize,
+        ) -> u32;
         pub fn sgdma_vic_create(
             vic: *mut u8,
             vic_len: usize,
@@ -191,6 +199,9 @@ pub(crate) fn answer(library: Library, call: &mut Call) -> u32 {
                                      library.lend_mut(answer), answer.len()),
             Call::MoveImage { from, to } =>
                 c::sgdma_move_image(library.lend(from), from.len(), library.lend_mut(to), to.len()),
+            Call::CheckChain { window, base, pointer, answer } =>
+                c::sgdma_check_chain(library.lend(window), window.len(), *base, *pointer,
+                                     library.lend_mut(answer), answer.len()),
             Call::Vic(call) => answer_controller(library, call),
             Call::Timer(call) => answer_timer(library, call),
         }

@@ -8,6 +8,7 @@
 //! good one in a field or two.
 
 mod beside;
+mod chains;
 mod controllers;
 mod editions;
 mod findings;
@@ -18,6 +19,7 @@ mod rng;
 mod slots;
 mod timers;
 
+pub use chains::ChainHost;
 pub use controllers::ControllerHost;
 pub use editions::EditionHost;
 pub use findings::FindingHost;

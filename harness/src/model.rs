@@ -1,7 +1,7 @@
 //! The core as the scope paper describes it, written from the paper alone, and
 //! the field of a refused image, the ledger, the descriptor read ahead, the run
-//! number, the moves between the editions of an image, the interrupt controller
-//! and the interval timer as their requests do.
+//! number, the moves between the editions of an image, the check of a chain, the
+//! interrupt controller and the interval timer as their requests do.
 //!
 //! One step moves one byte and steps are taken one by one. Each sentence of the
 //! paper is one small rule, and the rules are provided methods of a few traits,
@@ -11,6 +11,7 @@
 //! program is built, so [`Paper`] pays nothing for it.
 
 mod calls;
+mod chains;
 mod controllers;
 mod descriptors;
 mod editions;
@@ -25,6 +26,7 @@ mod timers;
 mod windows;
 
 pub use calls::{Calls, Refusal, Refused, DESCRIPTOR_ANSWER_SIZE, REPORT_SIZE, VALUE_SIZE};
+pub use chains::{Cause, Chains, Stop, CHECK_SIZE, MOST_READ};
 pub use controllers::{
     Choice, Config, Controller, Controllers, CHOICE_SIZE, CONTROLLER_FIELDS, CONTROLLER_SIZE, PORTS,
 };
@@ -52,6 +54,7 @@ impl Descriptors for Paper {}
 impl Slots for Paper {}
 impl Ledgers for Paper {}
 impl Findings for Paper {}
+impl Chains for Paper {}
 impl Steps for Paper {}
 impl Images for Paper {}
 impl Editions for Paper {}

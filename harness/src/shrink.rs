@@ -7,8 +7,9 @@ use crate::call::{Argument, Call, Lent};
 use crate::model::RECORD_SIZE;
 use std::ops::Range;
 
-/// Bounds the work on a case with a large window.
+/// Bounds the work on a case. A trial on a large window counts as several.
 const MOST_TRIALS: usize = 10_000;
+const WINDOW_OF_A_TRIAL: usize = 4_096;
 
 /// Where the window's length stands in an image, the pointer, the slot, and the
 /// address in it.
@@ -76,13 +77,19 @@ fn simplify(calls: &mut [Call], differs: &dyn Fn(&[Call]) -> bool, trials: &mut 
             } else {
                 calls[place] = before;
             }
-            *trials += 1;
-            if *trials == MOST_TRIALS {
+            *trials += cost(&calls[place]);
+            if *trials >= MOST_TRIALS {
                 return simplified;
             }
         }
     }
     simplified
+}
+
+/// As how many trials one with this call counts.
+fn cost(call: &Call) -> usize {
+    let window = call.window().map_or(0, |window| window.len());
+    1 + window / WINDOW_OF_A_TRIAL
 }
 
 /// The edits of a call, the boldest first.
@@ -225,7 +232,9 @@ fn shorten_window(call: &mut Call, by: usize) {
             }
             *window = Lent::from(&window[..shorter as usize]);
         }
-        Call::BuildDescriptor { window, .. } | Call::ReadDescriptor { window, .. } => {
+        Call::BuildDescriptor { window, .. }
+        | Call::ReadDescriptor { window, .. }
+        | Call::CheckChain { window, .. } => {
             *window = Lent::from(&window[..window.len() - by]);
         }
         _ => {}

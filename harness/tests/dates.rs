@@ -5,8 +5,9 @@
 use harness::call::{parties, Party};
 use harness::firmware::Firmware;
 use harness::model::{
-    offset, Calls, Controllers, Descriptor, Descriptors, Editions, Findings, Images, Ledgers,
-    Machine, Mode, Paper, Registers, Slots, Steps, Timers, Windows, DESCRIPTOR_SIZE, RECORD_SIZE,
+    offset, Calls, Chains, Controllers, Descriptor, Descriptors, Editions, Findings, Images,
+    Ledgers, Machine, Mode, Paper, Registers, Slots, Steps, Timers, Windows, DESCRIPTOR_SIZE,
+    RECORD_SIZE,
 };
 use std::cell::Cell;
 use std::ops::Range;
@@ -230,6 +231,7 @@ impl Images for Wrong {}
 impl Controllers for Wrong {}
 impl Timers for Wrong {}
 impl Findings for Wrong {}
+impl Chains for Wrong {}
 impl Editions for Wrong {}
 impl Calls for Wrong {}
 

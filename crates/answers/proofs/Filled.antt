@@ -4,16 +4,15 @@ use Prim.Native.Nat.{ℕ, _+_, _*_, _^_, _<_}
 use mathlib.Core.Path.{_≡_, refl, sym, ap, _∙_}
 use mathlib.Core.Bool.{Bool}
 use mathlib.Core.List.{List, [], _∷_, _++_}
-use native.Mathlib.Omega.{arith}
-use lib.ListN.{length, length-append}
+use lib.ListN.{length}
 use borrow.Author.Tests.{eq-eqb, ne-eqb}
 use Rattle.words.specs.declared.Order.the-variants.{MostFirst}
 use Rattle.words.specs.Bits.{flag}
 use Rattle.words.specs.Numbers.{bytes}
 use Rattle.words.specs.Orders.{bytesOf, wordBytes}
-use Rattle.words.specs.Slices.{put, putAt}
+use Rattle.words.specs.Slices.{putAt}
 use Rattle.words.proofs.Recode.{split-append}
-use Rattle.words.proofs.Slices.{put-in, put-put, put-all, length-put}
+use Rattle.words.proofs.Slices.{put-all, filled}
 use Rattle.descriptor.specs.declared.Descriptor.{Descriptor}
 use Rattle.answers.specs.Answers.{valueBytes, reportBytes, descriptorBytes, findingBytes, answerPut}
 
@@ -26,17 +25,6 @@ module _ (answer xs : List ℕ) where
   pub not-put : (length xs ≡ length answer → ⊥) → answerPut answer xs ≡ xs
   unfolding answerPut
   not-put h = rw (ne-eqb (length xs) (length answer) h)
-
--- two parts that together are as long as the slice are what then stands in it
-filled : (xs ys zs : List ℕ) (n : ℕ) → length ys ≡ n → length xs ≡ n + length zs → putAt (putAt xs 0 ys) n zs ≡ ys ++ zs
-filled xs ys zs n k l =
-    let first : putAt xs 0 ys ≡ put xs 0 ys = put-in xs 0 ys (omega arith) in
-    let same : length (putAt xs 0 ys) ≡ length xs = ap length first ∙ length-put xs 0 ys (omega arith) in
-    let end : n ≡ 0 + length ys = omega arith in
-    put-in (putAt xs 0 ys) n zs (omega arith)
-    ∙ ap (λ (l : List ℕ). put l n zs) first ∙ ap (λ (m : ℕ). put (put xs 0 ys) m zs) end
-    ∙ put-put xs 0 ys zs (omega arith) ∙ sym (put-in xs 0 (ys ++ zs) (simp length-append (omega arith)))
-    ∙ put-all xs (ys ++ zs) (simp length-append (omega arith))
 
 -- a value
 pub value-filled : (xs : List ℕ) (v : ℕ) → length xs ≡ 4 → putAt xs 0 (bytesOf MostFirst 4 v) ≡ answerPut (valueBytes v) xs

@@ -13,3 +13,4 @@ pub mod OfRun
 pub mod Instances
 pub mod Enough
 pub mod Found
+pub mod Checked

@@ -12,8 +12,10 @@ use Rattle.ledger.specs.declared.Finding.the-variants.{Found}
 use Rattle.ledger.specs.Finding.{findingIn}
 use Rattle.machine.specs.declared.RunAnswer.{RunAnswer}
 use Rattle.machine.specs.Run.{run, Lent, Returned, ranAs}
-use Rattle.links.specs.Form.{All}
-use Rattle.chain.specs.Chain.{Given, worldFor, shares, cost, recordsOf, Premises, FirstFew, AtEveryStep, Outcome}
+use Rattle.links.specs.declared.Verdict.the-variants.{Sound}
+use Rattle.links.specs.Form.{All, Form}
+use Rattle.links.specs.Verdicts.{stop, verdictOf}
+use Rattle.chain.specs.Chain.{Given, worldFor, last, shares, cost, recordsOf, Premises, FirstFew, AtEveryStep, Outcome}
 use Rattle.chain.specs.Enough.{WithinBudget}
 use Rattle.chain.specs.Twice.{twice, LinksToItself, RanTwice}
 use Rattle.chain.specs.Calls.{givenBy, Called, Finished}
@@ -46,6 +48,15 @@ BudgetExists = (g : Given) → Premises g → keepsLimits (g .window .base) (g .
 abbrev pub RunsTwice : Type 0
 RunsTwice = (g : Given) → LinksToItself g → (budget : ℕ) → 2 + cost (twice g) ≤ budget
     → RanTwice g (ranAs (g .used) (worldFor g) (run budget (worldFor g))) (run budget (worldFor g) .world .memory) (run budget (worldFor g) .world .records)
+
+-- Order 8: what a sound verdict is good for. Where the check says sound, with k and e, and all that demand 3 asks besides the form of the
+-- chain holds, the run does what demand 3 says, and its pointer is then at e.
+abbrev pub SoundRuns : Type 0
+SoundRuns = (g : Given) (e : ℕ) → keepsLimits (g .window .base) (g .window .length) ≡ true
+    → verdictOf (g .window) (g .memory) (g .pointer) ≡ Sound (stop (g .k) e)
+    → (Form (g .window) (g .memory) (g .pointer) (g .k) → Premises g)
+    → (budget : ℕ) → 2 + cost (shares g) ≤ budget
+    → Outcome g (ranAs (g .used) (worldFor g) (run budget (worldFor g))) (run budget (worldFor g) .world .memory) × (last g .at ≡ e)
 
 -- ---- of the public methods: fresh, two register writes, one run
 

@@ -9,6 +9,8 @@ pub mod Done
 pub mod TwoRuns
 pub mod OfVic
 pub mod OfMoves
+pub mod OfChains
 pub mod OfTimer
 pub mod Ledger
 pub mod Obeys
+pub mod Checked

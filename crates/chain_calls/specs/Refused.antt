@@ -181,6 +181,10 @@ findTests ledger used run answer = badSize (isSize 4 answer) ∷ badLedger ledge
 abbrev pub moveTests : (xs to : List ℕ) → List Test
 moveTests xs to = badSize (isImage xs && isImage to) ∷ badEdition xs ∷ heldSlot xs to ∷ []
 
+-- its answer has 10 bytes
+abbrev pub checkTests : (window : List ℕ) (base : ℕ) (answer : List ℕ) → List Test
+checkTests window base answer = badSize (isSize 10 answer) ∷ badWindow base (length window) ∷ []
+
 -- ---- and each call on a timer
 
 abbrev pub timerCreateTests : List ℕ → List Test

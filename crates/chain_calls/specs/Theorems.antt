@@ -9,13 +9,16 @@ use Rattle.words.specs.Promise.{Answers}
 use Rattle.descriptor.specs.declared.Job.{Job}
 use Rattle.ledger.specs.declared.Entry.{Entry}
 use Rattle.image.specs.Editions.{ImageMoved}
+use Rattle.links.specs.Calls.{ChainChecked}
 use Rattle.machine.specs.declared.Machine.{Machine}
 use Rattle.machine.specs.declared.LoadedMachine.the-variants.{Good}
 use Rattle.machine.specs.Saved.{loadOf}
 use Rattle.machine.specs.Run.{Lent, Returned, asLent}
 use Rattle.answers.specs.Answers.{findingBytes}
-use Rattle.links.specs.Form.{All}
-use Rattle.chain.specs.Chain.{shares, cost, Premises}
+use Rattle.links.specs.Form.{All, Form}
+use Rattle.links.specs.Verdicts.{stop}
+use Rattle.links.specs.Calls.{stopBytes, ChainChecked}
+use Rattle.chain.specs.Chain.{last, shares, cost, Premises}
 use Rattle.chain.specs.Known.{known}
 use Rattle.sgdma.specs.Calls.{Created, RegisterRead, RegisterWritten, LineRead, RunMade, DescriptorBuilt, DescriptorRead, RecordFound}
 use Rattle.timer.specs.Calls.{TimerCreated, TimerRead, TimerWritten, TimerLine, TimerRan, TimerElapsed}
@@ -23,7 +26,7 @@ use Rattle.vic.specs.Calls.{portNumber, VicCreated, VicChosen}
 use Rattle.chain_calls.specs.InC.{RunLent, RunLeft, Promised, Lends, WellLent, givenIn, Called, AllDone, Found, FoundAtEveryStep}
 use Rattle.chain_calls.specs.Known.{lends, knownLeft}
 use Rattle.chain_calls.specs.Refused.{FirstThatApplies, WhereRefused}
-use Rattle.chain_calls.specs.Refused.{createTests, readTests, writeTests, lineTests, runTests, buildTests, descriptorTests, findTests, moveTests, vicCreateTests, vicPortTests, vicChooseTests}
+use Rattle.chain_calls.specs.Refused.{createTests, readTests, writeTests, lineTests, runTests, buildTests, descriptorTests, findTests, moveTests, checkTests, vicCreateTests, vicPortTests, vicChooseTests}
 use Rattle.chain_calls.specs.Refused.{timerCreateTests, timerReadTests, timerWriteTests, timerValueTests, timerElapsedTests}
 use Rattle.chain_calls.specs.TwoRuns.{lentNext, lentWith, DoTheSame}
 use Rattle.chain_calls.specs.Images.{InUse, LoadsBack}
@@ -76,6 +79,11 @@ FindInOrder = (ledger : List ℕ) (used run address : ℕ) (answer : List ℕ) (
 -- sgdma_move_image does.
 abbrev pub MoveInOrder : Type 0
 MoveInOrder = (xs to : List ℕ) (r : ℕ) (to' : List ℕ) → ImageMoved xs to r to' → FirstThatApplies (moveTests xs to) r
+
+-- sgdma_check_chain does.
+abbrev pub CheckInOrder : Type 0
+CheckInOrder = (window : List ℕ) (base pointer : ℕ) (answer : List ℕ) (r : ℕ) (answer' : List ℕ)
+    → ChainChecked window base pointer answer r answer' → FirstThatApplies (checkTests window base answer) r
 
 -- Each of the six calls on a timer does.
 pub record EachInOrder : Type 0 where
@@ -151,6 +159,11 @@ FindUnchanged = (ledger : List ℕ) (used run address : ℕ) (answer : List ℕ)
 abbrev pub MoveUnchanged : Type 0
 MoveUnchanged = (xs to : List ℕ) (r : ℕ) (to' : List ℕ) → ImageMoved xs to r to' → WhereRefused r (to' ≡ to)
 
+-- sgdma_check_chain leaves the answer.
+abbrev pub CheckUnchanged : Type 0
+CheckUnchanged = (window : List ℕ) (base pointer : ℕ) (answer : List ℕ) (r : ℕ) (answer' : List ℕ)
+    → ChainChecked window base pointer answer r answer' → WhereRefused r (answer' ≡ answer)
+
 -- Each of the six calls on a timer leaves the timer, and the value that it may write.
 pub record EachUnchanged : Type 0 where
   pub create : (xs : List ℕ) (period r : ℕ) (xs' : List ℕ) → TimerCreated xs period r xs' → WhereRefused r (xs' ≡ xs)
@@ -189,6 +202,16 @@ abbrev pub ChainOfCalls : Type 0
 ChainOfCalls = (l : Lends) (created pointed started : ℕ) (left : RunLeft) (k : ℕ)
     → Called l created pointed started left → WellLent l → Premises (givenIn l k) → 2 + cost (shares (givenIn l k)) ≤ l .budget
     → Found (givenIn l k) l left
+
+-- Order 8: where sgdma_check_chain answers 0, sound, with k and e, and all that demand 3 asks besides the form of the chain holds, the calls
+-- leave what demand 3 says, and the run ends at e.
+abbrev pub CheckedRuns : Type 0
+CheckedRuns = (l : Lends) (created pointed started : ℕ) (left : RunLeft) (k e : ℕ) (answer answer' : List ℕ)
+    → ChainChecked (l .lent .window) (l .window .base) (l .pointer) answer 0 answer'
+    → answer' ≡ stopBytes 0 (stop k e) → k < 2 ^ 32 → e < 2 ^ 32
+    → Called l created pointed started left → WellLent l → length (l .lent .window) ≡ l .window .length
+    → (Form (l .window) (l .lent .window) (l .pointer) k → Premises (givenIn l k)) → 2 + cost (shares (givenIn l k)) ≤ l .budget
+    → Found (givenIn l k) l left × (last (givenIn l k) .at ≡ e)
 
 -- With any budget: after every step.
 abbrev pub ChainOfCallsAtEveryStep : Type 0

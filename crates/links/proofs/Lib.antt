@@ -1,0 +1,9 @@
+pub mod CellLaws
+pub mod Looks
+pub mod Placing
+pub mod Pigeons
+pub mod Meaning
+pub mod Turns
+pub mod Windows
+pub mod Telling
+pub mod Cases

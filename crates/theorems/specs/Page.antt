@@ -17,7 +17,7 @@ use Rattle.met.specs.Theorems.{FaultedStands, OnlyResetLeaves, ReadInFetchAlone
 use Rattle.met.specs.Theorems.{LoadsExactly, SameField, SavedAgain, LoadsBack, MovedForward, BackExactly, BackThenForward, WriteKeeps, StepKeeps, RunKeeps, MetKeeps, MetSaves}
 use Rattle.met.specs.Theorems.{OwesAtMost, OwesSteps, StandsThen, Obeys, RunsObey, ClearedByWrite, ObeysInRun, BoundIsMet}
 use Rattle.sums.specs.Theorems.{OneRecordEach, SessionAdds}
-use Rattle.chain.specs.Theorems.{ChainTheorem, ChainAtEveryStep, ChainRecords, BudgetExists, RunsTwice, ChainOfRun, ChainOfRunAtEveryStep, EachFound, KnownRun1, ChainOfThree}
+use Rattle.chain.specs.Theorems.{ChainTheorem, ChainAtEveryStep, ChainRecords, BudgetExists, RunsTwice, SoundRuns, ChainOfRun, ChainOfRunAtEveryStep, EachFound, KnownRun1, ChainOfThree}
 use Rattle.sgdma.specs.Calls.{CreatedUnique, RegisterReadUnique, RegisterWrittenUnique, LineReadUnique, RunMadeUnique, DescriptorBuiltUnique}
 use Rattle.sgdma.specs.Calls.{DescriptorReadUnique, RecordFoundUnique}
 use Rattle.chain_calls.specs.Theorems.{CreateInOrder, ReadInOrder, WriteInOrder, LineInOrder, RunInOrder, BuildInOrder, DescriptorInOrder, CreateUnchanged}
@@ -27,6 +27,8 @@ use Rattle.chain_calls.specs.Theorems.{NeverMovingFails, MarkerFails, MadeUpFai
 use Rattle.chain_calls.specs.Theorems.{VicCreateInOrder, VicPortInOrder, VicChooseInOrder, VicUnchanged}
 use Rattle.chain_calls.specs.Theorems.{MoveInOrder, MoveUnchanged, TimerInOrder, TimerUnchanged}
 use Rattle.chain_calls.specs.Theorems.{FindInOrder, FindUnchanged}
+use Rattle.chain_calls.specs.Theorems.{CheckInOrder, CheckUnchanged, CheckedRuns}
+use Rattle.links.specs.Theorems.{SoundExactly, OneForm, MisalignedExactly, OutsideExactly, OverlapsExactly, VerdictMeans, ApartAtMost, SoundAtMost, StopsAtMost, ReadAtMost, MoreTellTheSame, VerdictsHold}
 use Rattle.timer.specs.Calls.{TimerRanUnique}
 use Rattle.timer.specs.Theorems.{TicksAdd, ZerosWithin, TicksSetTO, ReachesEveryPeriod, OneShot, ElapsedIsTicks, TimerSavesLoaded, TimerMetSaves, TimersLoad}
 use Rattle.timer.specs.Theorems.{TimerFieldTold, TimerCasesHold}
@@ -72,8 +74,8 @@ record-found-unique = Rattle.sgdma.specs.Calls.record-found-unique
 pub timer-ran-unique : TimerRanUnique
 timer-ran-unique = Rattle.timer.specs.Calls.timer-ran-unique
 
--- No second outcome of another call on a timer keeps its promise, nor one of a call on a controller, nor one of sgdma_move_image: these
--- promises are of one form.
+-- No second outcome of another call on a timer keeps its promise, nor one of a call on a controller, nor one of sgdma_move_image, nor one of
+-- sgdma_check_chain: these promises are of one form.
 pub answers-unique : AnswersUnique
 answers-unique = Rattle.words.specs.Promise.answers-unique
 
@@ -114,6 +116,10 @@ find-in-order = Rattle.chain_calls.proofs.Refused.find-in-order
 -- sgdma_move_image gives back the first that applies.
 pub move-in-order : MoveInOrder
 move-in-order = Rattle.chain_calls.proofs.OfMoves.move-in-order
+
+-- sgdma_check_chain gives back the first that applies.
+pub check-in-order : CheckInOrder
+check-in-order = Rattle.chain_calls.proofs.OfChains.check-in-order
 
 -- sgdma_timer_create, sgdma_timer_read, sgdma_timer_write, sgdma_timer_line, sgdma_timer_run and sgdma_timer_elapsed give back the first
 -- that applies.
@@ -169,6 +175,10 @@ find-unchanged = Rattle.chain_calls.proofs.Unchanged.find-unchanged
 -- sgdma_move_image, refused, leaves the bytes that the image was to be moved to.
 pub move-unchanged : MoveUnchanged
 move-unchanged = Rattle.chain_calls.proofs.OfMoves.move-unchanged
+
+-- sgdma_check_chain, refused, leaves the answer.
+pub check-unchanged : CheckUnchanged
+check-unchanged = Rattle.chain_calls.proofs.OfChains.check-unchanged
 
 -- A call on a timer, refused, leaves the timer and the value.
 pub timer-unchanged : TimerUnchanged
@@ -522,6 +532,64 @@ records-back = Rattle.ledger.proofs.ReadBack.records-back
 -- Of these, one behind which there is no other of its descriptor and run is found, with its count.
 pub appended-found : AppendedFound
 appended-found = Rattle.ledger.proofs.ReadBack.appended-found
+
+-- ---- order 8: the chain checked before the bench starts
+
+-- "Sound exactly when the chain has demand 3's form", for this k, and the address told is that of its end.
+pub sound-exactly : SoundExactly
+sound-exactly = Rattle.links.proofs.Meaning.sound-exactly
+
+-- A chain has the form for one k at most, and so one end.
+pub one-form : OneForm
+one-form = Rattle.links.proofs.Meaning.one-form
+
+-- A defect told is one: everything before it is as it should be, and the cause is the first of the three that applies there. Misaligned so,
+pub misaligned-exactly : MisalignedExactly
+misaligned-exactly = Rattle.links.proofs.Meaning.misaligned-exactly
+
+-- outside so,
+pub outside-exactly : OutsideExactly
+outside-exactly = Rattle.links.proofs.Meaning.outside-exactly
+
+-- and an overlap so.
+pub overlaps-exactly : OverlapsExactly
+overlaps-exactly = Rattle.links.proofs.Meaning.overlaps-exactly
+
+-- Every chain gets one of these four verdicts, and it holds of the chain.
+pub verdict-means : VerdictMeans
+verdict-means = Rattle.links.proofs.Meaning.verdict-means
+
+-- No more than 2,048 descriptors of 32 bytes are apart in 65,536 bytes.
+pub apart-at-most : ApartAtMost
+apart-at-most = Rattle.links.proofs.Pigeons.apart-at-most
+
+-- So a sound chain has at most 2,047 owned descriptors and its end.
+pub sound-at-most : SoundAtMost
+sound-at-most = Rattle.links.proofs.Meaning.sound-at-most
+
+-- A walk stops at position 2,048 at the latest.
+pub stops-at-most : StopsAtMost
+stops-at-most = Rattle.links.proofs.Meaning.stops-at-most
+
+-- "At most 2,049 descriptors are read on one walk": 2,048, since a defect is known by its address and is not read.
+pub read-at-most : ReadAtMost
+read-at-most = Rattle.links.proofs.Meaning.read-at-most
+
+-- A walk that may look at more than 2,049 tells the same.
+pub more-tell-the-same : MoreTellTheSame
+more-tell-the-same = Rattle.links.proofs.Meaning.more-tell-the-same
+
+-- Twenty-eight verdicts worked out by hand.
+pub verdicts-hold : VerdictsHold
+verdicts-hold = Rattle.links.proofs.Cases.verdicts-hold
+
+-- Where the check says sound, and all that demand 3 asks besides the form of the chain holds, the run does what demand 3 says, and ends there.
+pub sound-runs : SoundRuns
+sound-runs = Rattle.chain.proofs.Checked.sound-runs
+
+-- So do the calls where sgdma_check_chain says sound.
+pub checked-runs : CheckedRuns
+checked-runs = Rattle.chain_calls.proofs.Checked.checked-runs
 
 -- ---- order 9: how long until it obeys
 

@@ -60,6 +60,17 @@ put-put xs at ys zs h =
 pub sets-put : (xs : List ℕ) (at : ℕ) (ys : List ℕ) → at + length ys ≤ length xs → sets xs at ys ≡ put xs at ys
 sets-put xs at ys h = sets-eq ys xs at h ∙ append-assoc (take at xs) ys (drop (at + length ys) xs)
 
+-- two parts that together are as long as the slice are what then stands in it
+pub filled : (xs ys zs : List ℕ) (n : ℕ) → length ys ≡ n → length xs ≡ n + length zs → putAt (putAt xs 0 ys) n zs ≡ ys ++ zs
+filled xs ys zs n k l =
+    let first : putAt xs 0 ys ≡ put xs 0 ys = put-in xs 0 ys (omega arith) in
+    let same : length (putAt xs 0 ys) ≡ length xs = ap length first ∙ length-put xs 0 ys (omega arith) in
+    let end : n ≡ 0 + length ys = omega arith in
+    put-in (putAt xs 0 ys) n zs (omega arith)
+    ∙ ap (λ (l : List ℕ). put l n zs) first ∙ ap (λ (m : ℕ). put (put xs 0 ys) m zs) end
+    ∙ put-put xs 0 ys zs (omega arith) ∙ sym (put-in xs 0 (ys ++ zs) (simp length-append (omega arith)))
+    ∙ put-all xs (ys ++ zs) (simp length-append (omega arith))
+
 -- one byte more, stored where those before it end
 pub put-next : (xs : List ℕ) (at : ℕ) (ys : List ℕ) (z : ℕ) → at + length ys < length xs
     → set (put xs at ys) (at + length ys) z ≡ put xs at (ys ++ (z ∷ []))

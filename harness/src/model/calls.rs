@@ -1,5 +1,5 @@
-//! The eight calls on a core for a C host, on bytes; what is asked of a ledger, and
-//! the calls on a controller and on a timer, stand with these.
+//! The eight calls on a core for a C host, on bytes; what is asked of a ledger and of
+//! a chain, and the calls on a controller and on a timer, stand with these.
 //!
 //! Their arguments are those of the C prototypes, with a slice for a pointer and
 //! a length. "A refused call returns its number and nothing else; machine and
@@ -7,8 +7,8 @@
 //! paper's order, and only then writes.
 
 use super::{
-    Controllers, Descriptor, Editions, Findings, Ledger, Machine, Mode, Ports, Report, Steps,
-    Timers, Window, DESCRIPTOR_SIZE,
+    Chains, Controllers, Descriptor, Editions, Findings, Ledger, Machine, Mode, Ports, Report,
+    Steps, Timers, Window, DESCRIPTOR_SIZE,
 };
 
 /// With the ledger "32 bits more in the report, now 18 bytes"
@@ -102,7 +102,7 @@ fn window_at(base: u64, memory: &[u8]) -> Window {
     }
 }
 
-pub trait Calls: Steps + Findings + Editions + Controllers + Timers {
+pub trait Calls: Steps + Findings + Chains + Editions + Controllers + Timers {
     /// What the model is called where its answers differ from another's.
     const NAME: &'static str = "model";
 

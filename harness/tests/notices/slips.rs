@@ -7,40 +7,43 @@ use harness::model::{ImageRule, Images};
 /// Takes the rules of every other trait as they stand in the paper.
 macro_rules! paper_otherwise {
     (Windows for $model:ident) => {
-        paper_otherwise!(Registers, Descriptors, Slots, Ledgers, Findings, Steps, Images, Editions, Controllers, Timers, Calls: $model);
+        paper_otherwise!(Registers, Descriptors, Slots, Ledgers, Findings, Chains, Steps, Images, Editions, Controllers, Timers, Calls: $model);
     };
     (Registers for $model:ident) => {
-        paper_otherwise!(Windows, Descriptors, Slots, Ledgers, Findings, Steps, Images, Editions, Controllers, Timers, Calls: $model);
+        paper_otherwise!(Windows, Descriptors, Slots, Ledgers, Findings, Chains, Steps, Images, Editions, Controllers, Timers, Calls: $model);
     };
     (Descriptors for $model:ident) => {
-        paper_otherwise!(Windows, Registers, Slots, Ledgers, Findings, Steps, Images, Editions, Controllers, Timers, Calls: $model);
+        paper_otherwise!(Windows, Registers, Slots, Ledgers, Findings, Chains, Steps, Images, Editions, Controllers, Timers, Calls: $model);
     };
     (Slots for $model:ident) => {
-        paper_otherwise!(Windows, Registers, Descriptors, Ledgers, Findings, Steps, Images, Editions, Controllers, Timers, Calls: $model);
+        paper_otherwise!(Windows, Registers, Descriptors, Ledgers, Findings, Chains, Steps, Images, Editions, Controllers, Timers, Calls: $model);
     };
     (Ledgers for $model:ident) => {
-        paper_otherwise!(Windows, Registers, Descriptors, Slots, Findings, Steps, Images, Editions, Controllers, Timers, Calls: $model);
+        paper_otherwise!(Windows, Registers, Descriptors, Slots, Findings, Chains, Steps, Images, Editions, Controllers, Timers, Calls: $model);
     };
     (Findings for $model:ident) => {
-        paper_otherwise!(Windows, Registers, Descriptors, Slots, Ledgers, Steps, Images, Editions, Controllers, Timers, Calls: $model);
+        paper_otherwise!(Windows, Registers, Descriptors, Slots, Ledgers, Chains, Steps, Images, Editions, Controllers, Timers, Calls: $model);
+    };
+    (Chains for $model:ident) => {
+        paper_otherwise!(Windows, Registers, Descriptors, Slots, Ledgers, Findings, Steps, Images, Editions, Controllers, Timers, Calls: $model);
     };
     (Steps for $model:ident) => {
-        paper_otherwise!(Windows, Registers, Descriptors, Slots, Ledgers, Findings, Images, Editions, Controllers, Timers, Calls: $model);
+        paper_otherwise!(Windows, Registers, Descriptors, Slots, Ledgers, Findings, Chains, Images, Editions, Controllers, Timers, Calls: $model);
     };
     (Images for $model:ident) => {
-        paper_otherwise!(Windows, Registers, Descriptors, Slots, Ledgers, Findings, Steps, Editions, Controllers, Timers, Calls: $model);
+        paper_otherwise!(Windows, Registers, Descriptors, Slots, Ledgers, Findings, Chains, Steps, Editions, Controllers, Timers, Calls: $model);
     };
     (Editions for $model:ident) => {
-        paper_otherwise!(Windows, Registers, Descriptors, Slots, Ledgers, Findings, Steps, Images, Controllers, Timers, Calls: $model);
+        paper_otherwise!(Windows, Registers, Descriptors, Slots, Ledgers, Findings, Chains, Steps, Images, Controllers, Timers, Calls: $model);
     };
     (Calls for $model:ident) => {
-        paper_otherwise!(Windows, Registers, Descriptors, Slots, Ledgers, Findings, Steps, Images, Editions, Controllers, Timers: $model);
+        paper_otherwise!(Windows, Registers, Descriptors, Slots, Ledgers, Findings, Chains, Steps, Images, Editions, Controllers, Timers: $model);
     };
     (Controllers for $model:ident) => {
-        paper_otherwise!(Windows, Registers, Descriptors, Slots, Ledgers, Findings, Steps, Images, Editions, Timers, Calls: $model);
+        paper_otherwise!(Windows, Registers, Descriptors, Slots, Ledgers, Findings, Chains, Steps, Images, Editions, Timers, Calls: $model);
     };
     (Timers for $model:ident) => {
-        paper_otherwise!(Windows, Registers, Descriptors, Slots, Ledgers, Findings, Steps, Images, Editions, Controllers, Calls: $model);
+        paper_otherwise!(Windows, Registers, Descriptors, Slots, Ledgers, Findings, Chains, Steps, Images, Editions, Controllers, Calls: $model);
     };
     ($($rules:ident),*: $model:ident) => {
         $(impl harness::model::$rules for $model {})*
@@ -106,6 +109,7 @@ macro_rules! slips {
 }
 
 mod calls;
+pub mod chains;
 pub mod controllers;
 mod descriptors;
 pub mod editions;
