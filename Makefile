@@ -4,6 +4,7 @@
 # make picture  what GTKWave shows of it, as docs/samples.png and docs/copier.png
 # make ledger  a saved ledger as a table and, where it is long, as a timeline: make ledger FILE=..
 # make check   a chain in a dump of the memory, whether it is sound: make check FILE=.. BASE=.. POINTER=..
+# make mend    the good front part of a chain in such a dump: make mend FILE=.. BASE=.. POINTER=..
 # make speed   how fast the library is, against two models, the moves alone and a plain copy
 # make examples  the same forty lines in C, C++, Rust and Python
 # make install   the header, both libraries, the pkg-config file and the manual page: make install PREFIX=..; make uninstall
@@ -11,7 +12,7 @@
 #
 # SGDMA_LIB_DIR is the directory of libsgdma.a, where it is not the one to which 'rt staticlib sgdma' writes it.
 
-.PHONY: bench board wave picture ledger check examples shared install uninstall speed test bridge-command target-syntax running compiler anew
+.PHONY: bench board wave picture ledger check mend examples shared install uninstall speed test bridge-command target-syntax running compiler anew
 
 SGDMA_LIB_DIR ?= target/staticlib
 LIBRARY = $(SGDMA_LIB_DIR)/libsgdma.a
@@ -110,10 +111,13 @@ ledger: $(BUILD)/ledger
 	$(if $(FILE),,$(error make ledger FILE=.., the file of a ledger; and MEMORY=.. with BASE=.., a dump and its bus address))
 	@$(RUN) $< '$(FILE)' '$(SVG)' $(if $(MEMORY),'$(MEMORY)' '$(BASE)')
 
-# A chain in a dump of the memory: FILE is the dump, which begins at the bus address BASE, and the chain begins at POINTER.
-check: $(BUILD)/dump
-	$(if $(FILE),,$(error make check FILE=.., a dump of the memory; with BASE=.. and POINTER=.., the bus addresses of the dump and of the chain))
-	@$(RUN) $< check '$(FILE)' '$(BASE)' '$(POINTER)'
+# A chain in a dump of the memory: FILE is the dump, which begins at the bus address BASE, and the chain begins at POINTER. The mended
+# dump is a file of its own.
+MENDED = $(FILE).mended
+
+check mend: $(BUILD)/dump
+	$(if $(FILE),,$(error make $@ FILE=.., a dump of the memory; with BASE=.. and POINTER=.., the bus addresses of the dump and of the chain))
+	@$(RUN) $< $@ '$(FILE)' '$(BASE)' '$(POINTER)' $(if $(filter mend,$@),'$(MENDED)')
 
 # What stands before a program that is run; and the compiler.
 running:

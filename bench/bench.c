@@ -122,8 +122,8 @@ static const struct scene SCENES[] = {
     },
 };
 
-/* Five more are played by themselves. */
-enum { SCENE_COUNT = sizeof SCENES / sizeof *SCENES, ALL_SCENES = SCENE_COUNT + 5 };
+/* Six more are played by themselves. */
+enum { SCENE_COUNT = sizeof SCENES / sizeof *SCENES, ALL_SCENES = SCENE_COUNT + 6 };
 
 /* What came of a scene. */
 struct outcome {
@@ -378,6 +378,7 @@ int main(void)
     good += play_shared(SCENE_COUNT + 3, ENABLES);
     good += play_sums(SCENE_COUNT + 4, ENABLES);
     good += play_checked(SCENE_COUNT + 5, ENABLES);
+    good += play_mended(SCENE_COUNT + 6, ENABLES);
     printf("\n%zu of %d scenes are as they must be\n", good, ALL_SCENES);
     return good == ALL_SCENES ? 0 : 1;
 }

@@ -27,6 +27,10 @@ static const struct {
 
 static const struct checked SOUND = {SGDMA_CHAIN_SOUND, DESCRIPTORS, END};
 
+/* What is left of the chain by a crash, and by the mend. */
+static const struct checked CRASHED = {SGDMA_CHAIN_OUTSIDE, 3, 0xDEADBEEC};
+static const struct checked KEPT = {SGDMA_CHAIN_SOUND, 2, THIRD};
+
 static void lead(struct core *core, uint32_t from, uint32_t to)
 {
     struct descriptor d = core_descriptor(core, from);
@@ -60,8 +64,9 @@ static bool damage(struct core *core)
     return as;
 }
 
-/* Runs the chain: all that were owned are done, and the core stands at the end. */
-static bool runs(struct firmware *firmware)
+/* Runs the chain: all that were owned are done, and the core stands at the end. The
+   end itself reads as done too where it is one of the four. */
+static bool runs(struct firmware *firmware, const struct checked *sound)
 {
     struct slice slice;
     size_t number = 0;
@@ -73,8 +78,9 @@ static bool runs(struct firmware *firmware)
         show_slice(++number, &slice);
     } while (slice.ran.reason == SGDMA_REASON_BUDGET);
     return slice.ran.reason == SGDMA_REASON_ENDED &&
-           firmware_done(firmware) == SOUND.position &&
-           core_read(&firmware->core, SGDMA_REGISTER_NEXT_DESCRIPTOR_POINTER) == SOUND.address;
+           firmware_done(firmware) == sound->position + (sound->address < END) &&
+           firmware->ledger.used == sound->position &&
+           core_read(&firmware->core, SGDMA_REGISTER_NEXT_DESCRIPTOR_POINTER) == sound->address;
 }
 
 bool play_checked(size_t number, uint32_t enables)
@@ -90,7 +96,52 @@ bool play_checked(size_t number, uint32_t enables)
     printf("    put right\n");
     as = checks(&firmware.core, &SOUND) && as;
     printf("\n");
-    as = runs(&firmware) && as;
+    as = runs(&firmware, &SOUND) && as;
+    printf("\n");
+    show_ledger(firmware.ledger, firmware.taken);
+    return show_verdict(as);
+}
+
+/* Mends the chain, and shows what has changed; whether it is what must have. */
+static bool mends(struct core *core)
+{
+    struct mended mended = {0};
+    uint32_t number = mend_chain(core->memory, core->length, core->base, CHAIN, &mended);
+
+    printf("        ");
+    show_mended(&mended);
+    return number == SGDMA_DONE && mended.any && mended.address == KEPT.address &&
+           mended.old == SGDMA_DESC_OWNED_BY_HW && mended.new == 0;
+}
+
+/* Where the pointer itself is wrong there is nothing to keep. */
+static bool keeps_nothing(struct core *core)
+{
+    struct mended mended = {0};
+    uint32_t number = mend_chain(core->memory, core->length, core->base, CHAIN + 2, &mended);
+
+    printf("    with the pointer 0x%04X\n    ", (unsigned)CHAIN + 2);
+    show_refused(number);
+    return number == SGDMA_NOTHING_TO_KEEP && !mended.any;
+}
+
+bool play_mended(size_t number, uint32_t enables)
+{
+    struct firmware firmware;
+    bool as;
+
+    printf("\n%zu.  A chain that is mended after a crash\n"
+           "    What stood before the defect is kept: the last of it is the end, unrecorded.\n\n",
+           number);
+    firmware_begin(&firmware, enables);
+    lead(&firmware.core, THIRD, CRASHED.address);
+    printf("    0x%04X leads to 0x%04" PRIX32 "\n", (unsigned)THIRD, CRASHED.address);
+    as = checks(&firmware.core, &CRASHED);
+    as = mends(&firmware.core) && as;
+    as = checks(&firmware.core, &KEPT) && as;
+    as = keeps_nothing(&firmware.core) && as;
+    printf("\n");
+    as = runs(&firmware, &KEPT) && as;
     printf("\n");
     show_ledger(firmware.ledger, firmware.taken);
     return show_verdict(as);

@@ -215,6 +215,21 @@ struct checked core_check(const struct core *core, uint32_t pointer)
     return check_chain(core->memory, core->length, core->base, pointer);
 }
 
+uint32_t mend_chain(uint8_t *window, size_t length, uint32_t base, uint32_t pointer,
+                    struct mended *mended)
+{
+    uint8_t answer[SGDMA_MEND_SIZE];
+    uint32_t number = sgdma_mend_chain(window, length, base, pointer, answer, sizeof answer);
+
+    if (number == SGDMA_DONE) {
+        mended->any = number_at(answer + SGDMA_MEND_MENDED_AT, 2) == 1;
+        mended->address = number_at(answer + SGDMA_MEND_ADDRESS_AT, 4);
+        mended->old = answer[SGDMA_MEND_OLD_AT];
+        mended->new = answer[SGDMA_MEND_NEW_AT];
+    }
+    return number;
+}
+
 bool is_done(const struct descriptor *d)
 {
     return !(d->control & SGDMA_DESC_OWNED_BY_HW);

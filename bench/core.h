@@ -81,6 +81,13 @@ struct checked {
     uint32_t address;  /* of what is wrong, or of the end */
 };
 
+/* What a mend tells: the descriptor that was changed, and its control byte. */
+struct mended {
+    bool any; /* false where the chain was sound, and the others are 0 */
+    uint32_t address;
+    uint8_t old, new;
+};
+
 /* What is done where a call was refused: it tells the call and ends the program. One
    that is put in its place must not return either. */
 extern void (*at_refusal)(const char *call, uint32_t number);
@@ -136,6 +143,11 @@ bool is_done(const struct descriptor *d);
 struct checked check_chain(const uint8_t *window, size_t length, uint32_t base,
                            uint32_t pointer);
 struct checked core_check(const struct core *core, uint32_t pointer);
+
+/* Mends the chain at a pointer, in a slice at a base: SGDMA_DONE, or the refusal. It
+   is no error to ask where there is nothing to keep. */
+uint32_t mend_chain(uint8_t *window, size_t length, uint32_t base, uint32_t pointer,
+                    struct mended *mended);
 
 /* The byte of memory at a bus address of the window. */
 uint8_t *core_byte(const struct core *core, uint32_t address);

@@ -113,6 +113,8 @@ void show_refused(uint32_t number)
     uint32_t field = SGDMA_FIELD(number);
 
     printf("    refused: %" PRIu32, SGDMA_REFUSAL(number));
+    if (number == SGDMA_NOTHING_TO_KEEP)
+        printf(", nothing to keep");
     if (field < sizeof FIELDS / sizeof *FIELDS && FIELDS[field].name)
         printf(", field %" PRIu32 ": %s\n        must %s", field,
                FIELDS[field].name, FIELDS[field].rule);
@@ -134,6 +136,15 @@ void show_checked(const struct checked *checked)
     else
         printf("not sound: at position %" PRIu32 " 0x%04" PRIX32 " %s\n",
                checked->position, checked->address, CAUSES[checked->verdict]);
+}
+
+void show_mended(const struct mended *mended)
+{
+    if (mended->any)
+        printf("mended: 0x%04" PRIX32 " is the end now, control 0x%02X, before it was 0x%02X\n",
+               mended->address, mended->new, mended->old);
+    else
+        printf("nothing to mend\n");
 }
 
 void show_record(size_t number, const struct record *record)

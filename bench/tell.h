@@ -1,5 +1,5 @@
 /*
- * What a core, a timer, a ledger and a check tell, in words, on the screen.
+ * What a core, a timer, a ledger, a check and a mend tell, in words, on the screen.
  */
 #ifndef TELL_H
 #define TELL_H
@@ -21,6 +21,9 @@ void show_fault(struct fault fault);
 
 /* What a check tells of a chain: that it is sound, or where and why it is not. */
 void show_checked(const struct checked *checked);
+
+/* What a mend has changed, or that it has changed nothing. */
+void show_mended(const struct mended *mended);
 
 /* The heading of a ledger and the row of a record, each without the line's end. */
 void show_ledger_heading(void);

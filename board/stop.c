@@ -26,6 +26,7 @@ static const char *const REFUSALS[] = {
     NAMED(SGDMA_BAD_LEDGER),
     NAMED(SGDMA_NO_PORT),
     NAMED(SGDMA_ADDRESS_TOO_LARGE),
+    NAMED(SGDMA_NOTHING_TO_KEEP),
 };
 
 static const char *refusal_name(uint32_t refusal)

@@ -33,6 +33,17 @@ struct file read_file(const char *path)
     return file;
 }
 
+void write_file(const char *path, struct file file)
+{
+    FILE *to = fopen(path, "wb");
+
+    if (!to)
+        give_up(path, "it cannot be written");
+    fwrite(file.bytes, 1, file.length, to);
+    if (ferror(to) || fclose(to))
+        give_up(path, "it cannot be written");
+}
+
 uint32_t address_in(const char *name, const char *text)
 {
     char *end;

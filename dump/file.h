@@ -29,6 +29,7 @@ struct dump {
 void give_up(const char *what, const char *why);
 
 struct file read_file(const char *path);
+void write_file(const char *path, struct file file);
 
 /* The bus address that the text of this name gives, decimal or with 0x. */
 uint32_t address_in(const char *name, const char *text);

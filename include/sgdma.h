@@ -14,6 +14,7 @@
  *   sgdma_read_register       what has happened
  *   sgdma_read_descriptor     what was done with each descriptor
  *   sgdma_find_record         what the ledger tells of a descriptor in one run
+ *   sgdma_mend_chain          the good front part of a chain, in a dump of the memory
  *   sgdma_move_image          a core kept in an image of another edition
  *
  * Several cores can share an interrupt controller (chapter 29, Vectored
@@ -65,8 +66,8 @@
  *
  *   Numbers in lent bytes have the most significant byte first, in the image,
  *   the report, the value, the descriptor answer, the beats, the records of the
- *   ledger and what it tells, what a check tells, the controller and its answer,
- *   and the timer.
+ *   ledger and what it tells, what a check and a mend tell, the controller and its
+ *   answer, and the timer.
  *   Descriptors in the window are little-endian, as the core has them.
  */
 #ifndef SGDMA_H
@@ -90,6 +91,7 @@ extern "C" {
 #define SGDMA_DESCRIPTOR_ANSWER_SIZE  18
 #define SGDMA_FINDING_SIZE            4
 #define SGDMA_CHECK_SIZE              10
+#define SGDMA_MEND_SIZE               8
 #define SGDMA_VIC_SIZE                88
 #define SGDMA_VIC_ANSWER_SIZE         12
 #define SGDMA_TIMER_SIZE              14
@@ -414,6 +416,30 @@ extern "C" {
 #define SGDMA_CHECK_ADDRESS_AT   6 /* 32 bits: of what is wrong; sound: of the end */
 
 /*
+ * A mended chain
+ *
+ * After a crash the front part of a chain is often good. A dump of the memory is any
+ * slice with a base, and is mended as a window is. sgdma_mend_chain walks the chain
+ * as the check does. Where a descriptor is wrong, OWNED_BY_HW is cleared in the one
+ * just before it, which becomes the end: one bit of one byte, and nothing else in the
+ * dump changes. Then the chain is sound. Its descriptors are those that stood before
+ * the one that was wrong; where that was at position p, p - 1 of them are owned, and
+ * the last, which was owned too, is not. A chain that is sound already is left as it
+ * is, so that to mend twice is to mend once. Where the first descriptor is wrong there
+ * is none before it, and the mend is refused: SGDMA_NOTHING_TO_KEEP.
+ *
+ * What was cut off is still in the dump, and the descriptor that was made the end
+ * reads as done: its byte as it was is told, and put back it undoes the mend.
+ *
+ * The answer of sgdma_mend_chain, 8 bytes: where each number stands. Where the chain
+ * was sound all are 0.
+ */
+#define SGDMA_MEND_MENDED_AT   0 /* 16 bits: 1 where a descriptor was changed */
+#define SGDMA_MEND_ADDRESS_AT  2 /* 32 bits: of that descriptor */
+#define SGDMA_MEND_OLD_AT      6 /* 8 bits: its desc_control before */
+#define SGDMA_MEND_NEW_AT      7 /* 8 bits: its desc_control now */
+
+/*
  * The report of a run, 18 bytes: where each number stands.
  */
 #define SGDMA_REPORT_REASON_AT  0  /* 16 bits */
@@ -719,6 +745,7 @@ extern "C" {
 #define SGDMA_BAD_LEDGER    UINT32_C(19) /* part of a record, or fewer records than are used */
 #define SGDMA_NO_PORT       UINT32_C(21) /* the controller lacks the port; or a count not 1 to 32 */
 #define SGDMA_ADDRESS_TOO_LARGE  UINT32_C(22) /* the chosen port's handler is past 32 bits */
+#define SGDMA_NOTHING_TO_KEEP    UINT32_C(23) /* the first descriptor of the chain is wrong */
 
 /*
  * Makes a fresh core: every register 0, nothing pending, phase Rest, the slot
@@ -873,6 +900,22 @@ uint32_t sgdma_read_descriptor(const uint8_t *window, size_t window_len,
 uint32_t sgdma_check_chain(const uint8_t *window, size_t window_len,
                            uint64_t base, uint32_t pointer,
                            uint8_t *answer, size_t answer_len);
+
+/*
+ * Mends the chain that begins at a pointer, in a dump of the memory, or a window,
+ * that stands at base.
+ *
+ * Reads    window: the descriptors of the chain
+ * Writes   window: one bit, where the chain is not sound
+ *          answer: what was changed, 8 bytes
+ * Returns  SGDMA_BAD_SIZE         answer_len is not 8
+ *          SGDMA_BAD_WINDOW       base and window_len break the limits of a window
+ *          SGDMA_NOTHING_TO_KEEP  what is wrong is the first descriptor
+ *          SGDMA_DONE             also where the chain is sound and nothing changes
+ */
+uint32_t sgdma_mend_chain(uint8_t *window, size_t window_len,
+                          uint64_t base, uint32_t pointer,
+                          uint8_t *answer, size_t answer_len);
 
 /*
  * Tells whether the descriptor at a bus address was written back in a run, and its

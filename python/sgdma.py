@@ -333,6 +333,24 @@ def _check(options: argparse.Namespace) -> int:
     return 0 if checked.sound() else 1
 
 
+def _mend(options: argparse.Namespace) -> int:
+    """The sub-command mend; where the chain is sound, or there is nothing to keep, no file is written."""
+    memory = bytearray(options.dump.read_bytes())
+    answer = bytearray(_CONSTANTS["SGDMA_MEND_SIZE"])
+    print(Checked.of(memory, options.base, options.pointer))
+    _CALLS["sgdma_mend_chain"](memory, options.base, options.pointer, answer)
+    if not number_at(answer, _CONSTANTS["SGDMA_MEND_MENDED_AT"], 2):
+        print("nothing to mend")
+        return 0
+    address = number_at(answer, _CONSTANTS["SGDMA_MEND_ADDRESS_AT"], 4)
+    old, new = (answer[_CONSTANTS[f"SGDMA_MEND_{name}_AT"]] for name in ("OLD", "NEW"))
+    print(f"mended: 0x{address:04X} is the end now, control 0x{new:02X}, before it was 0x{old:02X}")
+    options.mended.write_bytes(memory)
+    print(f"the mended dump is {options.mended}")
+    print(Checked.of(memory, options.base, options.pointer))
+    return 0
+
+
 def _move_image(options: argparse.Namespace) -> int:
     """The sub-command move-image; where it is refused no file is written."""
     moved = bytearray(editions()[options.edition])
@@ -375,6 +393,10 @@ def _parser() -> argparse.ArgumentParser:
     check = commands.add_parser("check", help="a chain in a dump of the memory, whether it is sound")
     _add_chain(check)
     check.set_defaults(run=_check)
+    mend = commands.add_parser("mend", help="the good front part of a chain in a dump of the memory")
+    _add_chain(mend)
+    mend.add_argument("mended", type=Path, help="where the mended dump is written")
+    mend.set_defaults(run=_mend)
     move = commands.add_parser("move-image", help="the image of a core, moved to another edition")
     move.add_argument("image", type=Path, help="the image; its size tells its edition")
     move.add_argument("moved", type=Path, help="where the moved image is written")

@@ -6,35 +6,7 @@
 #include <string.h>
 
 #include "check.h"
-#include "core.h"
-
-enum {
-    SIZE = 32,    /* of a descriptor */
-    NEXT = 16,    /* where its link stands */
-    CONTROL = 31, /* and its control byte */
-    OWNED = 0x80,
-    MOST = 65536, /* bytes of a window */
-    FILL = 0xA5
-};
-
-#define BASE UINT32_C(0x1000)
-
-static uint8_t window[MOST + 1];
-
-/* A descriptor: what it leads to, and its control byte. */
-struct link {
-    uint32_t at, next;
-    uint8_t control;
-};
-
-static void put_link(uint32_t base, const struct link *link)
-{
-    uint8_t *bytes = window + (link->at - base);
-
-    for (size_t i = 0; i < 4; i++)
-        bytes[NEXT + i] = (uint8_t)(link->next >> 8 * i);
-    bytes[CONTROL] = link->control;
-}
+#include "laid.h"
 
 /* Checks over bytes that are not 0, and sees every byte of the answer; the window is
    lent as const, and must be as it was. */
@@ -59,19 +31,7 @@ static void check_told(uint64_t base, size_t length, uint32_t pointer,
     check_bytes("window", window, before, sizeof window);
 }
 
-/*
- * A window of 160 bytes, 0x1000 to 0x10A0. A leads to B, B to C, and C to the end D,
- * which is not owned. Each row changes some of them.
- */
-enum { LENGTH = 160 };
-#define A UINT32_C(0x1000)
-#define B UINT32_C(0x1040)
-#define C UINT32_C(0x1020)
-#define D UINT32_C(0x1080)
-
-static const struct link CHAIN[] = {
-    {A, B, OWNED}, {B, C, OWNED | 0x05}, {C, D, 0xFF}, {D, A, 0x7F}};
-
+/* Each row changes some of the four. */
 struct row {
     const char *name;
     struct link changed[2]; /* none where the address is 0 */
@@ -156,9 +116,7 @@ static const struct row ROWS[] = {
 static void check_row(const struct row *row)
 {
     check_case(row->name);
-    memset(window, 0, sizeof window);
-    for (size_t i = 0; i < COUNT(CHAIN); i++)
-        put_link(BASE, &CHAIN[i]);
+    lay_chain(0);
     for (size_t i = 0; i < COUNT(row->changed); i++)
         if (row->changed[i].at)
             put_link(BASE, &row->changed[i]);
@@ -170,23 +128,8 @@ static void check_row(const struct row *row)
 static void check_other_bytes(void)
 {
     check_case("all other bytes set");
-    memset(window, 0xFF, sizeof window);
-    for (size_t i = 0; i < COUNT(CHAIN); i++)
-        put_link(BASE, &CHAIN[i]);
+    lay_chain(0xFF);
     check_told(BASE, LENGTH, A, (struct checked)SOUND(3, D));
-}
-
-/* Descriptors side by side from the base on, so many of them owned; the last of these
-   leads to `next`. */
-static void lay_row(uint32_t base, uint32_t owned, uint32_t next)
-{
-    memset(window, 0, sizeof window);
-    for (uint32_t i = 0; i < owned; i++) {
-        uint32_t at = base + SIZE * i;
-        struct link link = {at, i + 1 < owned ? at + SIZE : next, OWNED};
-
-        put_link(base, &link);
-    }
 }
 
 /* The largest window has room for 2,048: 2,047 owned ones and the end. */

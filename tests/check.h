@@ -32,6 +32,7 @@ void test_sums(void);
 void test_largest_ledger(void);
 void test_finding(void);
 void test_chains(void);
+void test_mend(void);
 void test_refusals(void);
 void test_fields(void);
 void test_editions(void);

@@ -46,7 +46,7 @@ class Commands(unittest.TestCase):
     def test_help_names_the_commands(self) -> None:
         ended, told, _ = self.run_command("--help")
         self.assertEqual(ended, 0)
-        for command in ("check", "ledger", "move-image"):
+        for command in ("check", "ledger", "mend", "move-image"):
             self.assertIn(f"    {command} ", told)
 
     def test_an_image_is_moved_back_and_forward(self) -> None:
@@ -87,6 +87,25 @@ class Commands(unittest.TestCase):
         self.assertEqual(self.run_command("check", odd, *at), (1, "not sound: at position 1 0x1042 is not a multiple of 4\n", ""))
         ended, _, said = self.run_command("check", sound, "--base", 0xFFFFFFF0, "--pointer", 0)
         self.assertEqual((ended, said.split(":")[1]), (2, " SGDMA_BAD_WINDOW (3)"))
+
+    def test_a_chain_is_mended(self) -> None:
+        at = ("--base", "0x1000", "--pointer", 4096)
+        back, mended = self.dump((0x1000, 0x1040), (0x1040, 0x1000)), self.room / "mended"
+        before = bytearray(back.read_bytes())
+        ended, told, _ = self.run_command("mend", back, mended, *at)
+        self.assertEqual((ended, told.splitlines()[1]), (0, "mended: 0x1040 is the end now, control 0x01, before it was 0x81"))
+        self.assertEqual(told.splitlines()[3], "sound: 1 owned, and the end at 0x1040")
+        self.assertEqual(back.read_bytes(), before)
+        before[0x5F] = 0x01
+        self.assertEqual(mended.read_bytes(), before)
+
+    def test_what_is_not_mended_is_not_written(self) -> None:
+        sound, mended = self.dump((0x1000, 0x1040)), self.room / "mended"
+        ended, told, _ = self.run_command("mend", sound, mended, "--base", 0x1000, "--pointer", 0x1000)
+        self.assertEqual((ended, told.splitlines()[1]), (0, "nothing to mend"))
+        ended, _, said = self.run_command("mend", sound, mended, "--base", 0x1000, "--pointer", 0x1002)
+        self.assertEqual((ended, said.split(":")[1]), (2, " SGDMA_NOTHING_TO_KEEP (23)"))
+        self.assertFalse(mended.exists())
 
     def test_a_file_that_is_not_there(self) -> None:
         ended, _, said = self.run_command("ledger", self.room / "none")

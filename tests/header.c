@@ -27,6 +27,7 @@ uint32_t sgdma_find_record(const uint8_t *, size_t, uint32_t, uint32_t, uint32_t
 uint32_t sgdma_move_image(const uint8_t *, size_t, uint8_t *, size_t);
 uint32_t sgdma_check_chain(const uint8_t *, size_t, uint64_t, uint32_t, uint8_t *,
                            size_t);
+uint32_t sgdma_mend_chain(uint8_t *, size_t, uint64_t, uint32_t, uint8_t *, size_t);
 uint32_t sgdma_vic_create(uint8_t *, size_t, uint32_t, uint32_t, uint32_t);
 uint32_t sgdma_vic_configure(uint8_t *, size_t, uint32_t, uint32_t, uint32_t, uint32_t);
 uint32_t sgdma_vic_enable(uint8_t *, size_t, uint32_t, uint32_t);
@@ -58,6 +59,7 @@ static int sizes_are_refused(void)
         sgdma_find_record(NULL, 0, 0, 0, 0, NULL, 0),
         sgdma_move_image(NULL, 0, NULL, 0),
         sgdma_check_chain(NULL, 0, 0, 0, NULL, 0),
+        sgdma_mend_chain(NULL, 0, 0, 0, NULL, 0),
         sgdma_vic_create(NULL, 0, 1, 0, 0),
         sgdma_vic_configure(NULL, 0, 0, 0, 0, 0),
         sgdma_vic_enable(NULL, 0, 0, 0),

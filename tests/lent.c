@@ -56,6 +56,12 @@ uint32_t lent_check_chain(struct lent *l)
                              l->answer_len);
 }
 
+uint32_t lent_mend_chain(struct lent *l)
+{
+    return sgdma_mend_chain(l->window, l->window_len, l->base, l->address, l->answer,
+                            l->answer_len);
+}
+
 static void start(struct lent *l)
 {
     check("create", lent_create(l), SGDMA_DONE);

@@ -32,6 +32,7 @@ lent_call lent_build_descriptor;
 lent_call lent_read_descriptor;
 lent_call lent_find_record;
 lent_call lent_check_chain;
+lent_call lent_mend_chain;
 
 /* What a call with no error is given, over a core that has steps to take, up to
    the write-back of a descriptor. */

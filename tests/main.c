@@ -16,6 +16,7 @@ int main(void)
     test_largest_ledger();
     test_finding();
     test_chains();
+    test_mend();
     test_refusals();
     test_fields();
     test_editions();

@@ -64,11 +64,16 @@ static const struct call CALLS[] = {
     {"sgdma_check_chain", lent_check_chain, SGDMA_CHECK_SIZE,
      {{short_answer, SGDMA_BAD_SIZE}, {long_answer, SGDMA_BAD_SIZE},
       {bad_base, SGDMA_BAD_WINDOW}}},
+    {"sgdma_mend_chain", lent_mend_chain, SGDMA_MEND_SIZE,
+     {{short_answer, SGDMA_BAD_SIZE}, {long_answer, SGDMA_BAD_SIZE},
+      {bad_base, SGDMA_BAD_WINDOW}, {misaligned, SGDMA_NOTHING_TO_KEEP},
+      {outside, SGDMA_NOTHING_TO_KEEP}}},
 };
 
 /* The calls that are lent no image. */
 static lent_call *const WITHOUT_IMAGE[] = {
     lent_build_descriptor, lent_read_descriptor, lent_find_record, lent_check_chain,
+    lent_mend_chain,
 };
 
 static bool has_image(lent_call *call)
@@ -111,6 +116,7 @@ static void check_null(void)
     check("answer", sgdma_read_descriptor(NULL, 0, 0, 0, NULL, 0), SGDMA_BAD_SIZE);
     check("finding", sgdma_find_record(NULL, 0, 0, 0, 0, NULL, 0), SGDMA_BAD_SIZE);
     check("check", sgdma_check_chain(NULL, 0, 0, 0, NULL, 0), SGDMA_BAD_SIZE);
+    check("mend", sgdma_mend_chain(NULL, 0, 0, 0, NULL, 0), SGDMA_BAD_SIZE);
     check("no window", sgdma_create(image, sizeof image, 0, 0, 0), SGDMA_DONE);
     check("window, streams and ledger",
           sgdma_run(image, sizeof image, NULL, 0, NULL, 0, NULL, 0, NULL, 0, 0, 9,
@@ -123,6 +129,8 @@ static void check_null(void)
     check("an empty window, checked",
           sgdma_check_chain(NULL, 0, 0, 0, report, SGDMA_CHECK_SIZE), SGDMA_DONE);
     check("nothing is in it", report[SGDMA_CHECK_VERDICT_AT + 1], SGDMA_CHAIN_OUTSIDE);
+    check("an empty window, mended",
+          sgdma_mend_chain(NULL, 0, 0, 0, report, SGDMA_MEND_SIZE), SGDMA_NOTHING_TO_KEEP);
 }
 
 void test_refusals(void)

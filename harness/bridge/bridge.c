@@ -28,6 +28,7 @@ enum function {
     FIND_RECORD,
     MOVE_IMAGE,
     CHECK_CHAIN,
+    MEND_CHAIN,
     VIC_CREATE,
     VIC_CONFIGURE,
     VIC_ENABLE,
@@ -119,6 +120,8 @@ static uint32_t call_core(uint64_t function, const uint64_t *number, const struc
         return sgdma_move_image(SLICE(0), SLICE(1));
     case CHECK_CHAIN:
         return sgdma_check_chain(SLICE(0), number[0], number[1], SLICE(1));
+    case MEND_CHAIN:
+        return sgdma_mend_chain(SLICE(0), number[0], number[1], SLICE(1));
     }
     fail("no such function");
     return 0;

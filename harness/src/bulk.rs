@@ -11,8 +11,8 @@ pub mod rows;
 
 use crate::model::{
     descriptor_control, Calls, Controllers, Descriptors, Editions, Fault, Findings, Images,
-    Ledgers, Machine, Mode, Phase, Ports, Reason, Registers, Report, Slots, Steps, Timers, Windows,
-    OUTPUT_EOP, OUTPUT_SOP,
+    Ledgers, Machine, Mends, Mode, Phase, Ports, Reason, Registers, Report, Slots, Steps, Timers,
+    Windows, OUTPUT_EOP, OUTPUT_SOP,
 };
 use rows::Row;
 
@@ -25,6 +25,7 @@ impl Descriptors for Bulk {}
 impl Slots for Bulk {}
 impl Ledgers for Bulk {}
 impl Findings for Bulk {}
+impl Mends for Bulk {}
 impl Images for Bulk {}
 impl Controllers for Bulk {}
 impl Timers for Bulk {}

@@ -91,6 +91,7 @@ pub enum Function {
     FindRecord,
     MoveImage,
     CheckChain,
+    MendChain,
     VicCreate,
     VicConfigure,
     VicEnable,
@@ -174,6 +175,12 @@ pub enum Call {
         to: Lent,
     },
     CheckChain {
+        window: Lent,
+        base: u64,
+        pointer: u32,
+        answer: Lent,
+    },
+    MendChain {
         window: Lent,
         base: u64,
         pointer: u32,
@@ -269,6 +276,7 @@ impl Call {
             Call::FindRecord { .. } => Function::FindRecord,
             Call::MoveImage { .. } => Function::MoveImage,
             Call::CheckChain { .. } => Function::CheckChain,
+            Call::MendChain { .. } => Function::MendChain,
             Call::Vic(call) => call.function(),
             Call::Timer(call) => call.function(),
         }
@@ -292,7 +300,8 @@ impl Call {
             Call::Run { window, .. }
             | Call::BuildDescriptor { window, .. }
             | Call::ReadDescriptor { window, .. }
-            | Call::CheckChain { window, .. } => Some(window),
+            | Call::CheckChain { window, .. }
+            | Call::MendChain { window, .. } => Some(window),
             _ => None,
         }
     }
@@ -326,7 +335,8 @@ impl Call {
                      Lent("answer", answer)],
             Call::MoveImage { from, to } =>
                 vec![Lent("from", from), Lent("to", to)],
-            Call::CheckChain { window, base, pointer, answer } =>
+            Call::CheckChain { window, base, pointer, answer }
+            | Call::MendChain { window, base, pointer, answer } =>
                 vec![Lent("window", window), Wide(base), Long(pointer), Lent("answer", answer)],
             Call::Vic(call) => call.arguments(),
             Call::Timer(call) => call.arguments(),
@@ -348,6 +358,7 @@ impl Display for Call {
             Function::FindRecord => "find_record",
             Function::MoveImage => "move_image",
             Function::CheckChain => "check_chain",
+            Function::MendChain => "mend_chain",
             Function::VicCreate => "vic_create",
             Function::VicConfigure => "vic_configure",
             Function::VicEnable => "vic_enable",
@@ -435,6 +446,8 @@ impl<Model: Calls> Party for Model {
             Call::MoveImage { from, to } => self.sgdma_move_image(from, to),
             Call::CheckChain { window, base, pointer, answer } =>
                 self.sgdma_check_chain(window, *base, *pointer, answer),
+            Call::MendChain { window, base, pointer, answer } =>
+                self.sgdma_mend_chain(window, *base, *pointer, answer),
             Call::Vic(call) => call.answer(*self),
             Call::Timer(call) => call.answer(*self),
         }

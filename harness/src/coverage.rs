@@ -10,6 +10,7 @@ mod counts;
 pub mod editions;
 pub mod findings;
 mod ledgers;
+pub mod mends;
 mod observe;
 mod refusals;
 mod slots;

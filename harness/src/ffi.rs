@@ -90,6 +90,14 @@ pub mod c {
             answer: *mut u8,
             answer_len: usize,
         ) -> u32;
+        pub fn sgdma_mend_chain(
+            window: *mut u8,
+            window_len: usize,
+            base: u64,
+            pointer: u32,
+            answer: *mut u8,
+            answer_len: usize,
+        ) -> u32;
         pub fn sgdma_vic_create(
             vic: *mut u8,
             vic_len: usize,
@@ -202,6 +210,9 @@ pub(crate) fn answer(library: Library, call: &mut Call) -> u32 {
             Call::CheckChain { window, base, pointer, answer } =>
                 c::sgdma_check_chain(library.lend(window), window.len(), *base, *pointer,
                                      library.lend_mut(answer), answer.len()),
+            Call::MendChain { window, base, pointer, answer } =>
+                c::sgdma_mend_chain(library.lend_mut(window), window.len(), *base, *pointer,
+                                    library.lend_mut(answer), answer.len()),
             Call::Vic(call) => answer_controller(library, call),
             Call::Timer(call) => answer_timer(library, call),
         }

@@ -15,6 +15,7 @@ mod findings;
 mod images;
 mod layout;
 mod ledgers;
+mod mends;
 mod rng;
 mod slots;
 mod timers;
@@ -23,6 +24,7 @@ pub use chains::ChainHost;
 pub use controllers::ControllerHost;
 pub use editions::EditionHost;
 pub use findings::FindingHost;
+pub use mends::MendHost;
 pub use rng::Rng;
 pub use timers::TimerHost;
 

@@ -1,7 +1,7 @@
 //! The core as the scope paper describes it, written from the paper alone, and
 //! the field of a refused image, the ledger, the descriptor read ahead, the run
-//! number, the moves between the editions of an image, the check of a chain, the
-//! interrupt controller and the interval timer as their requests do.
+//! number, the moves between the editions of an image, the check of a chain and
+//! its mending, the interrupt controller and the interval timer as their requests do.
 //!
 //! One step moves one byte and steps are taken one by one. Each sentence of the
 //! paper is one small rule, and the rules are provided methods of a few traits,
@@ -19,6 +19,7 @@ mod findings;
 mod images;
 mod ledgers;
 mod machine;
+mod mends;
 mod registers;
 mod slots;
 mod steps;
@@ -36,6 +37,7 @@ pub use findings::{Findings, FINDING_SIZE};
 pub use images::{Image, ImageRule, Images, IMAGE_SIZE};
 pub use ledgers::{Ledger, Ledgers, Record, RECORD_SIZE};
 pub use machine::{Fault, Kept, Machine, Mode, Phase};
+pub use mends::{Mended, Mends, MEND_SIZE};
 pub use registers::{control, offset, status, Registers};
 pub use slots::{Emptying, Slot, SlotKind, Slots};
 pub use steps::{InputBeat, Ports, Reason, Report, Steps, OUTPUT_EOP, OUTPUT_SOP};
@@ -55,6 +57,7 @@ impl Slots for Paper {}
 impl Ledgers for Paper {}
 impl Findings for Paper {}
 impl Chains for Paper {}
+impl Mends for Paper {}
 impl Steps for Paper {}
 impl Images for Paper {}
 impl Editions for Paper {}

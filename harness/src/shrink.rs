@@ -234,7 +234,8 @@ fn shorten_window(call: &mut Call, by: usize) {
         }
         Call::BuildDescriptor { window, .. }
         | Call::ReadDescriptor { window, .. }
-        | Call::CheckChain { window, .. } => {
+        | Call::CheckChain { window, .. }
+        | Call::MendChain { window, .. } => {
             *window = Lent::from(&window[..window.len() - by]);
         }
         _ => {}

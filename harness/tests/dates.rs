@@ -6,8 +6,8 @@ use harness::call::{parties, Party};
 use harness::firmware::Firmware;
 use harness::model::{
     offset, Calls, Chains, Controllers, Descriptor, Descriptors, Editions, Findings, Images,
-    Ledgers, Machine, Mode, Paper, Registers, Slots, Steps, Timers, Windows, DESCRIPTOR_SIZE,
-    RECORD_SIZE,
+    Ledgers, Machine, Mends, Mode, Paper, Registers, Slots, Steps, Timers, Windows,
+    DESCRIPTOR_SIZE, RECORD_SIZE,
 };
 use std::cell::Cell;
 use std::ops::Range;
@@ -232,6 +232,7 @@ impl Controllers for Wrong {}
 impl Timers for Wrong {}
 impl Findings for Wrong {}
 impl Chains for Wrong {}
+impl Mends for Wrong {}
 impl Editions for Wrong {}
 impl Calls for Wrong {}
 

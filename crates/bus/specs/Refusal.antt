@@ -3,7 +3,7 @@
 -- Assumes nothing.
 use Prim.Native.Nat.{ℕ, _+_, _*_}
 use Rattle.bus.specs.declared.Refusal.{Refusal}
-use Rattle.bus.specs.declared.Refusal.the-variants.{NoRegister, BadMode, BadWindow, OtherWindow, Misaligned, Outside, BadSize, BadImage, OddStream, SlotHeld, NoTimerRegister, NotFullPeriod, RunUnknown, BadLedger, NoPort, AddressTooLarge}
+use Rattle.bus.specs.declared.Refusal.the-variants.{NoRegister, BadMode, BadWindow, OtherWindow, Misaligned, Outside, BadSize, BadImage, OddStream, SlotHeld, NoTimerRegister, NotFullPeriod, RunUnknown, BadLedger, NoPort, AddressTooLarge, NothingToKeep}
 
 abbrev pub refusalNumber : Refusal → ℕ
 refusalNumber NoRegister = 1
@@ -22,3 +22,4 @@ refusalNumber RunUnknown = 18
 refusalNumber BadLedger = 19
 refusalNumber NoPort = 21
 refusalNumber AddressTooLarge = 22
+refusalNumber NothingToKeep = 23

@@ -22,6 +22,7 @@ pub enum Refusal {
     BadLedger,
     NoPort,
     AddressTooLarge,
+    NothingToKeep,
 }
 
 impl Refusal {
@@ -46,6 +47,7 @@ impl Refusal {
             Refusal::BadLedger => 19,
             Refusal::NoPort => 21,
             Refusal::AddressTooLarge => 22,
+            Refusal::NothingToKeep => 23,
         }
     }
 }

@@ -18,8 +18,8 @@ use Rattle.links.specs.declared.Stop.{Stop}
 use Rattle.links.specs.declared.Verdict.{Verdict}
 use Rattle.links.specs.declared.Verdict.the-variants.{Sound, Misaligned, Outside, Overlaps, Refused}
 use Rattle.links.specs.Form.{linksFrom, linkAfter}
-use Rattle.links.specs.Verdicts.{stop, verdictOf, positionOf}
-use Rattle.links.specs.Calls.{verdictWidths, stopBytes, verdictBytes, windowAt}
+use Rattle.links.specs.Verdicts.{windowAt, stop, verdictOf, positionOf}
+use Rattle.links.specs.Calls.{verdictWidths, stopBytes, verdictBytes}
 use Rattle.links.proofs.Meaning.{sound-exactly, stops-at-most}
 use Rattle.chain.proofs.Lists.{all-right}
 use Rattle.chain.proofs.Memory.{placed}

@@ -2,7 +2,6 @@
 -- Assumes nothing.
 use Prim.Native.Nat.{ℕ, _+_, _-_, _/_, _^_, _<_}
 use mathlib.Core.Path.{_≡_, refl, sym, ap, subst, _∙_}
-use mathlib.Core.Logic.{_≢_}
 use mathlib.Core.Bool.{Bool, true, false, cond, _&&_}
 use mathlib.Core.List.{List}
 use native.Mathlib.Nat.{mod-eq-of-lt}
@@ -13,9 +12,8 @@ use Rattle.words.specs.declared.Order.the-variants.{MostFirst}
 use Rattle.words.specs.Orders.{bytesOf, numberOf}
 use Rattle.words.specs.Slices.{AllBytes}
 use Rattle.words.proofs.Orders.{number-bytes}
-use Rattle.bus.specs.declared.Refusal.{Refusal}
-use Rattle.bus.specs.declared.Refusal.the-variants.{NoRegister, BadMode, BadWindow, OtherWindow, Misaligned, Outside, BadSize, BadImage, OddStream, SlotHeld, NoTimerRegister, NotFullPeriod, RunUnknown, BadLedger, NoPort, AddressTooLarge}
-use Rattle.bus.specs.Refusal.{refusalNumber}
+use Rattle.bus.specs.declared.Refusal.the-variants.{BadSize}
+use Rattle.bus.proofs.Numbers.{refused-not-done}
 use Rattle.image.specs.Promise.{sized}
 use Rattle.ledger.specs.declared.Entry.{Entry}
 use Rattle.ledger.specs.Records.{capacity}
@@ -57,35 +55,16 @@ pub record Accepted (x : RunLent) : Type 0 where
   pub loads : loadOf (x .image) ≡ loaded.Good machine
   pub served : servedBy x machine ≡ serves
 
--- no refusal has the number 0
-pub not-zero : (why : Refusal) → refusalNumber why ≢ 0
-not-zero NoRegister e = omega arith
-not-zero BadMode e = omega arith
-not-zero BadWindow e = omega arith
-not-zero OtherWindow e = omega arith
-not-zero Misaligned e = omega arith
-not-zero Outside e = omega arith
-not-zero BadSize e = omega arith
-not-zero (BadImage field) e = omega arith
-not-zero OddStream e = omega arith
-not-zero SlotHeld e = omega arith
-not-zero NoTimerRegister e = omega arith
-not-zero NotFullPeriod e = omega arith
-not-zero RunUnknown e = omega arith
-not-zero BadLedger e = omega arith
-not-zero NoPort e = omega arith
-not-zero AddressTooLarge e = omega arith
-
 module _ (x : RunLent) where
   by-lent : (m : Machine) → length (x .image) ≡ 85 → length (x .report) ≡ 18 → loadOf (x .image) ≡ loaded.Good m
       → (served : Served) → servedBy x m ≡ served → runNumber (runAnswer (x .lent) served (worldBy x m) (x .budget)) ≡ 0 → Accepted x
   by-lent m s r e serves f n = record { machine = m; size = s; report-size = r; loads = e; served = f }
-  by-lent m s r e (refused why) f n = absurd (not-zero why n)
+  by-lent m s r e (refused why) f n = absurd (refused-not-done why n)
 
   by-tests : (s r : Bool) → sized (x .image) ≡ s → isSize 18 (x .report) ≡ r → (l : LoadedMachine) → loadOf (x .image) ≡ l
       → runNumber (cond (s && r) (runIn l (x .lent) (x .budget)) (many.Refused BadSize)) ≡ 0 → Accepted x
   by-tests true true e f (loaded.Good m) g n = by-lent m (eqb-true _ _ e) (eqb-true _ _ f) g _ refl n
-  by-tests true true e f (loaded.Refused why) g n = absurd (not-zero why n)
+  by-tests true true e f (loaded.Refused why) g n = absurd (refused-not-done why n)
   by-tests true false e f l g n = absurd (omega arith)
   by-tests false r e f l g n = absurd (omega arith)
 

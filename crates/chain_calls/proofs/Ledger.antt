@@ -6,6 +6,7 @@ use mathlib.Core.Bool.{true}
 use mathlib.Core.List.{List, [], _++_}
 use lib.ListN.{length}
 use borrow.Author.Tests.{eq-eqb}
+use Rattle.bus.proofs.Numbers.{refused-not-done}
 use Rattle.bus.specs.declared.Window.{Window}
 use Rattle.bus.specs.Window.{keepsLimits}
 use Rattle.regs.specs.declared.Mode.the-variants.{StreamToMemory}
@@ -14,14 +15,13 @@ use Rattle.image.specs.Promise.{sized}
 use Rattle.machine.specs.declared.Machine.{Machine}
 use Rattle.machine.specs.declared.LoadedMachine.{LoadedMachine}
 use Rattle.machine.specs.declared.LoadedMachine.the-variants.{Good}
-use Rattle.machine.specs.declared.RunAnswer.the-variants as many
 use Rattle.machine.specs.declared.registers.WroteRegister.{WroteRegister}
 use Rattle.machine.specs.declared.registers.WroteRegister.the-variants as wrote
 use Rattle.machine.specs.State.{fresh}
 use Rattle.machine.specs.Saved.{loadOf}
 use Rattle.machine.specs.Registers.{writeOf, registerWroteNumber}
 use Rattle.machine.specs.Step.{machineIn}
-use Rattle.machine.specs.Run.{run, worldOf, HasRun}
+use Rattle.machine.specs.Run.{run, worldOf}
 use Rattle.machine.proofs.Answers.{was-written}
 use Rattle.met.specs.Met.{Met}
 use Rattle.met.specs.Met as met
@@ -39,9 +39,9 @@ use Rattle.chain.specs.Chain.{shares}
 use Rattle.chain.proofs.Lists.{all-map}
 use Rattle.chain.proofs.Found.{each-in}
 use Rattle.chain_calls.specs.InC.{RunLent, RunLeft, Promised, givenIn}
-use Rattle.chain_calls.specs.Told.{stepsTold, takenTold, usedTold}
+use Rattle.chain_calls.specs.Told.{takenTold, usedTold}
 use Rattle.chain_calls.specs.Useless.{InBytes}
-use Rattle.chain_calls.specs.Ledger.{OneEachInC, SessionInC, begins, written, ran, AddsInC}
+use Rattle.chain_calls.specs.Ledger.{OneEachInC, SessionInC, begins, written, ran}
 use Rattle.chain_calls.specs.Theorems.{OneRecordEachInC, SessionAddsInC, EachFoundInC}
 use Rattle.chain_calls.proofs.OfCalls.{loads-as, written-over, chain-of-calls}
 use Rattle.chain_calls.proofs.Done as done
@@ -102,7 +102,7 @@ module _ {xs ys before ledger : List ℕ} {rs : List Entry} {used t l offset v :
       }
   written-behind (wrote.Refused why) e =
       let a : writtenIn (loadOf xs) offset v ≡ wrote.Refused why = ap (λ (x : LoadedMachine). writtenIn x offset v) (loads-behind b) ∙ e in
-      absurd (done.not-zero why (sym (w .number ∙ ap registerWroteNumber a)))
+      absurd (refused-not-done why (sym (w .number ∙ ap registerWroteNumber a)))
 
 -- after a run of the machine m
 abbrev BehindRun : RunLent → RunLeft → (before : List ℕ) → List Entry → (t l : ℕ) → Machine → Type 0

@@ -3,11 +3,11 @@
 use Prim.Native.Nat.{ℕ, _≤_}
 use mathlib.Core.Path.{_≡_, refl, sym, ap, subst, _∙_}
 use mathlib.Core.Logic.{_⊎_, inl, inr}
-use mathlib.Core.Bool.{false}
 use mathlib.Core.List.{List}
 use native.Mathlib.Nat.{mod-eq-of-lt}
 use native.Mathlib.Omega.{arith}
 use lib.ListN.{length}
+use Rattle.bus.proofs.Numbers.{refused-not-done}
 use Rattle.words.specs.declared.Order.the-variants.{MostFirst}
 use Rattle.words.specs.Bits.{bit}
 use Rattle.words.specs.Orders.{bytesOf, numberOf}
@@ -24,7 +24,7 @@ use Rattle.machine.specs.declared.Reason.{Reason}
 use Rattle.machine.specs.declared.RunAnswer.the-variants as many
 use Rattle.machine.specs.declared.registers.WroteRegister.{WroteRegister}
 use Rattle.machine.specs.declared.registers.WroteRegister.the-variants as wrote
-use Rattle.machine.specs.Saved.{fieldsOf, tailOf, keeps, loadOf}
+use Rattle.machine.specs.Saved.{fieldsOf, tailOf, loadOf}
 use Rattle.machine.specs.Registers.{readingOf, writeOf, registerWroteNumber}
 use Rattle.machine.specs.Step.{machineIn}
 use Rattle.machine.specs.Run.{reasonNumber, worldOf, HasRun}
@@ -35,7 +35,6 @@ use Rattle.met.specs.Obeys.{Supplied, Obeyed, rests, faults, ObeyedRun}
 use Rattle.met.proofs.Numbers.{status-lt-32, busy-bit}
 use Rattle.met.proofs.InUse.{met-keeps}
 use Rattle.met.proofs.Obeys.{obeys-in-run}
-use Rattle.answers.specs.Answers.{valueBytes}
 use Rattle.sgdma.specs.Calls.{imageOf, registerOf, readCall, valueOver, writtenIn, RegisterRead}
 use Rattle.sgdma.proofs.Opened.{sizes-right}
 use Rattle.chain_calls.specs.InC.{RunLent, RunLeft}
@@ -109,7 +108,7 @@ module _ {xs : List ℕ} {v : ℕ} {x : RunLent} {y : RunLeft} {value : List ℕ
   obeyed-by (wrote.Done n) e = obeyed-so e
   obeyed-by (wrote.Refused why) e =
       let a : writtenIn (loadOf xs) 4 v ≡ wrote.Refused why = ap (λ (l : LoadedMachine). writtenIn l 4 v) (b .loads) ∙ e in
-      absurd (done.not-zero why (sym (c .written .number ∙ ap registerWroteNumber a)))
+      absurd (refused-not-done why (sym (c .written .number ∙ ap registerWroteNumber a)))
 
 pub obeys-in-c : ObeysInC
 obeys-in-c xs v x y value c = obeyed-by c _ refl

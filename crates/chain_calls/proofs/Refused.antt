@@ -39,7 +39,7 @@ use Rattle.chain_calls.specs.Theorems.{CreateInOrder, ReadInOrder, Write
 
 -- ---- tests one after the other
 
-unless : (b : Bool) (x : ℕ) {y z : ℕ} → y ≡ z → cond b y x ≡ cond (not b) x z
+pub unless : (b : Bool) (x : ℕ) {y z : ℕ} → y ≡ z → cond b y x ≡ cond (not b) x z
 unless true x e = e
 unless false x e = refl
 

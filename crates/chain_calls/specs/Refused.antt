@@ -10,6 +10,8 @@ use mathlib.Core.List.{List, [], _∷_}
 use lib.Dec.{eqb, leb, ltb}
 use lib.ListN.{length}
 use Rattle.bus.specs.Window.{keepsLimits, inWindow}
+use Rattle.descriptor.specs.Looking.{spotOf, stands}
+use Rattle.links.specs.Verdicts.{windowAt}
 use Rattle.regs.specs.Offsets.{isRegister}
 use Rattle.image.specs.Layout.{fields, tail}
 use Rattle.image.specs.Rules.{lowestBroken, keepsRules}
@@ -48,9 +50,10 @@ abbrev pub first : List Test → ℕ
 first [] = 0
 first (t ∷ ts) = cond (t .applies) (told t) (first ts)
 
--- "First that applies: 7, 8, 9, 19, 18, 2, 3, 4, 1, 5, 6", with 15 "after 8"; then those of the timer: 16, 17, and of the controller: 21, 22
+-- "First that applies: 7, 8, 9, 19, 18, 2, 3, 4, 1, 5, 6", with 15 "after 8"; then those of the timer: 16, 17, of the controller: 21, 22, and
+-- of mending: 23
 abbrev pub order : List ℕ
-order = 7 ∷ 8 ∷ 15 ∷ 9 ∷ 19 ∷ 18 ∷ 2 ∷ 3 ∷ 4 ∷ 1 ∷ 5 ∷ 6 ∷ 16 ∷ 17 ∷ 21 ∷ 22 ∷ []
+order = 7 ∷ 8 ∷ 15 ∷ 9 ∷ 19 ∷ 18 ∷ 2 ∷ 3 ∷ 4 ∷ 1 ∷ 5 ∷ 6 ∷ 16 ∷ 17 ∷ 21 ∷ 22 ∷ 23 ∷ []
 
 -- whether tests come in an order
 abbrev pub comeIn : List ℕ → List Test → Bool
@@ -150,6 +153,10 @@ noPort has = 21 when not has
 abbrev pub addressTooLarge : List ℕ → Test
 addressTooLarge xs = 22 when (chosen xs && leb (2 ^ 32) (handler xs (chosenPort xs)))
 
+-- 23, NothingToKeep: the defect is the first descriptor: it is misaligned, or outside
+abbrev pub nothingToKeep : (base : ℕ) (window : List ℕ) (pointer : ℕ) → Test
+nothingToKeep base window pointer = 23 when not (stands (spotOf (windowAt base window) pointer))
+
 -- ---- what each call can be refused for
 
 abbrev pub createTests : (xs : List ℕ) (mode base length : ℕ) → List Test
@@ -184,6 +191,10 @@ moveTests xs to = badSize (isImage xs && isImage to) ∷ badEdition xs ∷ heldS
 -- its answer has 10 bytes
 abbrev pub checkTests : (window : List ℕ) (base : ℕ) (answer : List ℕ) → List Test
 checkTests window base answer = badSize (isSize 10 answer) ∷ badWindow base (length window) ∷ []
+
+-- its answer has 8 bytes
+abbrev pub mendTests : (window : List ℕ) (base pointer : ℕ) (answer : List ℕ) → List Test
+mendTests window base pointer answer = badSize (isSize 8 answer) ∷ badWindow base (length window) ∷ nothingToKeep base window pointer ∷ []
 
 -- ---- and each call on a timer
 

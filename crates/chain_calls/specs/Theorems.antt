@@ -9,7 +9,7 @@ use Rattle.words.specs.Promise.{Answers}
 use Rattle.descriptor.specs.declared.Job.{Job}
 use Rattle.ledger.specs.declared.Entry.{Entry}
 use Rattle.image.specs.Editions.{ImageMoved}
-use Rattle.links.specs.Calls.{ChainChecked}
+use Rattle.links.specs.Calls.{ChainChecked, ChainMended}
 use Rattle.machine.specs.declared.Machine.{Machine}
 use Rattle.machine.specs.declared.LoadedMachine.the-variants.{Good}
 use Rattle.machine.specs.Saved.{loadOf}
@@ -26,7 +26,7 @@ use Rattle.vic.specs.Calls.{portNumber, VicCreated, VicChosen}
 use Rattle.chain_calls.specs.InC.{RunLent, RunLeft, Promised, Lends, WellLent, givenIn, Called, AllDone, Found, FoundAtEveryStep}
 use Rattle.chain_calls.specs.Known.{lends, knownLeft}
 use Rattle.chain_calls.specs.Refused.{FirstThatApplies, WhereRefused}
-use Rattle.chain_calls.specs.Refused.{createTests, readTests, writeTests, lineTests, runTests, buildTests, descriptorTests, findTests, moveTests, checkTests, vicCreateTests, vicPortTests, vicChooseTests}
+use Rattle.chain_calls.specs.Refused.{createTests, readTests, writeTests, lineTests, runTests, buildTests, descriptorTests, findTests, moveTests, checkTests, mendTests, vicCreateTests, vicPortTests, vicChooseTests}
 use Rattle.chain_calls.specs.Refused.{timerCreateTests, timerReadTests, timerWriteTests, timerValueTests, timerElapsedTests}
 use Rattle.chain_calls.specs.TwoRuns.{lentNext, lentWith, DoTheSame}
 use Rattle.chain_calls.specs.Images.{InUse, LoadsBack}
@@ -84,6 +84,11 @@ MoveInOrder = (xs to : List ℕ) (r : ℕ) (to' : List ℕ) → ImageMoved xs to
 abbrev pub CheckInOrder : Type 0
 CheckInOrder = (window : List ℕ) (base pointer : ℕ) (answer : List ℕ) (r : ℕ) (answer' : List ℕ)
     → ChainChecked window base pointer answer r answer' → FirstThatApplies (checkTests window base answer) r
+
+-- sgdma_mend_chain does.
+abbrev pub MendInOrder : Type 0
+MendInOrder = (window : List ℕ) (base pointer : ℕ) (answer : List ℕ) (r : ℕ) (window' answer' : List ℕ)
+    → ChainMended window base pointer answer r window' answer' → FirstThatApplies (mendTests window base pointer answer) r
 
 -- Each of the six calls on a timer does.
 pub record EachInOrder : Type 0 where
@@ -163,6 +168,11 @@ MoveUnchanged = (xs to : List ℕ) (r : ℕ) (to' : List ℕ) → ImageMoved xs 
 abbrev pub CheckUnchanged : Type 0
 CheckUnchanged = (window : List ℕ) (base pointer : ℕ) (answer : List ℕ) (r : ℕ) (answer' : List ℕ)
     → ChainChecked window base pointer answer r answer' → WhereRefused r (answer' ≡ answer)
+
+-- sgdma_mend_chain leaves the window and the answer.
+abbrev pub MendUnchanged : Type 0
+MendUnchanged = (window : List ℕ) (base pointer : ℕ) (answer : List ℕ) (r : ℕ) (window' answer' : List ℕ)
+    → ChainMended window base pointer answer r window' answer' → WhereRefused r ((window' ≡ window) × (answer' ≡ answer))
 
 -- Each of the six calls on a timer leaves the timer, and the value that it may write.
 pub record EachUnchanged : Type 0 where

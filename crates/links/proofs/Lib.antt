@@ -7,3 +7,6 @@ pub mod Turns
 pub mod Windows
 pub mod Telling
 pub mod Cases
+pub mod Cuts
+pub mod Mends
+pub mod Mended

@@ -2,3 +2,4 @@
 -- Assumes nothing.
 pub mod Cells
 pub mod Walks
+pub mod Cuts

@@ -1,15 +1,23 @@
--- What is proved of the check: each theorem's whole statement, under its name. A term of each stands in proofs/.
+-- What is proved of the check and of mending: each theorem's whole statement, under its name. A term of each stands in proofs/.
 -- Assumes nothing.
 use Prim.Native.Nat.{ℕ, _≤_}
 use mathlib.Core.Path.{_≡_}
 use mathlib.Core.Logic.{_↔_}
-use mathlib.Core.Bool.{true}
+use mathlib.Core.Bool.{true, false}
 use mathlib.Core.List.{List, []}
 use lib.ListN.{length}
+use Rattle.words.specs.Slices.{AllBytes}
+use Rattle.bus.specs.declared.Refusal.the-variants.{NothingToKeep}
 use Rattle.bus.specs.declared.Window.{Window}
 use Rattle.bus.specs.Window.{keepsLimits}
+use Rattle.descriptor.specs.Looking.{spotOf, stands}
+use Rattle.links.specs.declared.mending.Change.{Change}
+use Rattle.links.specs.declared.mending.Mended.{Mended}
+use Rattle.links.specs.declared.mending.Mended.the-variants as mended
 use Rattle.links.specs.declared.Verdict.the-variants as verdict
 use Rattle.links.specs.Form.{Link, Placed, Form}
+use Rattle.links.specs.Mending.{controlPlace, mendedOf, leftOf, WasMended, OneBit, Kept}
+use Rattle.links.specs.MendRows.{AsMended}
 use Rattle.links.specs.Rows.{AsWanted}
 use Rattle.links.specs.Verdicts.{stop, walk, verdictOf, positionOf, readFor, Means, IsSound, IsMisaligned, IsOutside, IsOverlapping}
 
@@ -72,8 +80,41 @@ abbrev pub MoreTellTheSame : Type 0
 MoreTellTheSame = (window : Window) (memory : List ℕ) (pointer n : ℕ) → Limited window → 2049 ≤ n
     → walk window memory [] n 0 pointer ≡ verdictOf window memory pointer
 
+-- ---- order 13: mending. The window is lent whole, as it is to the calls
+
+-- "23 NothingToKeep when the defect is the first descriptor", and only then: the pointer is misaligned, or points outside.
+abbrev pub NothingExactly : Type 0
+NothingExactly = (window : Window) (memory : List ℕ) (pointer : ℕ) → Limited window
+    → (mendedOf window memory pointer ≡ mended.Refused NothingToKeep) ↔ (stands (spotOf window pointer) ≡ false)
+
+-- "a sound chain is untouched".
+abbrev pub SoundUntouched : Type 0
+SoundUntouched = (window : Window) (memory : List ℕ) (pointer k : ℕ) → Limited window → Form window memory pointer k
+    → (mendedOf window memory pointer ≡ mended.Sound) × (leftOf window memory pointer ≡ memory)
+
+-- "Nothing else in the dump changes": of a chain that is cut one byte differs, and of it bit 7.
+abbrev pub OneBitDiffers : Type 0
+OneBitDiffers = (window : Window) (memory : List ℕ) (pointer : ℕ) (c : Change) → Limited window → length memory ≡ window .length → AllBytes memory
+    → mendedOf window memory pointer ≡ mended.Changed c
+    → OneBit memory (controlPlace window (c .address)) c (leftOf window memory pointer)
+
+-- "the mended chain is sound", with k the position of the defect less 1, and its descriptors are those of the old chain.
+abbrev pub FrontKept : Type 0
+FrontKept = (window : Window) (memory : List ℕ) (pointer : ℕ) (c : Change) → Limited window → length memory ≡ window .length
+    → mendedOf window memory pointer ≡ mended.Changed c
+    → (k : ℕ) × Kept window memory pointer k c (leftOf window memory pointer)
+
+-- Mending twice is mending once.
+abbrev pub MendOnce : Type 0
+MendOnce = (memory : List ℕ) (base pointer : ℕ) (r s : Mended) (after again : List ℕ) → WasMended memory base pointer r after
+    → WasMended after base pointer s again → again ≡ after
+
 -- ---- the definitions held against the request
 
 -- Twenty-eight verdicts worked out by hand.
 abbrev pub VerdictsHold : Type 0
 VerdictsHold = AsWanted
+
+-- Thirteen chains mended by hand.
+abbrev pub MendsHold : Type 0
+MendsHold = AsMended

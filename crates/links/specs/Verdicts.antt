@@ -6,6 +6,7 @@ use mathlib.Core.Logic.{_≢_}
 use mathlib.Core.Bool.{Bool, true, false, _&&_, _||_}
 use mathlib.Core.List.{List, [], _∷_}
 use lib.Dec.{ltb}
+use lib.ListN.{length}
 use Rattle.words.specs.Guards.{if_then_else_}
 use Rattle.bus.specs.declared.Window.{Window}
 use Rattle.bus.specs.Window.{inWindow}
@@ -68,6 +69,10 @@ walk window memory seen (suc n) i a =
 -- "At most 2,049 descriptors are read on one walk": so many are looked at; that a longer walk tells the same is `more-tell-the-same`
 unfoldable pub verdictOf : Window → List ℕ → (pointer : ℕ) → Verdict
 verdictOf window memory pointer = walk window memory [] 2049 0 pointer
+
+-- all that is lent, as the window at its base
+abbrev pub windowAt : (base : ℕ) (memory : List ℕ) → Window
+windowAt base memory = record { base = base; length = length memory }
 
 -- ---- what a verdict means
 

@@ -1,5 +1,6 @@
-// The chain in memory: whether it has demand 3's form.
+// The chain in memory: whether it has demand 3's form, and mending one that has not.
 pub mod calls;
+pub mod mending;
 
 ghost use mathlib.Core.Path.{_≡_};
 ghost use Prim.Native.Nat.{_≤_};

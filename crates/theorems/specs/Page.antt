@@ -27,8 +27,10 @@ use Rattle.chain_calls.specs.Theorems.{NeverMovingFails, MarkerFails, MadeUpFai
 use Rattle.chain_calls.specs.Theorems.{VicCreateInOrder, VicPortInOrder, VicChooseInOrder, VicUnchanged}
 use Rattle.chain_calls.specs.Theorems.{MoveInOrder, MoveUnchanged, TimerInOrder, TimerUnchanged}
 use Rattle.chain_calls.specs.Theorems.{FindInOrder, FindUnchanged}
-use Rattle.chain_calls.specs.Theorems.{CheckInOrder, CheckUnchanged, CheckedRuns}
+use Rattle.chain_calls.specs.Theorems.{CheckInOrder, CheckUnchanged, CheckedRuns, MendInOrder, MendUnchanged}
 use Rattle.links.specs.Theorems.{SoundExactly, OneForm, MisalignedExactly, OutsideExactly, OverlapsExactly, VerdictMeans, ApartAtMost, SoundAtMost, StopsAtMost, ReadAtMost, MoreTellTheSame, VerdictsHold}
+use Rattle.links.specs.Theorems.{NothingExactly, SoundUntouched, OneBitDiffers, FrontKept, MendOnce, MendsHold}
+use Rattle.links.specs.Calls.{ChainMendedUnique}
 use Rattle.timer.specs.Calls.{TimerRanUnique}
 use Rattle.timer.specs.Theorems.{TicksAdd, ZerosWithin, TicksSetTO, ReachesEveryPeriod, OneShot, ElapsedIsTicks, TimerSavesLoaded, TimerMetSaves, TimersLoad}
 use Rattle.timer.specs.Theorems.{TimerFieldTold, TimerCasesHold}
@@ -73,6 +75,10 @@ record-found-unique = Rattle.sgdma.specs.Calls.record-found-unique
 -- No second outcome of sgdma_timer_run keeps its promise.
 pub timer-ran-unique : TimerRanUnique
 timer-ran-unique = Rattle.timer.specs.Calls.timer-ran-unique
+
+-- No second outcome of sgdma_mend_chain keeps its promise.
+pub chain-mended-unique : ChainMendedUnique
+chain-mended-unique = Rattle.links.specs.Calls.chain-mended-unique
 
 -- No second outcome of another call on a timer keeps its promise, nor one of a call on a controller, nor one of sgdma_move_image, nor one of
 -- sgdma_check_chain: these promises are of one form.
@@ -120,6 +126,10 @@ move-in-order = Rattle.chain_calls.proofs.OfMoves.move-in-order
 -- sgdma_check_chain gives back the first that applies.
 pub check-in-order : CheckInOrder
 check-in-order = Rattle.chain_calls.proofs.OfChains.check-in-order
+
+-- sgdma_mend_chain gives back the first that applies.
+pub mend-in-order : MendInOrder
+mend-in-order = Rattle.chain_calls.proofs.OfChains.mend-in-order
 
 -- sgdma_timer_create, sgdma_timer_read, sgdma_timer_write, sgdma_timer_line, sgdma_timer_run and sgdma_timer_elapsed give back the first
 -- that applies.
@@ -179,6 +189,10 @@ move-unchanged = Rattle.chain_calls.proofs.OfMoves.move-unchanged
 -- sgdma_check_chain, refused, leaves the answer.
 pub check-unchanged : CheckUnchanged
 check-unchanged = Rattle.chain_calls.proofs.OfChains.check-unchanged
+
+-- sgdma_mend_chain, refused, leaves the window and the answer.
+pub mend-unchanged : MendUnchanged
+mend-unchanged = Rattle.chain_calls.proofs.OfChains.mend-unchanged
 
 -- A call on a timer, refused, leaves the timer and the value.
 pub timer-unchanged : TimerUnchanged
@@ -590,6 +604,32 @@ sound-runs = Rattle.chain.proofs.Checked.sound-runs
 -- So do the calls where sgdma_check_chain says sound.
 pub checked-runs : CheckedRuns
 checked-runs = Rattle.chain_calls.proofs.Checked.checked-runs
+
+-- ---- order 13: a chain mended in a memory dump
+
+-- "23 NothingToKeep when the defect is the first descriptor", and only then.
+pub nothing-exactly : NothingExactly
+nothing-exactly = Rattle.links.proofs.Mended.nothing-exactly
+
+-- "a sound chain is untouched".
+pub sound-untouched : SoundUntouched
+sound-untouched = Rattle.links.proofs.Mended.sound-untouched
+
+-- "Nothing else in the dump changes": of a chain that is cut one byte differs, and of it bit 7.
+pub one-bit-differs : OneBitDiffers
+one-bit-differs = Rattle.links.proofs.Mended.one-bit-differs
+
+-- "the mended chain is sound", with k the position of the defect less 1, and its descriptors are those of the old chain.
+pub front-kept : FrontKept
+front-kept = Rattle.links.proofs.Mended.front-kept
+
+-- Mending twice is mending once.
+pub mend-once : MendOnce
+mend-once = Rattle.links.proofs.Mended.mend-once
+
+-- Thirteen chains mended by hand.
+pub mends-hold : MendsHold
+mends-hold = Rattle.links.proofs.Cases.mends-hold
 
 -- ---- order 9: how long until it obeys
 

@@ -3,13 +3,12 @@
 use Prim.Native.Nat.{ℕ, zero, suc, _+_, _-_, _≤_, _<_}
 use mathlib.Core.Path.{_≡_, refl, sym, ap, _∙_}
 use mathlib.Core.List.{List, [], _∷_, _++_, append-assoc, append-nil}
-use native.Mathlib.Nat.{zero-add, add-assoc, add-zero, mul-one, sub-zero, zero-sub, suc-sub-suc}
+use native.Mathlib.Nat.{zero-add, add-assoc, add-zero, sub-zero, zero-sub, suc-sub-suc}
 use native.Mathlib.Omega.{arith}
 use lib.ListN.{length, take, drop, getD, set, length-append, length-drop, drop-of-length-le, take-append-drop}
 use lib.Seq.{take-at, drop-at, drop-drop, drop-cons, sets, sets-eq, length-take-le, take-take, take-nil}
 use borrow.Author.Tests.{le-leb, lt-leb}
 use Rattle.words.specs.declared.Order.{Order}
-use Rattle.words.specs.declared.Order.the-variants.{MostFirst, LeastFirst}
 use Rattle.words.specs.Orders.{numberOf, rowNumbers}
 use Rattle.words.specs.Slices.{part, put, putAt, numberAt}
 
@@ -60,16 +59,19 @@ put-put xs at ys zs h =
 pub sets-put : (xs : List ℕ) (at : ℕ) (ys : List ℕ) → at + length ys ≤ length xs → sets xs at ys ≡ put xs at ys
 sets-put xs at ys h = sets-eq ys xs at h ∙ append-assoc (take at xs) ys (drop (at + length ys) xs)
 
--- two parts that together are as long as the slice are what then stands in it
-pub filled : (xs ys zs : List ℕ) (n : ℕ) → length ys ≡ n → length xs ≡ n + length zs → putAt (putAt xs 0 ys) n zs ≡ ys ++ zs
-filled xs ys zs n k l =
+-- two parts, the second where the first ended, are one
+pub put-parts : (xs ys zs : List ℕ) (n : ℕ) → length ys ≡ n → n + length zs ≤ length xs → putAt (putAt xs 0 ys) n zs ≡ putAt xs 0 (ys ++ zs)
+put-parts xs ys zs n k l =
     let first : putAt xs 0 ys ≡ put xs 0 ys = put-in xs 0 ys (omega arith) in
     let same : length (putAt xs 0 ys) ≡ length xs = ap length first ∙ length-put xs 0 ys (omega arith) in
     let end : n ≡ 0 + length ys = omega arith in
     put-in (putAt xs 0 ys) n zs (omega arith)
     ∙ ap (λ (l : List ℕ). put l n zs) first ∙ ap (λ (m : ℕ). put (put xs 0 ys) m zs) end
     ∙ put-put xs 0 ys zs (omega arith) ∙ sym (put-in xs 0 (ys ++ zs) (simp length-append (omega arith)))
-    ∙ put-all xs (ys ++ zs) (simp length-append (omega arith))
+
+-- and where they are as long as the slice, they are what then stands in it
+pub filled : (xs ys zs : List ℕ) (n : ℕ) → length ys ≡ n → length xs ≡ n + length zs → putAt (putAt xs 0 ys) n zs ≡ ys ++ zs
+filled xs ys zs n k l = put-parts xs ys zs n k (omega arith) ∙ put-all xs (ys ++ zs) (simp length-append (omega arith))
 
 -- one byte more, stored where those before it end
 pub put-next : (xs : List ℕ) (at : ℕ) (ys : List ℕ) (z : ℕ) → at + length ys < length xs

@@ -21,7 +21,7 @@ fn takes(marks: &mut [bool], place: usize) -> bool {
 impl Chains for Bulk {
     fn walk(self, memory: &[u8], window: Window, pointer: u32) -> Stop {
         let mut marks = vec![false; memory.len() / WORD];
-        let (mut position, mut address) = (0, pointer);
+        let (mut position, mut address, mut before) = (0, pointer, None);
         let cause = loop {
             if !self.is_aligned(window, address) {
                 break Some(Cause::Misaligned);
@@ -36,11 +36,13 @@ impl Chains for Bulk {
                 break None;
             };
             position += 1;
+            before = Some(address);
             address = next;
         };
         Stop {
             position,
             address,
+            before,
             cause,
         }
     }

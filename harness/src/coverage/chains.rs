@@ -32,7 +32,7 @@ impl Wrong {
     }
 
     /// The verdict that names the first of them, or 0.
-    fn verdict(self) -> u64 {
+    pub(super) fn verdict(self) -> u64 {
         let causes = [self.misaligned, self.outside, self.overlaps];
         let first = causes.iter().position(|&cause| cause);
         first.map_or(0, |place| place as u64 + 1)
@@ -50,7 +50,7 @@ pub enum Position {
 }
 
 impl Position {
-    const ALL: [Position; 5] = [
+    pub(super) const ALL: [Position; 5] = [
         Position::First,
         Position::Second,
         Position::Between,
@@ -58,7 +58,7 @@ impl Position {
         Position::At2048,
     ];
 
-    fn of(position: usize) -> Position {
+    pub(super) fn of(position: usize) -> Position {
         match position {
             0 => Position::First,
             1 => Position::Second,
@@ -137,6 +137,16 @@ pub enum Base {
     ToTheTop,
 }
 
+impl Base {
+    pub(super) const ALL: [Base; 5] = [
+        Base::Zero,
+        Base::Odd(1),
+        Base::Odd(2),
+        Base::Odd(3),
+        Base::ToTheTop,
+    ];
+}
+
 /// The limit of a window that is broken.
 #[derive(Clone, Copy, Debug, PartialEq, Eq, PartialOrd, Ord)]
 pub enum Limit {
@@ -164,10 +174,10 @@ pub enum Reached {
     Outside(Outside),
 }
 
-/// A check, and what its bytes are.
+/// A check or a mend, and what its bytes are.
 pub(super) struct Asked<'call> {
-    memory: &'call [u8],
-    base: u64,
+    pub memory: &'call [u8],
+    pub base: u64,
     pointer: u64,
 }
 
@@ -180,14 +190,20 @@ pub(super) struct Walk {
 
 impl<'call> Asked<'call> {
     pub fn of(call: &'call Call) -> Asked<'call> {
-        let Call::CheckChain {
+        let (Call::CheckChain {
             window,
             base,
             pointer,
             ..
-        } = call
+        }
+        | Call::MendChain {
+            window,
+            base,
+            pointer,
+            ..
+        }) = call
         else {
-            panic!("no check of a chain:\n{call}");
+            panic!("no call on a chain:\n{call}");
         };
         Asked {
             memory: window,
@@ -266,10 +282,10 @@ fn numbers_applying(call: &Call) -> Vec<u32> {
     applying
 }
 
-fn bases(asked: &Asked, sound: bool) -> Vec<Reached> {
+pub(super) fn bases(asked: &Asked) -> Vec<Base> {
     let odd = asked.base % 4;
     let mut shown = Vec::new();
-    let mut note = |met: bool, case: Base| shown.extend(met.then_some(Reached::Base(case, sound)));
+    let mut note = |met: bool, case: Base| shown.extend(met.then_some(case));
     note(asked.base == 0, Base::Zero);
     note(odd != 0, Base::Odd(odd));
     note(asked.end() == TWO_TO_32, Base::ToTheTop);
@@ -317,7 +333,7 @@ fn of_sound(asked: &Asked, met: &[u64]) -> Vec<Reached> {
     shown
 }
 
-fn of_overlap(met: &[u64]) -> Vec<Overlap> {
+pub(super) fn of_overlap(met: &[u64]) -> Vec<Overlap> {
     let (address, earlier) = (met[met.len() - 1], &met[..met.len() - 1]);
     let last = earlier.len() - 1;
     let mut shown = Vec::new();
@@ -400,7 +416,10 @@ fn done(call: &Call, after: &Call) -> Vec<Reached> {
     let told = [(0, 2), (2, 4), (6, 4)].map(|(at, size)| number(answer, at, size));
     let due = [verdict, position as u64, walk.met[position]];
     assert_eq!(told, due, "told of\n{call}");
-    let mut shown = bases(&asked, verdict == 0);
+    let mut shown: Vec<Reached> = bases(&asked)
+        .into_iter()
+        .map(|base| Reached::Base(base, verdict == 0))
+        .collect();
     shown.extend(match verdict {
         0 => of_sound(&asked, &walk.met),
         _ => of_defect(&asked, &walk),
@@ -432,7 +451,7 @@ fn sound() -> Vec<Reached> {
     cases.into_iter().map(Reached::Sound).collect()
 }
 
-fn overlaps() -> Vec<Reached> {
+pub(super) fn overlaps() -> Vec<Overlap> {
     let mut cases = vec![
         Overlap::Itself,
         Overlap::LoopOfTwo,
@@ -444,7 +463,7 @@ fn overlaps() -> Vec<Reached> {
         Overlap::Two,
     ];
     cases.extend((1..8).flat_map(|words| [Overlap::Below(words), Overlap::Above(words)]));
-    cases.into_iter().map(Reached::Overlap).collect()
+    cases
 }
 
 fn outside() -> Vec<Reached> {
@@ -472,21 +491,16 @@ fn told() -> Vec<Reached> {
     }
     points.retain(|point| *point != Reached::Told(3, Position::First));
     for sound in BOTH {
-        let bases = [
-            Base::Zero,
-            Base::Odd(1),
-            Base::Odd(2),
-            Base::Odd(3),
-            Base::ToTheTop,
-        ];
-        points.extend(bases.map(|base| Reached::Base(base, sound)));
+        points.extend(Base::ALL.map(|base| Reached::Base(base, sound)));
     }
     points
 }
 
 impl Reachable for Reached {
     fn required() -> Vec<Reached> {
-        [numbers(), sound(), overlaps(), outside(), told()].concat()
+        let mut points = [numbers(), sound(), outside(), told()].concat();
+        points.extend(overlaps().into_iter().map(Reached::Overlap));
+        points
     }
 
     fn number_due(call: &Call) -> u32 {

@@ -54,17 +54,16 @@ impl Laid {
 }
 
 pub struct ChainHost {
-    rng: Rng,
+    pub(super) rng: Rng,
 }
 
 impl Hosts for ChainHost {
     fn next_call(&mut self) -> Call {
-        let laid = self.laid();
-        let base = self.lent_base(&laid);
+        let (window, base, pointer) = self.lent();
         Call::CheckChain {
-            window: Lent::from(laid.memory),
+            window,
             base,
-            pointer: laid.pointer,
+            pointer,
             answer: Lent::from(self.rng.to_write_over(CHECK_SIZE)),
         }
     }
@@ -78,6 +77,13 @@ impl ChainHost {
         ChainHost {
             rng: Rng::new(seed),
         }
+    }
+
+    /// A window, a base and a pointer to lend.
+    pub(super) fn lent(&mut self) -> (Lent, u64, u32) {
+        let laid = self.laid();
+        let base = self.lent_base(&laid);
+        (Lent::from(laid.memory), base, laid.pointer)
     }
 
     /// A chain, mostly damaged; or a window in which there is none.

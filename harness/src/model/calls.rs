@@ -7,7 +7,7 @@
 //! paper's order, and only then writes.
 
 use super::{
-    Chains, Controllers, Descriptor, Editions, Findings, Ledger, Machine, Mode, Ports, Report,
+    Controllers, Descriptor, Editions, Findings, Ledger, Machine, Mends, Mode, Ports, Report,
     Steps, Timers, Window, DESCRIPTOR_SIZE,
 };
 
@@ -102,7 +102,7 @@ fn window_at(base: u64, memory: &[u8]) -> Window {
     }
 }
 
-pub trait Calls: Steps + Findings + Chains + Editions + Controllers + Timers {
+pub trait Calls: Steps + Findings + Mends + Editions + Controllers + Timers {
     /// What the model is called where its answers differ from another's.
     const NAME: &'static str = "model";
 

@@ -30,6 +30,8 @@ pub struct Stop {
     /// How many descriptors stand before it.
     pub position: u32,
     pub address: u32,
+    /// The address of the one just before it.
+    pub before: Option<u32>,
     /// None at the end.
     pub cause: Option<Cause>,
 }
@@ -91,6 +93,7 @@ pub trait Chains: Descriptors {
         Stop {
             position: earlier.len() as u32,
             address,
+            before: earlier.last().copied(),
             cause,
         }
     }

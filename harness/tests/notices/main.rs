@@ -5,7 +5,9 @@ mod slips;
 
 use harness::call::{Call, Party};
 use harness::compare::{compare_call, compare_host, Mismatch};
-use harness::gen::{ChainHost, ControllerHost, EditionHost, FindingHost, Host, Hosts, TimerHost};
+use harness::gen::{
+    ChainHost, ControllerHost, EditionHost, FindingHost, Host, Hosts, MendHost, TimerHost,
+};
 use harness::model::Paper;
 use slips::Slip;
 use std::collections::BTreeSet;
@@ -48,6 +50,7 @@ fn the_slips_are_many_and_different() {
     slips.extend(slips::timers::slips());
     slips.extend(slips::editions::slips());
     slips.extend(slips::chains::slips());
+    slips.extend(slips::mends::slips());
     let different: BTreeSet<&String> = slips.iter().map(|(text, _)| text).collect();
     assert_eq!(different.len(), slips.len());
     assert!(slips.len() >= 600, "only {} slips", slips.len());
@@ -86,6 +89,12 @@ fn every_slip_of_the_moves_is_noticed() {
 fn every_slip_of_the_check_is_noticed() {
     let notice = |slip: &dyn Party| noticed_by(&mut ChainHost::new(SEED), slip);
     are_noticed(slips::chains::slips(), notice);
+}
+
+#[test]
+fn every_slip_of_the_mend_is_noticed() {
+    let notice = |slip: &dyn Party| noticed_by(&mut MendHost::new(SEED), slip);
+    are_noticed(slips::mends::slips(), notice);
 }
 
 /// Each is noticed and shown by the smallest case, which is one call, shows the

@@ -7,43 +7,46 @@ use harness::model::{ImageRule, Images};
 /// Takes the rules of every other trait as they stand in the paper.
 macro_rules! paper_otherwise {
     (Windows for $model:ident) => {
-        paper_otherwise!(Registers, Descriptors, Slots, Ledgers, Findings, Chains, Steps, Images, Editions, Controllers, Timers, Calls: $model);
+        paper_otherwise!(Registers, Descriptors, Slots, Ledgers, Findings, Chains, Mends, Steps, Images, Editions, Controllers, Timers, Calls: $model);
     };
     (Registers for $model:ident) => {
-        paper_otherwise!(Windows, Descriptors, Slots, Ledgers, Findings, Chains, Steps, Images, Editions, Controllers, Timers, Calls: $model);
+        paper_otherwise!(Windows, Descriptors, Slots, Ledgers, Findings, Chains, Mends, Steps, Images, Editions, Controllers, Timers, Calls: $model);
     };
     (Descriptors for $model:ident) => {
-        paper_otherwise!(Windows, Registers, Slots, Ledgers, Findings, Chains, Steps, Images, Editions, Controllers, Timers, Calls: $model);
+        paper_otherwise!(Windows, Registers, Slots, Ledgers, Findings, Chains, Mends, Steps, Images, Editions, Controllers, Timers, Calls: $model);
     };
     (Slots for $model:ident) => {
-        paper_otherwise!(Windows, Registers, Descriptors, Ledgers, Findings, Chains, Steps, Images, Editions, Controllers, Timers, Calls: $model);
+        paper_otherwise!(Windows, Registers, Descriptors, Ledgers, Findings, Chains, Mends, Steps, Images, Editions, Controllers, Timers, Calls: $model);
     };
     (Ledgers for $model:ident) => {
-        paper_otherwise!(Windows, Registers, Descriptors, Slots, Findings, Chains, Steps, Images, Editions, Controllers, Timers, Calls: $model);
+        paper_otherwise!(Windows, Registers, Descriptors, Slots, Findings, Chains, Mends, Steps, Images, Editions, Controllers, Timers, Calls: $model);
     };
     (Findings for $model:ident) => {
-        paper_otherwise!(Windows, Registers, Descriptors, Slots, Ledgers, Chains, Steps, Images, Editions, Controllers, Timers, Calls: $model);
+        paper_otherwise!(Windows, Registers, Descriptors, Slots, Ledgers, Chains, Mends, Steps, Images, Editions, Controllers, Timers, Calls: $model);
     };
     (Chains for $model:ident) => {
-        paper_otherwise!(Windows, Registers, Descriptors, Slots, Ledgers, Findings, Steps, Images, Editions, Controllers, Timers, Calls: $model);
+        paper_otherwise!(Windows, Registers, Descriptors, Slots, Ledgers, Findings, Mends, Steps, Images, Editions, Controllers, Timers, Calls: $model);
+    };
+    (Mends for $model:ident) => {
+        paper_otherwise!(Windows, Registers, Descriptors, Slots, Ledgers, Findings, Chains, Steps, Images, Editions, Controllers, Timers, Calls: $model);
     };
     (Steps for $model:ident) => {
-        paper_otherwise!(Windows, Registers, Descriptors, Slots, Ledgers, Findings, Chains, Images, Editions, Controllers, Timers, Calls: $model);
+        paper_otherwise!(Windows, Registers, Descriptors, Slots, Ledgers, Findings, Chains, Mends, Images, Editions, Controllers, Timers, Calls: $model);
     };
     (Images for $model:ident) => {
-        paper_otherwise!(Windows, Registers, Descriptors, Slots, Ledgers, Findings, Chains, Steps, Editions, Controllers, Timers, Calls: $model);
+        paper_otherwise!(Windows, Registers, Descriptors, Slots, Ledgers, Findings, Chains, Mends, Steps, Editions, Controllers, Timers, Calls: $model);
     };
     (Editions for $model:ident) => {
-        paper_otherwise!(Windows, Registers, Descriptors, Slots, Ledgers, Findings, Chains, Steps, Images, Controllers, Timers, Calls: $model);
+        paper_otherwise!(Windows, Registers, Descriptors, Slots, Ledgers, Findings, Chains, Mends, Steps, Images, Controllers, Timers, Calls: $model);
     };
     (Calls for $model:ident) => {
-        paper_otherwise!(Windows, Registers, Descriptors, Slots, Ledgers, Findings, Chains, Steps, Images, Editions, Controllers, Timers: $model);
+        paper_otherwise!(Windows, Registers, Descriptors, Slots, Ledgers, Findings, Chains, Mends, Steps, Images, Editions, Controllers, Timers: $model);
     };
     (Controllers for $model:ident) => {
-        paper_otherwise!(Windows, Registers, Descriptors, Slots, Ledgers, Findings, Chains, Steps, Images, Editions, Timers, Calls: $model);
+        paper_otherwise!(Windows, Registers, Descriptors, Slots, Ledgers, Findings, Chains, Mends, Steps, Images, Editions, Timers, Calls: $model);
     };
     (Timers for $model:ident) => {
-        paper_otherwise!(Windows, Registers, Descriptors, Slots, Ledgers, Findings, Chains, Steps, Images, Editions, Controllers, Calls: $model);
+        paper_otherwise!(Windows, Registers, Descriptors, Slots, Ledgers, Findings, Chains, Mends, Steps, Images, Editions, Controllers, Calls: $model);
     };
     ($($rules:ident),*: $model:ident) => {
         $(impl harness::model::$rules for $model {})*
@@ -116,6 +119,7 @@ pub mod editions;
 pub mod findings;
 mod images;
 mod ledgers;
+pub mod mends;
 mod registers;
 mod slots;
 mod steps;
