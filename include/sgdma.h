@@ -372,6 +372,18 @@ extern "C" {
  * bytes of each descriptor; and the ledger has a record of each, in the order of the
  * chain and dated with run 1. A budget of 4,294,967,295 is enough for every such
  * chain.
+ *
+ * In modes 0 and 1 the same is proved, whatever STOP_DMA_ER is, where no
+ * bytes_to_transfer is 0 and each source lies as a destination must in mode 2 (the
+ * one byte, under READ_FIXED_ADDRESS); in mode 0 each destination does too, and in
+ * mode 1 there is room for every beat.
+ *   - In mode 0 a byte is the one that memory holds at its step, those before it
+ *     being written by then; where nothing that is read is ever written to, it is
+ *     what memory held before the run.
+ *   - In mode 1 the beats that come out are, for each descriptor of the chain, its
+ *     bytes in order, as memory held them before the run, with SOP on the first
+ *     under WRITE_FIXED_ADDRESS and EOP on the last under GENERATE_EOP; and nothing
+ *     in memory has changed but the last four bytes of each descriptor.
  */
 
 /*

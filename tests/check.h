@@ -38,6 +38,7 @@ void test_fields(void);
 void test_editions(void);
 void test_ahead(void);
 void test_obeys(void);
+void test_modes(void);
 void test_controller(void);
 void test_timer(void);
 

@@ -22,6 +22,7 @@ int main(void)
     test_editions();
     test_ahead();
     test_obeys();
+    test_modes();
     test_controller();
     test_timer();
     return check_figures();

@@ -3,7 +3,7 @@
 use mathlib.Core.Path.{sym}
 use Rattle.links.proofs.Meaning.{sound-exactly}
 use Rattle.chain.specs.Theorems.{SoundRuns}
-use Rattle.chain.proofs.Theorem.{chain-theorem}
+use Rattle.chain.proofs.Demand.{chain-theorem}
 
 pub sound-runs : SoundRuns
 sound-runs g e limits says besides budget enough =

@@ -1,7 +1,7 @@
 -- After the run each of the chain's descriptors is found in the ledger.
 -- Assumes nothing.
 use Prim.Native.Nat.{ℕ, zero, suc, _+_, _*_, _/_, _%_, _^_, _≤_, _<_}
-use mathlib.Core.Path.{_≡_, refl, sym, ap, subst⁻¹, _∙_}
+use mathlib.Core.Path.{_≡_, refl, sym, ap, subst, subst⁻¹, _∙_}
 use mathlib.Core.Logic.{_≢_}
 use mathlib.Core.Bool.{Bool, true, false, cond, _&&_}
 use mathlib.Core.List.{List, [], _∷_, _++_}
@@ -15,6 +15,8 @@ use Rattle.words.specs.Guards.{if_then_else_}
 use Rattle.words.proofs.Slices.{length-put}
 use Rattle.bus.specs.declared.Window.{Window}
 use Rattle.bus.specs.Window.{keepsLimits, inWindow}
+use Rattle.regs.specs.declared.Mode.{Mode}
+use Rattle.regs.specs.declared.Mode.the-variants.{MemoryToMemory, MemoryToStream, StreamToMemory}
 use Rattle.flow.specs.Beats.{beatError, beatEop, beatsIn}
 use Rattle.flow.specs.Rows.{gathered}
 use Rattle.ledger.specs.declared.Entry.{Entry}
@@ -29,14 +31,16 @@ use Rattle.ledger.proofs.Latest.{records-within, asked-of}
 use Rattle.image.proofs.Tests.{and-left, and-right}
 use Rattle.machine.specs.Run.{Lent}
 use Rattle.links.specs.Form.{All, Pairwise, Link, Apart}
-use Rattle.chain.specs.Chain.{Given, links, last, Share, recordOf, recordsOf, wants, takes, shareOf, sharesOf, shares, Premises}
+use Rattle.chain.specs.Chain.{Given, links, last, Share, recordOf, recordsOf, wants, takes}
+use Rattle.chain.specs.Modes.{shareIn, sharesFrom, sharesIn, PremisesIn}
 use Rattle.chain.specs.Calls.{givenBy}
-use Rattle.chain.specs.Theorems.{EachFound}
+use Rattle.chain.specs.Theorems.{EachFound, EachFoundIn}
 use Rattle.chain.proofs.Lists.{all-map, all-left, linksOf}
 use Rattle.chain.proofs.Memory.{placed}
-use Rattle.chain.proofs.Links.{links-short, all-bytes}
-use Rattle.chain.proofs.FromStream.{links-of, shares-short}
-use Rattle.chain.proofs.Theorem.{length-links, length-shares, length-records}
+use Rattle.chain.proofs.Start.{fetching}
+use Rattle.chain.proofs.Shares.{all-short}
+use Rattle.chain.proofs.Theorem.{length-records, theirs, k-shares, all-ready}
+use Rattle.chain.proofs.Demand.{same-shares, premises, same-cost}
 use Rattle.chain.proofs.OfRun.{limits, finishes}
 
 -- ---- the records' numbers fit their places
@@ -67,10 +71,16 @@ errors-fit : (e : ℕ) (bs : List ℕ) → e < 2 ^ 7 → Beats bs → gathered e
 errors-fit e [] h a = h
 errors-fit e (b ∷ bs) h a = errors-fit _ bs (or-lt 7 e (beatError b) h (let k = a .0 in omega arith)) (a .1)
 
-shares-errors : (ls : List Link) (bs : List ℕ) → Beats bs → All (λ (s : Share). s .errors < 2 ^ 7) (sharesOf ls bs)
-shares-errors [] bs a = tt
-shares-errors (l ∷ ls) bs a =
-    (errors-fit 0 (takes (wants (l .says)) bs) (omega arith) (takes-beats (wants (l .says)) bs a), shares-errors ls _ (drop-beats (shareOf l bs .taken) bs a))
+module _ (mode : Mode) (w : Window) where
+  share-errors : (x : Mode) (m : List ℕ) (l : Link) (bs : List ℕ) → Beats bs → shareIn x w m l bs .errors < 2 ^ 7
+  share-errors MemoryToMemory m l bs a = omega arith
+  share-errors MemoryToStream m l bs a = omega arith
+  share-errors StreamToMemory m l bs a = errors-fit 0 (takes (wants (l .says)) bs) (omega arith) (takes-beats (wants (l .says)) bs a)
+
+  shares-errors : (m : List ℕ) (ls : List Link) (bs : List ℕ) → Beats bs → All (λ (s : Share). s .errors < 2 ^ 7) (sharesFrom mode w m ls bs)
+  shares-errors m [] bs a = tt
+  shares-errors m (l ∷ ls) bs a =
+      (share-errors mode m l bs a, shares-errors _ ls _ (drop-beats (shareIn mode w m l bs .taken) bs a))
 
 records-fit : (ss : List Share) → All (λ (s : Share). s .count < 65536) ss → All (λ (s : Share). s .errors < 2 ^ 7) ss
     → All (λ l. l .at < 2 ^ 32) (linksOf ss) → AllFit (recordsOf 1 ss)
@@ -110,20 +120,20 @@ latest-each before (s ∷ ss) a =
 
 -- ---- in a ledger that has them behind those used
 
-module _ (window : Window) (pointer control : ℕ) (l : Lent) (k : ℕ) (h : Premises (givenBy window pointer control k l))
+module _ (mode : Mode) (window : Window) (pointer control : ℕ) (l : Lent) (k : ℕ) (h : PremisesIn mode (givenBy window pointer control k l))
     (limits : keepsLimits (window .base) (window .length) ≡ true) (is-ledger : isLedger (length (l .ledger)) (l .used) ≡ true)
     (beats : AllBytes (l .beats)) where
   abbrev g : Given
   g = givenBy window pointer control k l
 
-  abbrev theirs : linksOf (shares g) ≡ links g
-  theirs = links-of (links g) (g .beats)
+  abbrev ss : List Share
+  ss = sharesIn mode g
 
   abbrev rs : List Entry
-  rs = recordsOf 1 (shares g)
+  rs = recordsOf 1 ss
 
   k-records : length rs ≡ k
-  k-records = length-records (shares g) ∙ length-shares (links g) (g .beats) ∙ length-links window (l .window) pointer k
+  k-records = length-records ss ∙ k-shares mode g h
 
   room : 12 * (l .used + length rs) ≤ length (l .ledger)
   room =
@@ -141,10 +151,9 @@ module _ (window : Window) (pointer control : ℕ) (l : Lent) (k : ℕ) (h : Pre
       let inside = all-left (λ l. inWindow window (l .at) 32 ≡ true) (links g) (last g ∷ []) (h .form .placed .inside) in
       let high : window .base + window .length ≤ 4294967296 =
       leb-true _ _ (and-right (leb (window .length) 65536 && leb (window .base) 4294967295) _ limits) in
-      records-fit (shares g)
-      (shares-short (links g) (g .beats) (links-short window (l .window) pointer k (all-bytes (l .window) (h .bytes)) (h .lent) inside))
-      (shares-errors (links g) (g .beats) (beats-of (l .beats) beats))
-      (subst⁻¹ (All (λ l. l .at < 2 ^ 32)) theirs
+      records-fit ss (all-short ss (fetching mode g) (all-ready mode g h))
+      (shares-errors mode window (l .window) (links g) (g .beats) (beats-of (l .beats) beats))
+      (subst⁻¹ (All (λ l. l .at < 2 ^ 32)) (theirs mode g h)
       (all-map (λ l i. let p = placed window (l .at) 32 i in omega (arith, p .address, p .fits, high)) (links g) inside))
 
   abbrev left : List ℕ
@@ -167,13 +176,19 @@ module _ (window : Window) (pointer control : ℕ) (l : Lent) (k : ℕ) (h : Pre
         ∙ ap (latest 1 address NotFound) (records-back (l .ledger) (l .used) rs fit room)
         ∙ latest-append address NotFound (entriesIn (l .ledger) (l .used)) rs
 
-    pub each-in : All (λ s. findingIn after (l .used + k) 1 (s .link .at) ≡ Found (s .count)) (shares g)
+    pub each-in : All (λ s. findingIn after (l .used + k) 1 (s .link .at) ≡ Found (s .count)) ss
     each-in =
-        all-map (λ s e. found-in (s .link .at) ∙ e) (shares g)
-        (latest-each (λ (address : ℕ). latest 1 address NotFound (entriesIn (l .ledger) (l .used))) (shares g)
-        (subst⁻¹ (Pairwise Apart) theirs (pairs-left (links g) (last g ∷ []) (h .form .placed .apart))))
+        all-map (λ s e. found-in (s .link .at) ∙ e) ss
+        (latest-each (λ (address : ℕ). latest 1 address NotFound (entriesIn (l .ledger) (l .used))) ss
+        (subst⁻¹ (Pairwise Apart) (theirs mode g h) (pairs-left (links g) (last g ∷ []) (h .form .placed .apart))))
 
 -- Each of the k is found in run 1, with its count.
+pub each-found-in : EachFoundIn
+each-found-in mode window pointer control l budget r b k c h n beats =
+    each-in mode window pointer control l k h (limits k c h) (c .is-ledger) beats (finishes k c h n .ledger-after)
+
 pub each-found : EachFound
 each-found window pointer control l budget r b k c h n beats =
-    each-in window pointer control l k h (limits k c h) (c .is-ledger) beats (finishes k c h n .ledger-after)
+    let g : Given = givenBy window pointer control k l in
+    subst (All (λ (s : Share). findingIn (b .ledger) (l .used + k) 1 (s .link .at) ≡ Found (s .count))) (same-shares g)
+    (each-found-in StreamToMemory window pointer control l budget r b k c (premises g h) (same-cost g n) beats)

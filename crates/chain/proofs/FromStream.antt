@@ -1,4 +1,4 @@
--- What the stream-to-memory mode gives of a share: the bytes of one descriptor, from its first Move to its WriteBack; and so of a chain.
+-- What the stream-to-memory mode gives of a share: the bytes of one descriptor, from its first Move to its WriteBack.
 -- Assumes nothing.
 use Prim.Native.Nat.{ℕ, zero, suc, _+_, _≤_, _<_}
 use mathlib.Core.Path.{_≡_, refl, sym, ap, subst, _∙_}
@@ -9,7 +9,6 @@ use native.Mathlib.Nat.{zero-add, sub-zero}
 use native.Mathlib.Omega.{arith}
 use lib.Dec.{eqb}
 use lib.ListN.{length, set, drop}
-use borrow.Author.Tests.{eq-eqb, ne-eqb}
 use Rattle.bus.specs.Window.{inWindow, placeOf}
 use Rattle.descriptor.specs.Layout.{writeFixed}
 use Rattle.links.specs.Form.{All, Link}
@@ -20,20 +19,19 @@ use Rattle.regs.specs.Control.{stopDmaEr}
 use Rattle.image.specs.Rules.{asked}
 use Rattle.flow.specs.Beats.{beatEop}
 use Rattle.flow.specs.Rows.{gathered}
-use Rattle.machine.specs.declared.Core.{Core}
 use Rattle.machine.specs.declared.Work.{Work}
 use Rattle.machine.specs.declared.Phase.the-variants.{Move, WriteBack}
 use Rattle.machine.specs.State.{withPhase}
 use Rattle.machine.specs.Step.{World, laid, received, wantsLength, begun, whole, destinationOf}
 use Rattle.machine.specs.Laws.{Along, here, more}
-use Rattle.chain.specs.Chain.{Sent, Share, sentByAll, wants, takes, enough, endsPacket, sentFrom, shareOf, sharesOf, Enough}
-use Rattle.chain.proofs.Lists.{all-map2, all-left, all-right, all-each, linksOf}
-use Rattle.chain.proofs.Memory.{placed, writes}
+use Rattle.chain.specs.Chain.{Sent, Share, wants, takes, enough, endsPacket, sentFrom, shareOf}
+use Rattle.chain.specs.Modes.{writes}
+use Rattle.chain.proofs.Lists.{all-map2, all-each}
+use Rattle.chain.proofs.Memory.{placed}
 use Rattle.chain.proofs.Links.{wants-some, wants-short}
-use Rattle.chain.proofs.Rules.{fetchedWorld, receivedWorld, withBeat, goesTo, move-step}
+use Rattle.chain.proofs.Rules.{fetchedWorld, receivedWorld, withBeat, on-eop, on-count, on-more, move-step}
 use Rattle.chain.proofs.Blocks.{OffBytes, BlocksKept, kept-none, kept-byte}
-use Rattle.chain.proofs.One.{windowOf, afterBytes, afterMark, Carried, Ready}
-use Rattle.chain.proofs.Walk.{madeByAll}
+use Rattle.chain.proofs.One.{windowOf, afterBytes, Carried}
 
 -- ---- the beats taken
 
@@ -89,17 +87,6 @@ abbrev deliveredWorld : World → Work → List ℕ → List ℕ → World
 deliveredWorld w k t bs =
     received w (withPhase (WriteBack (worked k t)) (w .core)) (writes (w .core .window) (sentOf k t) (w .memory)) (drop (length t) bs)
 
--- ---- where the work goes after a byte
-
-on-eop : (m : Core) (k : Work) → k .eop ≡ true → goesTo m k ≡ WriteBack k
-on-eop m k h = rw h
-
-on-count : (m : Core) (k : Work) → k .eop ≡ false → k .moved ≡ whole m k → goesTo m k ≡ WriteBack k
-on-count m k h l = simp (h, eq-eqb (k .moved) (whole m k) l)
-
-on-more : (m : Core) (k : Work) → k .eop ≡ false → k .moved ≢ whole m k → goesTo m k ≡ Move k
-on-more m k h l = simp (h, ne-eqb (k .moved) (whole m k) l)
-
 -- ---- the moves, with what holds of memory at each: P, kept by every byte that Q holds of
 
 module _ (P : List ℕ → Type 0) (Q : Sent → Type 0) where
@@ -137,7 +124,7 @@ module _ (w : World) (l : Link) (mode-is : w .core .mode ≡ StreamToMemory) (un
       let work = worked-is begins its (length its) (zero-add (length its)) in
       λ i. laid v (withPhase (WriteBack (work i)) (v .core)) (writes (windowOf w) (share .sent) (w .memory)) (drop (length its) (w .input)) (sym (append-nil (w .output)) i) (sym (sub-zero (w .room)) i)
 
-  carried : Carried w share
+  pub carried : Carried w share
   carried =
       let want : whole (fetchedWorld w l .core) begins ≡ wants (l .says) = ap (λ (x : Mode). asked (modeNumber x) (l .says .length)) mode-is in
       let kept = BlocksKept (windowOf w) (w .memory) (share .sent) in
@@ -154,29 +141,3 @@ module _ (w : World) (l : Link) (mode-is : w .core .mode ≡ StreamToMemory) (un
         there = fit .1;
         goes-on = ap (λ (b : Bool). not (eqb (share .errors) 0) && b) unstopped ∙ and-false (not (eqb (share .errors) 0));
       }
-
--- ---- and along a chain
-
-pub links-of : (ls : List Link) (bs : List ℕ) → linksOf (sharesOf ls bs) ≡ ls
-links-of [] bs = refl
-links-of (l ∷ ls) bs = ap (λ (x : List Link). l ∷ x) (links-of ls _)
-
-pub none-made : (ls : List Link) (bs : List ℕ) → madeByAll (sharesOf ls bs) ≡ []
-none-made [] bs = refl
-none-made (l ∷ ls) bs = none-made ls _
-
-pub shares-short : (ls : List Link) (bs : List ℕ) → All (λ l. l .says .length < 65536) ls → All (λ (s : Share). s .count < 65536) (sharesOf ls bs)
-shares-short [] bs a = tt
-shares-short (l ∷ ls) bs a =
-    (omega (arith, takes-fit (wants (l .says)) bs .0, wants-short (l .says) (a .0)), shares-short ls _ (a .1))
-
-pub ready : (ls : List Link) (w : World) → w .core .mode ≡ StreamToMemory → stopDmaEr (w .core .control) ≡ false → All (λ l. l .says .length < 65536) ls
-    → Enough ls (w .input) → All (λ s. inWindow (w .core .window) (s .to) 1 ≡ true) (sentByAll (sharesOf ls (w .input))) → Ready w (sharesOf ls (w .input))
-ready [] w m u a e i = tt
-ready (l ∷ ls) w m u a e i =
-    let share = shareOf l (w .input) in
-    let others = sharesOf ls (drop (share .taken) (w .input)) in
-    let inside : Sent → Type 0 = λ s. inWindow (w .core .window) (s .to) 1 ≡ true in (
-      carried w l m u (a .0) (e .0) (all-left inside (share .sent) (sentByAll others) i),
-      ready ls (afterMark w share) m u (a .1) (e .1) (all-right inside (share .sent) (sentByAll others) i),
-    )

@@ -11,15 +11,16 @@ use lib.Dec.{eqb, ltb}
 use lib.ListN.{length, getD, take, drop}
 use lib.Seq.{split-at}
 use borrow.Author.Tests.{ltb-true, eqb-false, not-true}
+use Rattle.bus.specs.declared.Window.{Window}
 use Rattle.bus.specs.Window.{inWindow, placeOf}
 use Rattle.descriptor.specs.Layout.{bytesFor, descriptorAt}
 use Rattle.image.proofs.Tests.{and-left, and-right}
-use Rattle.machine.specs.declared.Ran.{Ran}
-use Rattle.links.specs.Form.{All, Off}
-use Rattle.chain.specs.Chain.{Given, everyLink, Sent, sent, Premises, Outcome}
+use Rattle.regs.specs.declared.Mode.the-variants.{StreamToMemory}
+use Rattle.links.specs.Form.{All, Pairwise, linkAt, Off, Apart}
+use Rattle.chain.specs.Chain.{everyLink, Sent, sent, LastSent, Premises, Outcome}
 use Rattle.chain.specs.Known.{after, told, known, three}
 use Rattle.chain.specs.Theorems.{KnownRun1, ChainOfThree}
-use Rattle.chain.proofs.Theorem.{chain-theorem}
+use Rattle.chain.proofs.Demand.{chain-theorem, no-output}
 
 -- ---- tests that compute
 
@@ -27,7 +28,7 @@ abbrev bytesOnly : List ℕ → Bool
 bytesOnly [] = true
 bytesOnly (x ∷ xs) = ltb x 256 && bytesOnly xs
 
-are-bytes : (xs : List ℕ) → bytesOnly xs ≡ true → All (λ x. x < 256) xs
+pub are-bytes : (xs : List ℕ) → bytesOnly xs ≡ true → All (λ x. x < 256) xs
 are-bytes [] e = tt
 are-bytes (x ∷ xs) e = (ltb-true x 256 (and-left _ _ e), are-bytes xs (and-right (ltb x 256) _ e))
 
@@ -43,10 +44,10 @@ abbrev none : Sent
 none = record { to = 0; byte = 0 }
 
 -- byte n of all that are sent, and none after it to its address
-module _ {g : Given} {ran : Ran} {memory : List ℕ} (o : Outcome g ran memory) (n : ℕ) where
-  pub landed-nth : n < length (sent g) → noneTo (getD (sent g) n none .to) (drop (suc n) (sent g)) ≡ true
-      → getD memory (placeOf (g .window) (getD (sent g) n none .to)) 0 ≡ getD (sent g) n none .byte
-  landed-nth h e = o .landed (take n (sent g)) (drop (suc n) (sent g)) (getD (sent g) n none) (split-at (sent g) n none h) (none-to (getD (sent g) n none .to) (drop (suc n) (sent g)) e)
+module _ (window : Window) (ss : List Sent) (memory : List ℕ) (landed : LastSent window ss memory) (n : ℕ) where
+  pub landed-nth : n < length ss → noneTo (getD ss n none .to) (drop (suc n) ss) ≡ true
+      → getD memory (placeOf window (getD ss n none .to)) 0 ≡ getD ss n none .byte
+  landed-nth h e = landed (take n ss) (drop (suc n) ss) (getD ss n none) (split-at ss n none h) (none-to (getD ss n none .to) (drop (suc n) ss) e)
 
 -- ---- known run 1
 
@@ -78,7 +79,7 @@ known-meets =
       outside = (known-off 4224 (omega arith), (known-off 4225 (omega arith), (known-off 4226 (omega arith), (known-off 4227 (omega arith), tt))));
     }
 
-known-outcome : Outcome known (told known) (after known)
+known-outcome : Outcome known (told StreamToMemory known) (after StreamToMemory known .memory)
 unfolding descriptorAt bytesFor
 known-outcome = chain-theorem known known-meets 100 (omega arith)
 
@@ -86,6 +87,7 @@ pub known-run-1 : KnownRun1
 unfolding descriptorAt bytesFor
 known-run-1 =
     let o = known-outcome in
+    let byte = landed-nth (known .window) (sent known) (after StreamToMemory known .memory) (o .landed) in
     record {
       meets = known-meets;
       reason = o .reason;
@@ -94,12 +96,20 @@ known-run-1 =
       pointer-is = o .pointer;
       fours-are = (o .done .0 .four, tt);
       landed-are = (
-        landed-nth o 0 (omega arith) refl,
-        (landed-nth o 1 (omega arith) refl, (landed-nth o 2 (omega arith) refl, (landed-nth o 3 (omega arith) refl, tt))),
+        byte 0 (omega arith) refl,
+        (byte 1 (omega arith) refl, (byte 2 (omega arith) refl, (byte 3 (omega arith) refl, tt))),
       );
+      beats-are = no-output known known-meets 100 (omega arith);
     }
 
 -- ---- three descriptors
+
+-- the seats of the three and of the one at their end
+pub four-apart : (w : Window) (m : List ℕ) → Pairwise Apart (linkAt w m 4096 ∷ linkAt w m 4160 ∷ linkAt w m 4128 ∷ linkAt w m 4192 ∷ [])
+four-apart w m = (
+  (λ i x j y. omega arith, (λ i x j y. omega arith, (λ i x j y. omega arith, tt))),
+  ((λ i x j y. omega arith, (λ i x j y. omega arith, tt)), ((λ i x j y. omega arith, tt), (tt, tt))),
+)
 
 three-off : (q : ℕ) → 4224 ≤ q → All (λ l. Off l q) (everyLink three)
 unfolding descriptorAt bytesFor
@@ -120,10 +130,7 @@ three-meets =
         placed = record {
           aligned = (refl, (refl, (refl, (refl, tt))));
           inside = (refl, (refl, (refl, (refl, tt))));
-          apart = (
-            (λ i a j b. omega arith, (λ i a j b. omega arith, (λ i a j b. omega arith, tt))),
-            ((λ i a j b. omega arith, (λ i a j b. omega arith, tt)), ((λ i a j b. omega arith, tt), (tt, tt))),
-          );
+          apart = four-apart (three .window) (three .memory);
         };
       };
       stream = (refl, (refl, (refl, tt)));
@@ -144,7 +151,7 @@ three-meets =
       );
     }
 
-three-outcome : Outcome three (told three) (after three)
+three-outcome : Outcome three (told StreamToMemory three) (after StreamToMemory three .memory)
 unfolding descriptorAt bytesFor
 three-outcome = chain-theorem three three-meets 100 (omega arith)
 
@@ -152,6 +159,7 @@ pub chain-of-three : ChainOfThree
 unfolding descriptorAt bytesFor
 chain-of-three =
     let o = three-outcome in
+    let byte = landed-nth (three .window) (sent three) (after StreamToMemory three .memory) (o .landed) in
     record {
       meets = three-meets;
       reason = o .reason;
@@ -160,10 +168,11 @@ chain-of-three =
       pointer-is = o .pointer;
       fours-are = (o .done .0 .four, (o .done .1 .0 .four, (o .done .1 .1 .0 .four, tt)));
       landed-are = (
-        landed-nth o 0 (omega arith) refl,
+        byte 0 (omega arith) refl,
         (
-          landed-nth o 1 (omega arith) refl,
-          (landed-nth o 3 (omega arith) refl, (landed-nth o 4 (omega arith) refl, (landed-nth o 7 (omega arith) refl, tt))),
+          byte 1 (omega arith) refl,
+          (byte 3 (omega arith) refl, (byte 4 (omega arith) refl, (byte 7 (omega arith) refl, tt))),
         ),
       );
+      beats-are = no-output three three-meets 100 (omega arith);
     }

@@ -6,11 +6,17 @@ pub mod Blocks
 pub mod Start
 pub mod One
 pub mod Walk
+pub mod Alike
 pub mod FromStream
+pub mod FromMemory
+pub mod Shares
 pub mod Theorem
+pub mod Users
+pub mod Demand
 pub mod Twice
 pub mod OfRun
 pub mod Instances
+pub mod InModes
 pub mod Enough
 pub mod Found
 pub mod Checked

@@ -23,6 +23,10 @@ module _ {A : Type 0} where
   all-right P [] ys a = a
   all-right P (x ∷ xs) ys a = all-right P xs ys (a .1)
 
+  pub all-append : (P : A → Type 0) (xs ys : List A) → All P xs → All P ys → All P (xs ++ ys)
+  all-append P [] ys a b = b
+  all-append P (x ∷ xs) ys a b = (a .0, all-append P xs ys (a .1) b)
+
   pub all-drop : (P : A → Type 0) (n : ℕ) (xs : List A) → All P xs → All P (drop n xs)
   all-drop P zero xs a = a
   all-drop P (suc n) [] a = a

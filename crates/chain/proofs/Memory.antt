@@ -25,6 +25,7 @@ use Rattle.descriptor.proofs.Reading.{by-offset, there}
 use Rattle.image.proofs.Tests.{and-left, and-right}
 use Rattle.links.specs.Form.{All}
 use Rattle.chain.specs.Chain.{Sent}
+use Rattle.chain.specs.Modes.{writes}
 
 -- ---- the window
 
@@ -88,17 +89,13 @@ cleared c = ne-eqb (c % 128 % 256 / 128 % 2) 1 (omega arith)
 
 -- ---- bytes sent, one after the other
 
-abbrev pub writes : Window → List Sent → List ℕ → List ℕ
-writes w [] m = m
-writes w (s ∷ ss) m = writes w ss (set m (placeOf w (s .to)) (s .byte))
-
 -- the last byte sent to the address q, or x
 abbrev pub lastAt : ℕ → List Sent → ℕ → ℕ
 lastAt q [] x = x
 lastAt q (s ∷ ss) x = lastAt q ss (cond (eqb q (s .to)) (s .byte) x)
 
 module _ (w : Window) where
-  one-byte : (p : ℕ) (s : Sent) (m : List ℕ) → Placed w (s .to) 1 → length m ≡ w .length
+  pub one-byte : (p : ℕ) (s : Sent) (m : List ℕ) → Placed w (s .to) 1 → length m ≡ w .length
       → getD (set m (placeOf w (s .to)) (s .byte)) p 0 ≡ cond (eqb (w .base + p) (s .to)) (s .byte) (getD m p 0)
   one-byte p s m h l = by (eqb (w .base + p) (s .to)) refl
     where

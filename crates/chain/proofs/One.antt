@@ -23,8 +23,9 @@ use Rattle.machine.specs.Laws.{Along, more}
 use Rattle.machine.proofs.Puts.{length-put-at, put-off}
 use Rattle.machine.proofs.RunLaws.{along-last}
 use Rattle.chain.specs.Chain.{Share, Done}
+use Rattle.chain.specs.Modes.{writes}
 use Rattle.chain.proofs.Lists.{all-map}
-use Rattle.chain.proofs.Memory.{Placed, placed, writes, lastAt, last-writer}
+use Rattle.chain.proofs.Memory.{Placed, placed, lastAt, last-writer}
 use Rattle.chain.proofs.Rules.{Set, Sees, fetchedWorld, fetch-step, markedWorld, Unhalted, write-step}
 use Rattle.chain.proofs.Blocks.{OffFour, BlocksKept, kept-none, done-by-four}
 
@@ -58,6 +59,16 @@ module _ (w : World) (s : Share) where
 
   abbrev four : List ℕ
   four = lastFour (s .count) (s .errors) (s .link .says .control .0 % 128)
+
+  -- its mark leaves every other place
+  pub marked-off : Placed (windowOf w) (s .link .at) 32 → (p : ℕ) → OffFour (windowOf w) p (s .link)
+      → getD (afterMark .memory) p 0 ≡ getD (afterBytes .memory) p 0
+  marked-off stands p o =
+      put-off (afterBytes .memory) _ four p
+      (λ j h f. o j h (let g : p ≡ placeOf (windowOf w) (s .link .at) + 28 + j = f in omega (arith, stands .address)))
+
+  pub marked-size : length (afterMark .memory) ≡ length (afterBytes .memory)
+  marked-size = length-put-at (afterBytes .memory) _ four
 
 -- what a mode gives of a share at the Fetch of its descriptor
 pub record Carried (w : World) (s : Share) : Type 0 where
@@ -107,12 +118,10 @@ module _ (w : World) (s : Share) (r : AtOne w s) where
   mark-step = write-step (afterBytes w s) (workOf s) refl (r .set) (r .carried .goes-on) (r .ledger)
 
   pub mark-size : length (afterMark w s .memory) ≡ length (w .memory)
-  mark-size = length-put-at (afterBytes w s .memory) _ (four w s) ∙ kept .size
+  mark-size = marked-size w s ∙ kept .size
 
   pub mark-off : (p : ℕ) → OffFour (windowOf w) p (s .link) → getD (afterMark w s .memory) p 0 ≡ getD (afterBytes w s .memory) p 0
-  mark-off p o =
-      put-off (afterBytes w s .memory) _ (four w s) p
-      (λ j h f. o j h (let g : p ≡ placeOf (windowOf w) (s .link .at) + 28 + j = f in omega (arith, stands .address)))
+  mark-off p o = marked-off w s stands p o
 
   fits : placeOf (windowOf w) (s .link .at) + 32 ≤ length (w .memory)
   fits = omega (arith, stands .fits, r .lent)

@@ -2,12 +2,13 @@
 -- Assumes nothing.
 use Prim.Native.Nat.{ℕ, zero, suc, _+_, _-_, _%_, _<_}
 use mathlib.Core.Path.{_≡_, refl, sym, ap, subst, _∙_}
+use mathlib.Core.Logic.{_≢_}
 use mathlib.Core.Bool.{Bool, true, false, not, cond, _&&_, _||_}
 use mathlib.Core.List.{List, [], _∷_, _++_}
 use native.Mathlib.Omega.{arith}
 use lib.Dec.{eqb}
-use lib.ListN.{set}
-use borrow.Author.Tests.{eq-eqb}
+use lib.ListN.{getD, set}
+use borrow.Author.Tests.{eq-eqb, ne-eqb}
 use Rattle.words.specs.Slices.{part, putAt, AllBytes}
 use Rattle.bus.specs.Window.{inWindow, placeOf}
 use Rattle.descriptor.specs.declared.Descriptor.{Descriptor}
@@ -18,7 +19,7 @@ use Rattle.descriptor.specs.declared.Look.the-variants.{There}
 use Rattle.descriptor.specs.Looking.{namedIn, rawAt, lookAt}
 use Rattle.descriptor.proofs.Looks.{look-there, named-at}
 use Rattle.regs.specs.declared.Mode.{Mode}
-use Rattle.regs.specs.declared.Mode.the-variants.{StreamToMemory}
+use Rattle.regs.specs.declared.Mode.the-variants.{MemoryToMemory, MemoryToStream, StreamToMemory}
 use Rattle.regs.specs.declared.Control.{Control}
 use Rattle.regs.specs.Control.{run, stopDmaEr, park}
 use Rattle.flow.specs.Beats.{beatError, beatEop, beatData}
@@ -29,7 +30,7 @@ use Rattle.machine.specs.declared.Phase.the-variants.{Rest, Fetch, Move, WriteB
 use Rattle.machine.specs.declared.Slot.{Slot}
 use Rattle.machine.specs.declared.Slot.the-variants.{Empty, Ahead}
 use Rattle.machine.specs.State.{remade, withPointer, withPhase, withBusy, rested, settled}
-use Rattle.machine.specs.Step.{World, taken, became, stored, received, noted, holding, settle, seen, entryFor, backTo, restStep, ended, wantsLength, begun, fetched, meets, fetchStep, whole, destinationOf, withByte, onward, receiveFrom, moveStep, writtenControl, writtenBack, completed, writeBackStep, stepIn, step}
+use Rattle.machine.specs.Step.{World, taken, became, stored, received, sent, noted, holding, settle, seen, entryFor, backTo, restStep, ended, wantsLength, begun, fetched, meets, fetchStep, whole, sourceOf, destinationOf, withByte, onward, copyStep, beatFor, sendTo, sendStep, receiveFrom, moveStep, writtenControl, writtenBack, completed, writeBackStep, stepIn, step}
 use Rattle.links.specs.Form.{Link, linkAt}
 
 -- the machine runs and does not park
@@ -112,6 +113,15 @@ withBeat b k = withByte (beatError b) (beatEop b) k
 abbrev pub goesTo : Core → Work → Phase
 goesTo m k = cond (k .eop || eqb (k .moved) (whole m k)) (WriteBack k) (Move k)
 
+pub on-eop : (m : Core) (k : Work) → k .eop ≡ true → goesTo m k ≡ WriteBack k
+on-eop m k h = rw h
+
+pub on-count : (m : Core) (k : Work) → k .eop ≡ false → k .moved ≡ whole m k → goesTo m k ≡ WriteBack k
+on-count m k h l = simp (h, eq-eqb (k .moved) (whole m k) l)
+
+pub on-more : (m : Core) (k : Work) → k .eop ≡ false → k .moved ≢ whole m k → goesTo m k ≡ Move k
+on-more m k h l = simp (h, ne-eqb (k .moved) (whole m k) l)
+
 kept-going : (m : Core) (k : Work) (slot : Slot) → settled (goesTo m k) slot ≡ slot
 kept-going m k slot = by (k .eop || eqb (k .moved) (whole m k))
   where
@@ -126,6 +136,30 @@ unfolding step onward
 move-step w k b bs q p c i h g =
     ap (λ (x : Phase). settle (stepIn x w)) p ∙ ap (λ (x : Mode). settle (moveStep x w k)) c ∙ ap (λ (bs : List ℕ). settle (receiveFrom w k bs)) i
     ∙ rw h (λ x. taken (holding (receivedWorld w k b bs (g x)) (kept-going (w .core) (withBeat b k) (w .slot) x)))
+
+-- ---- Move, from memory
+
+-- a byte of memory is written to memory
+pub copy-step : (w : World) (k : Work) (byte : ℕ) (q : Phase) → w .core .phase ≡ Move k → w .core .mode ≡ MemoryToMemory
+    → inWindow (w .core .window) (sourceOf k) 1 ≡ true → inWindow (w .core .window) (destinationOf k) 1 ≡ true
+    → getD (w .memory) (placeOf (w .core .window) (sourceOf k)) 0 ≡ byte → goesTo (w .core) (withByte 0 false k) ≡ q
+    → step w ≡ taken (stored w (withPhase q (w .core)) (set (w .memory) (placeOf (w .core .window) (destinationOf k)) byte))
+unfolding step onward copyStep
+copy-step w k byte q p c i h b g =
+    let to : ℕ = placeOf (w .core .window) (destinationOf k) in
+    ap (λ (x : Phase). settle (stepIn x w)) p ∙ ap (λ (x : Mode). settle (moveStep x w k)) c
+    ∙ rw (i, h) (λ x. taken (holding (stored w (withPhase (g x) (w .core)) (set (w .memory) to (b x))) (kept-going (w .core) (withByte 0 false k) (w .slot) x)))
+
+-- or made a beat, where there is room
+pub send-step : (w : World) (k : Work) (beat left : ℕ) (q : Phase) → w .core .phase ≡ Move k → w .core .mode ≡ MemoryToStream
+    → inWindow (w .core .window) (sourceOf k) 1 ≡ true → w .room ≡ suc left
+    → beatFor k (getD (w .memory) (placeOf (w .core .window) (sourceOf k)) 0) ≡ beat → goesTo (w .core) (withByte 0 false k) ≡ q
+    → step w ≡ taken (sent w (withPhase q (w .core)) (w .output ++ beat ∷ []) left)
+unfolding step onward sendStep
+send-step w k beat left q p c i r b g =
+    ap (λ (x : Phase). settle (stepIn x w)) p ∙ ap (λ (x : Mode). settle (moveStep x w k)) c
+    ∙ rw i (ap (λ (n : ℕ). settle (sendTo w k n)) r
+    ∙ (λ x. taken (holding (sent w (withPhase (g x) (w .core)) (w .output ++ b x ∷ []) left) (kept-going (w .core) (withByte 0 false k) (w .slot) x))))
 
 -- ---- WriteBack
 

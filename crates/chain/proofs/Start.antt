@@ -1,11 +1,11 @@
--- The machine of demand 3 after its two writes, and after the step out of Rest.
+-- The machine after its two writes, and after the step out of Rest.
 -- Assumes nothing.
 use Prim.Native.Nat.{ℕ, _/_, _%_}
 use mathlib.Core.Path.{_≡_, ap, ap₂}
 use mathlib.Core.Bool.{true, false, and-false}
 use native.Mathlib.Omega.{arith}
 use Rattle.words.specs.Bits.{bit}
-use Rattle.regs.specs.declared.Mode.the-variants.{StreamToMemory}
+use Rattle.regs.specs.declared.Mode.{Mode}
 use Rattle.regs.specs.Control.{asControl, run, park, stopDmaEr, runFrom}
 use Rattle.machine.specs.declared.Core.{Core}
 use Rattle.machine.specs.declared.Slot.the-variants.{Empty}
@@ -15,7 +15,7 @@ use Rattle.machine.specs.State.{withPointer, withPhase, withBusy, freshCore, ma
 use Rattle.machine.specs.Registers.{controlStored}
 use Rattle.machine.specs.Step.{World, became, opened, seenIn, seen}
 use Rattle.machine.proofs.Writes.{write-runs}
-use Rattle.chain.specs.Chain.{Given, worldFor}
+use Rattle.chain.specs.Chain.{Given, worldIn}
 use Rattle.chain.proofs.Rules.{Set, SeesMemory}
 
 -- RUN, STOP_DMA_ER and PARK are stored as written
@@ -36,9 +36,9 @@ pub nothing-ahead : (w : World) → w .slot ≡ Empty → SeesMemory w
 unfolding seen
 nothing-ahead w e = ap (seenIn w) e
 
-module _ (g : Given) where
+module _ (mode : Mode) (g : Given) where
   abbrev m0 : Machine
-  m0 = machineWith (controlStored (g .control) (withPointer (g .pointer) (freshCore StreamToMemory (g .window)))) Empty 1
+  m0 = machineWith (controlStored (g .control) (withPointer (g .pointer) (freshCore mode (g .window)))) Empty 1
 
   abbrev pub resting : World
   resting = opened m0 (g .memory) (g .beats) (g .room) (g .left)
@@ -46,10 +46,10 @@ module _ (g : Given) where
   abbrev pub fetching : World
   fetching = became resting (withPhase Fetch (withBusy true (m0 .core)))
 
-  pub starts : run (asControl (g .control)) ≡ true → worldFor g ≡ resting
+  pub starts : run (asControl (g .control)) ≡ true → worldIn mode g ≡ resting
   starts h =
       ap₂ (λ (c : Core) (number : ℕ). opened (machineWith c Empty number) (g .memory) (g .beats) (g .room) (g .left))
-      (write-runs (g .control) (withPointer (g .pointer) (freshCore StreamToMemory (g .window))) (and-false (bit 16 (g .control))) h)
+      (write-runs (g .control) (withPointer (g .pointer) (freshCore mode (g .window))) (and-false (bit 16 (g .control))) h)
       (first-run (g .control) h)
 
   pub set-so : run (asControl (g .control)) ≡ true → park (asControl (g .control)) ≡ false → Set (fetching .core)

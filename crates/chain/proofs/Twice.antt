@@ -14,6 +14,7 @@ use Rattle.words.proofs.Bytes.{take-bytes, drop-bytes, append-bytes}
 use Rattle.words.proofs.Orders.{row-bytes}
 use Rattle.words.proofs.Slices.{part-part}
 use Rattle.bus.specs.Window.{inWindow, placeOf}
+use Rattle.regs.specs.declared.Mode.the-variants.{StreamToMemory}
 use Rattle.machine.specs.declared.Slot.the-variants.{Empty}
 use Rattle.machine.specs.declared.Reason.the-variants.{Ended}
 use Rattle.machine.specs.Step.{World, taken, stopped, became, holding, ended, step}
@@ -31,7 +32,8 @@ use Rattle.chain.proofs.Rules.{sees-in, rest-step, end-step}
 use Rattle.chain.proofs.Blocks.{OffFour, landed-last}
 use Rattle.chain.proofs.Start.{nothing-ahead, resting, fetching, starts, set-so, unstopped}
 use Rattle.chain.proofs.One.{afterMark, Ready, AtOne, sending, kept, mark-step, mark-size, mark-off, done-here, bytes-here, sees-next}
-use Rattle.chain.proofs.FromStream.{ready}
+use Rattle.chain.proofs.Alike.{alike-self}
+use Rattle.chain.proofs.Shares.{Linked, ready}
 
 module _ (g : Given) (h : LinksToItself g) where
   abbrev l : Link
@@ -46,7 +48,7 @@ module _ (g : Given) (h : LinksToItself g) where
 
   -- at its first Fetch, its second and the last
   abbrev w1 : World
-  w1 = fetching g
+  w1 = fetching StreamToMemory g
 
   abbrev w2 : World
   w2 = afterMark w1 s1
@@ -67,13 +69,16 @@ module _ (g : Given) (h : LinksToItself g) where
   short = links-short (g .window) (g .memory) (g .pointer) 1 (all-bytes (g .memory) (h .bytes)) (h .lent) (h .inside, tt) .0
 
   carries : Ready w1 (twice g)
-  carries = ready (l ∷ l ∷ []) w1 refl (unstopped g (h .stop-clear)) (short, (short, tt)) (h .stream) (h .lands)
+  carries =
+      let stands : Linked (g .window) (l ∷ l ∷ []) l = record { short = short; stands = placed (g .window) (g .pointer) 32 (h .inside); among = λ q o. o .0 } in
+      ready StreamToMemory (l ∷ l ∷ []) (l ∷ l ∷ []) w1 (g .memory) refl (alike-self (h .lent)) (stands, (stands, tt))
+      (unstopped StreamToMemory g (h .stop-clear), h .stream) (h .lands) (omega arith)
 
   first : AtOne w1 s1
   first =
       record {
         fetching = refl;
-        set = set-so g (h .run-set) (h .park-clear);
+        set = set-so StreamToMemory g (h .run-set) (h .park-clear);
         lent = h .lent;
         points = refl;
         sees = sees-in w1 (g .memory) l refl (h .aligned) (h .inside) bytes (nothing-ahead w1 refl);
@@ -133,11 +138,11 @@ module _ (g : Given) (h : LinksToItself g) where
   unfolding step
   stops = refl
 
-  way : Along (λ w. Unit {0}) (2 + cost (twice g)) (resting g) end
+  way : Along (λ w. Unit {0}) (2 + cost (twice g)) (resting StreamToMemory g) end
   way =
-      subst (λ (n : ℕ). Along (λ w. Unit {0}) n (resting g) end)
+      subst (λ (n : ℕ). Along (λ w. Unit {0}) n (resting StreamToMemory g) end)
       (let x : suc (suc (s1 .count) + suc (suc (s2 .count) + 2)) ≡ 2 + cost (twice g) = omega arith in x)
-      (more tt (rest-step (resting g) refl (first .set .runs))
+      (more tt (rest-step (resting StreamToMemory g) refl (first .set .runs))
       (join (along-map (λ w x. tt) (sending w1 s1 first)) (more tt (mark-step w1 s1 first)
       (join (along-map (λ w x. tt) (sending w2 s2 again)) (more tt (mark-step w2 s2 again) (more tt ends (here tt)))))))
 
@@ -152,11 +157,11 @@ module _ (g : Given) (h : LinksToItself g) where
       ∙ sym (lastAt-append (g .window .base + q) (s1 .sent) (s2 .sent) _)
       ∙ ap (λ (ss : List _). lastAt (g .window .base + q) (s1 .sent ++ ss) (getD (g .memory) q 0)) (sym (append-nil (s2 .sent)))
 
-  outcome : RanTwice g (ranAs (g .used) (resting g) report) (end .memory) (end .records)
+  outcome : RanTwice g (ranAs (g .used) (resting StreamToMemory g) report) (end .memory) (end .records)
   outcome =
       let one = carries .0 .there in
       let two = carries .1 .0 .there in
-      let all-taken : takenSince (resting g) end ≡ given (twice g) =
+      let all-taken : takenSince (resting StreamToMemory g) end ≡ given (twice g) =
       omega (arith, length-drop (s1 .taken) (g .beats), length-drop (s2 .taken) (w2 .input)) in
       record {
         reason = refl;
@@ -175,6 +180,6 @@ module _ (g : Given) (h : LinksToItself g) where
 
 pub runs-twice : RunsTwice
 runs-twice g h budget k =
-    subst⁻¹ (λ (w : World). RanTwice g (ranAs (g .used) w (run budget w)) (run budget w .world .memory) (run budget w .world .records)) (starts g (h .run-set))
-    (subst⁻¹ (λ (r : Report). RanTwice g (ranAs (g .used) (resting g) r) (r .world .memory) (r .world .records))
+    subst⁻¹ (λ (w : World). RanTwice g (ranAs (g .used) w (run budget w)) (run budget w .world .memory) (run budget w .world .records)) (starts StreamToMemory g (h .run-set))
+    (subst⁻¹ (λ (r : Report). RanTwice g (ranAs (g .used) (resting StreamToMemory g) r) (r .world .memory) (r .world .records))
     (run-to-end (way g h) (stops g h) budget k) (outcome g h))

@@ -22,6 +22,7 @@ use Rattle.machine.specs.Laws.{Along, here, more}
 use Rattle.machine.proofs.RunLaws.{join, along-map, along-last}
 use Rattle.links.specs.Form.{All, Pairwise, Link, linkAt, Off, Apart}
 use Rattle.chain.specs.Chain.{Share, given, cost, recordOf, recordsOf, Sent, sentByAll, Done}
+use Rattle.chain.specs.Modes.{madeByAll}
 use Rattle.chain.proofs.Lists.{all-map, all-map2, all-left, all-right, all-drop, all-swap, linksOf, all-linked}
 use Rattle.chain.proofs.Memory.{Placed, placed, part-ext, says-same, raw-same, lastAt, lastAt-append}
 use Rattle.chain.proofs.Links.{Chain, chain-same, chain-owned}
@@ -49,11 +50,6 @@ pub record AtChain (w : World) (ss : List Share) (e : Link) : Type 0 where
   pub outside : All (λ s. All (λ l. Off l (s .to)) (linksOf ss ++ e ∷ [])) (sentByAll ss)
   pub sees : SeesMemory w
   pub ready : Ready w ss
-
--- the beats made, in order
-abbrev pub madeByAll : List Share → List ℕ
-madeByAll [] = []
-madeByAll (s ∷ ss) = s .made ++ madeByAll ss
 
 -- and what comes of it: the world at the end, the steps there, and what holds of each world on the way
 pub record Walked (w : World) (ss : List Share) (e : Link) : Type 0 where

@@ -14,6 +14,7 @@ use Rattle.bus.specs.Window.{inWindow, placeOf}
 use Rattle.descriptor.specs.declared.Descriptor.{Descriptor}
 use Rattle.descriptor.specs.Layout.{writeFixed, owned, lastFour}
 use Rattle.links.specs.Form.{All, Link, linkAt, linksFrom, linkAfter, everyFrom, Off, Form}
+use Rattle.regs.specs.declared.Mode.{Mode}
 use Rattle.regs.specs.declared.Mode.the-variants.{StreamToMemory}
 use Rattle.regs.specs.Control as register
 use Rattle.ledger.specs.declared.Entry.{Entry}
@@ -43,13 +44,20 @@ pub record Given : Type 0 where
   pub left : ℕ
   pub k : ℕ
 
--- "a fresh machine in stream-to-memory mode, its pointer set, then" control written: next_descriptor_pointer is at 8, control at 4
-abbrev pub machineFor : Given → Machine
-machineFor g = writtenTo (writtenTo (fresh StreamToMemory (g .window)) 8 (g .pointer)) 4 (g .control)
+-- a fresh machine in a mode, "its pointer set, then" control written: next_descriptor_pointer is at 8, control at 4
+abbrev pub startedIn : Mode → Given → Machine
+startedIn mode g = writtenTo (writtenTo (fresh mode (g .window)) 8 (g .pointer)) 4 (g .control)
 
 -- where the one run is made
+abbrev pub worldIn : Mode → Given → World
+worldIn mode g = opened (startedIn mode g) (g .memory) (g .beats) (g .room) (g .left)
+
+-- "a fresh machine in stream-to-memory mode"
+abbrev pub machineFor : Given → Machine
+machineFor g = startedIn StreamToMemory g
+
 abbrev pub worldFor : Given → World
-worldFor g = opened (machineFor g) (g .memory) (g .beats) (g .room) (g .left)
+worldFor g = worldIn StreamToMemory g
 
 -- ---- the chain in memory
 
@@ -207,17 +215,30 @@ pub record FirstFew (window : Window) (before : List ℕ) (ss : List Share) (mem
   pub done : All (Done window memory) (take few ss)
   pub waiting : All (Waiting window before memory) (drop few ss)
 
--- "After every step": with every budget
-pub record AtEveryStep (g : Given) : Type 0 where
-  pub first-few : (budget : ℕ) → FirstFew (g .window) (g .memory) (shares g) (run budget (worldFor g) .world .memory)
+-- "After every step": with every budget, from the world w on, of the shares ss
+pub record EveryStep (g : Given) (w : World) (ss : List Share) : Type 0 where
+  pub first-few : (budget : ℕ) → FirstFew (g .window) (g .memory) ss (run budget w .world .memory)
   -- and a budget that is not enough is spent: there is a world after each of these steps
-  pub spent : (budget : ℕ) → budget < 2 + cost (shares g)
-      → (run budget (worldFor g) .steps ≡ budget) × (run budget (worldFor g) .reason ≡ Budget)
+  pub spent : (budget : ℕ) → budget < 2 + cost ss → (run budget w .steps ≡ budget) × (run budget w .reason ≡ Budget)
+
+abbrev pub AtEveryStep : Given → Type 0
+AtEveryStep g = EveryStep g (worldFor g) (shares g)
 
 -- the counts that the descriptors hold, summed
 abbrev pub counts : Window → List ℕ → List Link → ℕ
 counts window memory [] = 0
 counts window memory (l ∷ ls) = linkAt window memory (l .at) .says .actual + counts window memory ls
+
+-- "each landing place holds the last byte sent there"
+abbrev pub LastSent : Window → List Sent → (memory : List ℕ) → Type 0
+LastSent window ss memory = (before after : List Sent) (s : Sent) → ss ≡ before ++ s ∷ after → All (λ later. later .to ≢ s .to) after
+    → getD memory (placeOf window (s .to)) 0 ≡ s .byte
+
+-- "outside those places and the descriptors' last four bytes no byte of memory differs"
+abbrev pub SameElsewhere : Window → List Sent → List Link → (before memory : List ℕ) → Type 0
+SameElsewhere window ss ls before memory = (place : ℕ) → All (λ s. s .to ≢ window .base + place) ss
+    → All (λ l. (j : ℕ) → j < 4 → window .base + place ≢ l .at + (28 + j)) ls
+    → getD memory place 0 ≡ getD before place 0
 
 -- what a run with budget enough tells, and the window's bytes after it
 pub record Outcome (g : Given) (ran : Ran) (memory : List ℕ) : Type 0 where
@@ -229,12 +250,9 @@ pub record Outcome (g : Given) (ran : Ran) (memory : List ℕ) : Type 0 where
   -- "the counts sum to the bytes taken"
   pub sum : counts (g .window) memory (links g) ≡ ran .taken
   -- "each landing place holds the last byte sent there"
-  pub landed : (before after : List Sent) (s : Sent) → sent g ≡ before ++ s ∷ after → All (λ later. later .to ≢ s .to) after
-      → getD memory (placeOf (g .window) (s .to)) 0 ≡ s .byte
+  pub landed : LastSent (g .window) (sent g) memory
   -- "outside those places and the descriptors' last four bytes no byte of memory differs"
-  pub frame : (place : ℕ) → All (λ s. s .to ≢ g .window .base + place) (sent g)
-      → All (λ l. (j : ℕ) → j < 4 → g .window .base + place ≢ l .at + (28 + j)) (links g)
-      → getD memory place 0 ≡ getD (g .memory) place 0
+  pub frame : SameElsewhere (g .window) (sent g) (links g) (g .memory) memory
   pub size : length memory ≡ length (g .memory)
   -- the beats taken are those given, none is made, and the pointer is at the chain's end
   pub taken : ran .taken ≡ given (shares g)

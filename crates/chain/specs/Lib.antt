@@ -1,4 +1,5 @@
 pub mod Chain
+pub mod Modes
 pub mod Calls
 pub mod Known
 pub mod Enough

@@ -5,16 +5,16 @@ use Prim.Native.Nat.{ℕ, _+_, _%_, _≤_, _<_}
 use mathlib.Core.Path.{_≡_}
 use mathlib.Core.Logic.{_≢_}
 use mathlib.Core.Bool.{true, false}
-use mathlib.Core.List.{List, [], _∷_, _++_}
+use mathlib.Core.List.{List, [], _∷_}
 use lib.ListN.{length, getD, drop}
-use Rattle.bus.specs.Window.{inWindow, placeOf}
+use Rattle.bus.specs.Window.{inWindow}
 use Rattle.descriptor.specs.Layout.{owned}
 use Rattle.regs.specs.Control as register
 use Rattle.ledger.specs.declared.Entry.{Entry}
 use Rattle.machine.specs.declared.Reason.the-variants.{Ended}
 use Rattle.machine.specs.declared.Ran.{Ran}
 use Rattle.links.specs.Form.{All, Link, linkAt, Off}
-use Rattle.chain.specs.Chain.{Given, Sent, Share, given, cost, sentByAll, recordsOf, shareOf, sharesOf, Enough, Done}
+use Rattle.chain.specs.Chain.{Given, Share, given, cost, sentByAll, recordsOf, shareOf, sharesOf, Enough, Done, LastSent}
 
 -- the descriptor at the pointer
 abbrev pub itself : Given → Link
@@ -59,8 +59,7 @@ pub record RanTwice (g : Given) (ran : Ran) (memory : List ℕ) (noted : List En
   pub done : Done (g .window) memory (second g)
   pub pointer : ran .machine .core .pointer .0 ≡ g .pointer
   -- each landing place holds the last byte sent there; outside those places and its last four bytes no byte of memory differs
-  pub landed : (before after : List Sent) (s : Sent) → sentByAll (twice g) ≡ before ++ s ∷ after → All (λ later. later .to ≢ s .to) after
-      → getD memory (placeOf (g .window) (s .to)) 0 ≡ s .byte
+  pub landed : LastSent (g .window) (sentByAll (twice g)) memory
   pub frame : (place : ℕ) → All (λ s. s .to ≢ g .window .base + place) (sentByAll (twice g))
       → ((j : ℕ) → j < 4 → g .window .base + place ≢ g .pointer + (28 + j)) → getD memory place 0 ≡ getD (g .memory) place 0
   pub size : length memory ≡ length (g .memory)

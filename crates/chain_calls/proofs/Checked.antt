@@ -24,7 +24,7 @@ use Rattle.links.proofs.Meaning.{sound-exactly, stops-at-most}
 use Rattle.chain.proofs.Lists.{all-right}
 use Rattle.chain.proofs.Memory.{placed}
 use Rattle.chain_calls.specs.Theorems.{CheckedRuns}
-use Rattle.chain_calls.proofs.OfCalls.{chain-of-calls}
+use Rattle.chain_calls.proofs.OfDemand.{chain-of-calls}
 
 -- ---- the answer, read back
 

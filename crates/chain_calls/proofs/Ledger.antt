@@ -35,15 +35,18 @@ use Rattle.ledger.specs.declared.Finding.{Finding}
 use Rattle.ledger.specs.declared.Finding.the-variants.{Found}
 use Rattle.ledger.specs.Finding.{findingIn, findingNumber}
 use Rattle.answers.specs.Answers.{findingBytes}
-use Rattle.chain.specs.Chain.{shares}
+use Rattle.chain.specs.Chain.{Given}
+use Rattle.chain.specs.Modes.{sharesIn}
 use Rattle.chain.proofs.Lists.{all-map}
+use Rattle.chain.proofs.Demand.{same-shares, premises, same-cost}
 use Rattle.chain.proofs.Found.{each-in}
 use Rattle.chain_calls.specs.InC.{RunLent, RunLeft, Promised, givenIn}
 use Rattle.chain_calls.specs.Told.{takenTold, usedTold}
 use Rattle.chain_calls.specs.Useless.{InBytes}
 use Rattle.chain_calls.specs.Ledger.{OneEachInC, SessionInC, begins, written, ran}
-use Rattle.chain_calls.specs.Theorems.{OneRecordEachInC, SessionAddsInC, EachFoundInC}
-use Rattle.chain_calls.proofs.OfCalls.{loads-as, written-over, chain-of-calls}
+use Rattle.chain_calls.specs.Theorems.{OneRecordEachInC, SessionAddsInC, AllFindable, EachFoundInC, EachFoundInEachMode}
+use Rattle.chain_calls.proofs.OfCalls.{loads-as, written-over}
+use Rattle.chain_calls.proofs.InEachMode.{of-calls-in-each-mode}
 use Rattle.chain_calls.proofs.Done as done
 use Rattle.chain_calls.proofs.Images.{limits-kept}
 
@@ -164,8 +167,14 @@ found-by-call ledger used run address count answer size e r answer' f =
     let call : findCall ledger used run address answer ≡ Found count = rw (eq-eqb (length answer) 4 size) e in
     (f .number ∙ ap findingNumber call, f .answer-after ∙ ap (λ (x : Finding). findingOver x answer) call)
 
+pub each-found-in-each-mode : EachFoundInEachMode
+each-found-in-each-mode mode l created pointed started left k c w h n answer size =
+    let found = of-calls-in-each-mode mode l created pointed started left k c w h n in
+    all-map (λ s e. found-by-call (left .back .ledger) (l .lent .used + k) 1 (s .link .at) (s .count) answer size e) (sharesIn mode (givenIn l k))
+    (each-in mode (l .window) (l .pointer) (l .control) (l .lent) k h (w .limits) (w .is-ledger) (w .beat-bytes) (found .ledger))
+
 pub each-found-in-c : EachFoundInC
-each-found-in-c l created pointed started left k c w h n answer size =
-    let found = chain-of-calls l created pointed started left k c w h n in
-    all-map (λ s e. found-by-call (left .back .ledger) (l .lent .used + k) 1 (s .link .at) (s .count) answer size e) (shares (givenIn l k))
-    (each-in (l .window) (l .pointer) (l .control) (l .lent) k h (w .limits) (w .is-ledger) (w .beat-bytes) (found .ledger))
+each-found-in-c l created pointed started left k c w h n =
+    let g : Given = givenIn l k in
+    subst (AllFindable l left k) (same-shares g)
+    (each-found-in-each-mode StreamToMemory l created pointed started left k c w (premises g h) (same-cost g n))

@@ -1,4 +1,6 @@
 pub mod OfCalls
+pub mod InEachMode
+pub mod OfDemand
 pub mod Instances
 pub mod NoneUseless
 pub mod Refused

@@ -12,13 +12,16 @@ use Rattle.machine.specs.Saved.{fieldsOf, tailOf, WasLoaded}
 use Rattle.ledger.specs.Records.{capacity}
 use Rattle.machine.proofs.Answers.{was-loaded}
 use Rattle.met.proofs.RoundTrip.{loaded-typed, loads-exactly}
+use Rattle.chain.specs.Chain.{sent}
 use Rattle.chain.specs.Known.{known, three}
+use Rattle.chain.proofs.Demand.{premises, same-cost}
 use Rattle.chain.proofs.Instances.{known-run-1, chain-of-three, landed-nth}
 use Rattle.chain_calls.specs.InC.{RunLent, Found}
 use Rattle.chain_calls.specs.Useless.{Model, Keeps, NotRefused}
 use Rattle.chain_calls.specs.Known.{lends, lentTo}
 use Rattle.chain_calls.specs.Theorems.{HonestKeeps, RefuserFails, FixedFails, NeverMovingFails, MarkerFails, MadeUpFails, UnrecordedFails}
-use Rattle.chain_calls.proofs.OfCalls.{run-not-refused, run-finds}
+use Rattle.chain_calls.proofs.InEachMode.{run-not-refused, run-finds}
+use Rattle.chain_calls.proofs.OfDemand.{found-in-its-words}
 use Rattle.chain_calls.proofs.Done.{Accepted, LeftBy, left-by}
 use Rattle.chain_calls.proofs.Instances.{in-bytes, known-lent, three-lent}
 
@@ -32,20 +35,24 @@ honest-keeps x b = record { number = refl; image-after = refl; back = refl; repo
 module _ (f : Model) (k : Keeps f) where
   known-found : Found known (lends known) (f (lentTo known))
   unfolding descriptorAt bytesFor capacity
-  known-found = run-finds 1 known-lent (known-run-1 .meets) (k (lentTo known) (in-bytes known (known-run-1 .meets) (omega arith))) (omega arith)
+  known-found =
+      found-in-its-words known (lends known) (f (lentTo known))
+      (run-finds 1 known-lent (premises known (known-run-1 .meets)) (k (lentTo known) (in-bytes known (known-run-1 .meets) (omega arith))) (same-cost known (omega arith)))
 
   three-found : Found three (lends three) (f (lentTo three))
   unfolding descriptorAt bytesFor capacity
-  three-found = run-finds 3 three-lent (chain-of-three .meets) (k (lentTo three) (in-bytes three (chain-of-three .meets) (omega arith))) (omega arith)
+  three-found =
+      found-in-its-words three (lends three) (f (lentTo three))
+      (run-finds 3 three-lent (premises three (chain-of-three .meets)) (k (lentTo three) (in-bytes three (chain-of-three .meets) (omega arith))) (same-cost three (omega arith)))
 
   -- and neither is refused
   known-done : f (lentTo known) .number ≡ 0
   unfolding capacity
-  known-done = run-not-refused 1 known-lent (known-run-1 .meets) (k (lentTo known) (in-bytes known (known-run-1 .meets) (omega arith)))
+  known-done = run-not-refused 1 known-lent (premises known (known-run-1 .meets)) (k (lentTo known) (in-bytes known (known-run-1 .meets) (omega arith)))
 
   three-done : f (lentTo three) .number ≡ 0
   unfolding descriptorAt bytesFor capacity
-  three-done = run-not-refused 3 three-lent (chain-of-three .meets) (k (lentTo three) (in-bytes three (chain-of-three .meets) (omega arith)))
+  three-done = run-not-refused 3 three-lent (premises three (chain-of-three .meets)) (k (lentTo three) (in-bytes three (chain-of-three .meets) (omega arith)))
 
 -- ---- the models
 
@@ -65,7 +72,7 @@ fixed-fails f e k =
 pub never-moving-fails : NeverMovingFails
 unfolding descriptorAt bytesFor capacity
 never-moving-fails f n k =
-    let landed : getD (f (lentTo known) .back .window) 128 0 ≡ 0x11 = landed-nth (known-found f k .outcome) 0 (omega arith) refl in
+    let landed : getD (f (lentTo known) .back .window) 128 0 ≡ 0x11 = landed-nth (known .window) (sent known) (f (lentTo known) .back .window) (known-found f k .outcome .landed) 0 (omega arith) refl in
     let z : _≡_ {A = ℕ} 0x11 0 = sym landed ∙ ap (λ (m : List ℕ). getD m 128 0) (n (lentTo known)) in
     omega arith
 
@@ -73,7 +80,7 @@ never-moving-fails f n k =
 pub marker-fails : MarkerFails
 unfolding descriptorAt bytesFor capacity
 marker-fails f o k =
-    let landed : getD (f (lentTo three) .back .window) 131 0 ≡ 0x55 = landed-nth (three-found f k .outcome) 4 (omega arith) refl in
+    let landed : getD (f (lentTo three) .back .window) 131 0 ≡ 0x55 = landed-nth (three .window) (sent three) (f (lentTo three) .back .window) (three-found f k .outcome .landed) 4 (omega arith) refl in
     let kept = o (lends three) 3 three-lent (chain-of-three .meets) 131
     (λ e. omega arith, (λ e. omega arith, (λ e. omega arith, tt)))
     (λ j a e. omega arith, (λ j a e. omega arith, (λ j a e. omega arith, tt))) in

@@ -7,6 +7,8 @@ use mathlib.Core.List.{List}
 use lib.ListN.{length}
 use Rattle.words.specs.Promise.{Answers}
 use Rattle.descriptor.specs.declared.Job.{Job}
+use Rattle.regs.specs.declared.Mode.{Mode}
+use Rattle.regs.specs.declared.Mode.the-variants.{MemoryToMemory, MemoryToStream}
 use Rattle.ledger.specs.declared.Entry.{Entry}
 use Rattle.image.specs.Editions.{ImageMoved}
 use Rattle.links.specs.Calls.{ChainChecked, ChainMended}
@@ -17,14 +19,15 @@ use Rattle.machine.specs.Run.{Lent, Returned, asLent}
 use Rattle.answers.specs.Answers.{findingBytes}
 use Rattle.links.specs.Form.{All, Form}
 use Rattle.links.specs.Verdicts.{stop}
-use Rattle.links.specs.Calls.{stopBytes, ChainChecked}
-use Rattle.chain.specs.Chain.{last, shares, cost, Premises}
-use Rattle.chain.specs.Known.{known}
+use Rattle.links.specs.Calls.{stopBytes}
+use Rattle.chain.specs.Chain.{Share, last, shares, cost, Premises}
+use Rattle.chain.specs.Modes.{sharesIn, PremisesIn, Separate, CopiedAsHeld}
+use Rattle.chain.specs.Known.{known, copier, sender}
 use Rattle.sgdma.specs.Calls.{Created, RegisterRead, RegisterWritten, LineRead, RunMade, DescriptorBuilt, DescriptorRead, RecordFound}
 use Rattle.timer.specs.Calls.{TimerCreated, TimerRead, TimerWritten, TimerLine, TimerRan, TimerElapsed}
 use Rattle.vic.specs.Calls.{portNumber, VicCreated, VicChosen}
-use Rattle.chain_calls.specs.InC.{RunLent, RunLeft, Promised, Lends, WellLent, givenIn, Called, AllDone, Found, FoundAtEveryStep}
-use Rattle.chain_calls.specs.Known.{lends, knownLeft}
+use Rattle.chain_calls.specs.InC.{RunLent, RunLeft, Promised, Lends, WellLent, givenIn, CalledIn, Called, AllDone, FoundIn, Found, BeatsLeft, FoundAtEveryStepIn, FoundAtEveryStep}
+use Rattle.chain_calls.specs.Known.{lends, knownLeft, copierLeft, senderLeft}
 use Rattle.chain_calls.specs.Refused.{FirstThatApplies, WhereRefused}
 use Rattle.chain_calls.specs.Refused.{createTests, readTests, writeTests, lineTests, runTests, buildTests, descriptorTests, findTests, moveTests, checkTests, mendTests, vicCreateTests, vicPortTests, vicChooseTests}
 use Rattle.chain_calls.specs.Refused.{timerCreateTests, timerReadTests, timerWriteTests, timerValueTests, timerElapsedTests}
@@ -228,18 +231,70 @@ abbrev pub ChainOfCallsAtEveryStep : Type 0
 ChainOfCallsAtEveryStep = (l : Lends) (created pointed started : ℕ) (left : RunLeft) (k : ℕ)
     → Called l created pointed started left → WellLent l → Premises (givenIn l k) → FoundAtEveryStep (givenIn l k) l left
 
+-- sgdma_find_record finds the descriptor of each share in run 1, with its count, among what was used and k more
+abbrev pub AllFindable : Lends → RunLeft → (k : ℕ) → List Share → Type 0
+AllFindable l left k ss = (answer : List ℕ) → length answer ≡ 4
+    → All (λ s. (r : ℕ) (answer' : List ℕ) → RecordFound (left .back .ledger) (l .lent .used + k) 1 (s .link .at) answer r answer'
+    → (r ≡ 0) × (answer' ≡ findingBytes true (s .count))) ss
+
 -- Order 6: and sgdma_find_record then finds each of the k in run 1, with its count.
 abbrev pub EachFoundInC : Type 0
 EachFoundInC = (l : Lends) (created pointed started : ℕ) (left : RunLeft) (k : ℕ)
     → Called l created pointed started left → WellLent l → Premises (givenIn l k) → 2 + cost (shares (givenIn l k)) ≤ l .budget
-    → (answer : List ℕ) → length answer ≡ 4
-    → All (λ s. (r : ℕ) (answer' : List ℕ) → RecordFound (left .back .ledger) (l .lent .used + k) 1 (s .link .at) answer r answer'
-    → (r ≡ 0) × (answer' ≡ findingBytes true (s .count))) (shares (givenIn l k))
+    → AllFindable l left k (shares (givenIn l k))
+
+-- ---- order 10 of the C calls: the same in each mode
+
+-- Every number that they give back is 0.
+abbrev pub NoneRefusedInEachMode : Type 0
+NoneRefusedInEachMode = (mode : Mode) (l : Lends) (created pointed started : ℕ) (left : RunLeft) (k : ℕ)
+    → CalledIn mode l created pointed started left → WellLent l → PremisesIn mode (givenIn l k) → AllDone created pointed started left
+
+-- With budget enough: every lent byte after them.
+abbrev pub OfCallsInEachMode : Type 0
+OfCallsInEachMode = (mode : Mode) (l : Lends) (created pointed started : ℕ) (left : RunLeft) (k : ℕ)
+    → CalledIn mode l created pointed started left → WellLent l → PremisesIn mode (givenIn l k) → 2 + cost (sharesIn mode (givenIn l k)) ≤ l .budget
+    → FoundIn mode (givenIn l k) l left
+
+-- With any budget: after every step.
+abbrev pub OfCallsInEachModeAtEveryStep : Type 0
+OfCallsInEachModeAtEveryStep = (mode : Mode) (l : Lends) (created pointed started : ℕ) (left : RunLeft) (k : ℕ)
+    → CalledIn mode l created pointed started left → WellLent l → PremisesIn mode (givenIn l k) → FoundAtEveryStepIn mode (givenIn l k) l left
+
+-- What a user reads of the copier, and of a stream made.
+abbrev pub CopiesWhatWasHeldInC : Type 0
+CopiesWhatWasHeldInC = (l : Lends) (created pointed started : ℕ) (left : RunLeft) (k : ℕ)
+    → CalledIn MemoryToMemory l created pointed started left → WellLent l
+    → let g = givenIn l k in
+    PremisesIn MemoryToMemory g → Separate g → 2 + cost (sharesIn MemoryToMemory g) ≤ l .budget → CopiedAsHeld g (left .back .window)
+
+abbrev pub SendsTheseBeatsInC : Type 0
+SendsTheseBeatsInC = (l : Lends) (created pointed started : ℕ) (left : RunLeft) (k : ℕ)
+    → CalledIn MemoryToStream l created pointed started left → WellLent l
+    → let g = givenIn l k in
+    PremisesIn MemoryToStream g → 2 + cost (sharesIn MemoryToStream g) ≤ l .budget → BeatsLeft g l left
+
+-- And sgdma_find_record then finds each of the k in run 1, with its count.
+abbrev pub EachFoundInEachMode : Type 0
+EachFoundInEachMode = (mode : Mode) (l : Lends) (created pointed started : ℕ) (left : RunLeft) (k : ℕ)
+    → CalledIn mode l created pointed started left → WellLent l → PremisesIn mode (givenIn l k) → 2 + cost (sharesIn mode (givenIn l k)) ≤ l .budget
+    → AllFindable l left k (sharesIn mode (givenIn l k))
+
+-- ---- in numbers
 
 -- Known run 1 through the C calls: the numbers, all 85 bytes of the image, the window's 256, the report's 18, the ledger's 12.
 abbrev pub KnownRun1InC : Type 0
 KnownRun1InC = (created pointed started : ℕ) (left : RunLeft) → Called (lends known) created pointed started left
     → AllDone created pointed started left × (left ≡ knownLeft)
+
+-- The chain of copies through them in mode 0, and the chain of packets in mode 1: the same bytes.
+abbrev pub CopiesInC : Type 0
+CopiesInC = (created pointed started : ℕ) (left : RunLeft) → CalledIn MemoryToMemory (lends copier) created pointed started left
+    → AllDone created pointed started left × (left ≡ copierLeft)
+
+abbrev pub PacketsInC : Type 0
+PacketsInC = (created pointed started : ℕ) (left : RunLeft) → CalledIn MemoryToStream (lends sender) created pointed started left
+    → AllDone created pointed started left × (left ≡ senderLeft)
 
 -- ---- runs in a row
 

@@ -18,12 +18,16 @@ use Rattle.met.specs.Theorems.{LoadsExactly, SameField, SavedAgain, LoadsBack, 
 use Rattle.met.specs.Theorems.{OwesAtMost, OwesSteps, StandsThen, Obeys, RunsObey, ClearedByWrite, ObeysInRun, BoundIsMet}
 use Rattle.sums.specs.Theorems.{OneRecordEach, SessionAdds}
 use Rattle.chain.specs.Theorems.{ChainTheorem, ChainAtEveryStep, ChainRecords, BudgetExists, RunsTwice, SoundRuns, ChainOfRun, ChainOfRunAtEveryStep, EachFound, KnownRun1, ChainOfThree}
+use Rattle.chain.specs.Theorems.{InEachMode, InEachModeAtEveryStep, CopiesWhatWasHeld, SendsTheseBeats, BudgetExistsIn, OfRunInEachMode, OfRunInEachModeAtEveryStep, EachFoundIn}
+use Rattle.chain.specs.Theorems.{ChainOfCopies, ChainOfPackets}
 use Rattle.sgdma.specs.Calls.{CreatedUnique, RegisterReadUnique, RegisterWrittenUnique, LineReadUnique, RunMadeUnique, DescriptorBuiltUnique}
 use Rattle.sgdma.specs.Calls.{DescriptorReadUnique, RecordFoundUnique}
 use Rattle.chain_calls.specs.Theorems.{CreateInOrder, ReadInOrder, WriteInOrder, LineInOrder, RunInOrder, BuildInOrder, DescriptorInOrder, CreateUnchanged}
 use Rattle.chain_calls.specs.Theorems.{ReadUnchanged, WriteUnchanged, LineUnchanged, RunUnchanged, BuildUnchanged, DescriptorUnchanged, ImagesLoad}
 use Rattle.chain_calls.specs.Theorems.{NoneRefused, ChainOfCalls, ChainOfCallsAtEveryStep, KnownRun1InC, HonestKeeps, RefuserFails, FixedFails}
 use Rattle.chain_calls.specs.Theorems.{NeverMovingFails, MarkerFails, MadeUpFails, UnrecordedFails, TwoRunsAdd, OneRecordEachInC, SessionAddsInC, EachFoundInC, ObeysInC}
+use Rattle.chain_calls.specs.Theorems.{NoneRefusedInEachMode, OfCallsInEachMode, OfCallsInEachModeAtEveryStep, EachFoundInEachMode, CopiesInC, PacketsInC}
+use Rattle.chain_calls.specs.Theorems.{CopiesWhatWasHeldInC, SendsTheseBeatsInC}
 use Rattle.chain_calls.specs.Theorems.{VicCreateInOrder, VicPortInOrder, VicChooseInOrder, VicUnchanged}
 use Rattle.chain_calls.specs.Theorems.{MoveInOrder, MoveUnchanged, TimerInOrder, TimerUnchanged}
 use Rattle.chain_calls.specs.Theorems.{FindInOrder, FindUnchanged}
@@ -448,15 +452,15 @@ moves-hold = Rattle.image_rows.specs.Moves.moves-hold
 
 -- "With budget enough it stops after exactly 2 steps plus, for each of the k, its bytes and 2 more": all that holds at the end.
 pub chain-theorem : ChainTheorem
-chain-theorem = Rattle.chain.proofs.Theorem.chain-theorem
+chain-theorem = Rattle.chain.proofs.Demand.chain-theorem
 
 -- "After every step those of the k marked done are the first few of the chain, each with the count of bytes the stream gave it".
 pub chain-at-every-step : ChainAtEveryStep
-chain-at-every-step = Rattle.chain.proofs.Theorem.chain-at-every-step
+chain-at-every-step = Rattle.chain.proofs.Demand.chain-at-every-step
 
 -- The records made are those of the k, in order.
 pub chain-records : ChainRecords
-chain-records = Rattle.chain.proofs.Theorem.chain-records
+chain-records = Rattle.chain.proofs.Demand.chain-records
 
 -- A budget of 32 bits that is enough exists.
 pub budget-exists : BudgetExists
@@ -480,15 +484,15 @@ chain-of-run-at-every-step = Rattle.chain.proofs.OfRun.chain-of-run-at-every-st
 
 -- Every number that they give back is 0.
 pub none-refused : NoneRefused
-none-refused = Rattle.chain_calls.proofs.OfCalls.none-refused
+none-refused = Rattle.chain_calls.proofs.OfDemand.none-refused
 
 -- With budget enough that outcome, and every byte of the report, the image, the output and the ledger after them.
 pub chain-of-calls : ChainOfCalls
-chain-of-calls = Rattle.chain_calls.proofs.OfCalls.chain-of-calls
+chain-of-calls = Rattle.chain_calls.proofs.OfDemand.chain-of-calls
 
 -- With any budget those marked done are the first few, the image loads back, and a budget not enough is spent.
 pub chain-of-calls-at-every-step : ChainOfCallsAtEveryStep
-chain-of-calls-at-every-step = Rattle.chain_calls.proofs.OfCalls.chain-of-calls-at-every-step
+chain-of-calls-at-every-step = Rattle.chain_calls.proofs.OfDemand.chain-of-calls-at-every-step
 
 -- ---- its premises can be met
 
@@ -503,6 +507,87 @@ chain-of-three = Rattle.chain.proofs.Instances.chain-of-three
 -- Known run 1 through the C calls: the numbers, all 85 bytes of the image, the window's 256, the report's 18, the ledger's 12.
 pub known-run-1-in-c : KnownRun1InC
 known-run-1-in-c = Rattle.chain_calls.proofs.Instances.known-run-1-in-c
+
+-- ======== order 10: the same in each of the three modes, demand 3 being the stream-to-memory case
+
+-- ---- of the definitions
+
+-- With budget enough: "the count formula is the same", and all that holds at the end; the beats and the records made are those of the k.
+pub in-each-mode : InEachMode
+in-each-mode = Rattle.chain.proofs.Theorem.in-each-mode
+
+-- After every step those of the k marked done are the first few of the chain, each with its count.
+pub in-each-mode-at-every-step : InEachModeAtEveryStep
+in-each-mode-at-every-step = Rattle.chain.proofs.Theorem.in-each-mode-at-every-step
+
+-- From memory to memory, where no source is ever a destination, each byte sent is the one that memory held before the run.
+pub copies-what-was-held : CopiesWhatWasHeld
+copies-what-was-held = Rattle.chain.proofs.Users.copies-what-was-held
+
+-- From memory to stream: "exactly which beats come out", and memory is unchanged but for the descriptors' last four bytes.
+pub sends-these-beats : SendsTheseBeats
+sends-these-beats = Rattle.chain.proofs.Users.sends-these-beats
+
+-- A budget of 32 bits that is enough exists.
+pub budget-exists-in : BudgetExistsIn
+budget-exists-in = Rattle.chain.proofs.Enough.budget-exists-in
+
+-- ---- of the calls in Rattle
+
+-- With budget enough the run is done, with that outcome; the beats stand in front of the output, and the ledger holds the records of the k.
+pub of-run-in-each-mode : OfRunInEachMode
+of-run-in-each-mode = Rattle.chain.proofs.OfRun.of-run-in-each-mode
+
+-- With any budget those marked done are the first few.
+pub of-run-in-each-mode-at-every-step : OfRunInEachModeAtEveryStep
+of-run-in-each-mode-at-every-step = Rattle.chain.proofs.OfRun.of-run-in-each-mode-at-every-step
+
+-- Each of the k is found in run 1, with its count.
+pub each-found-in : EachFoundIn
+each-found-in = Rattle.chain.proofs.Found.each-found-in
+
+-- ---- of the C calls
+
+-- Every number that they give back is 0.
+pub none-refused-in-each-mode : NoneRefusedInEachMode
+none-refused-in-each-mode = Rattle.chain_calls.proofs.InEachMode.none-refused-in-each-mode
+
+-- With budget enough that outcome, and every byte of the report, the image, the output and the ledger after them.
+pub of-calls-in-each-mode : OfCallsInEachMode
+of-calls-in-each-mode = Rattle.chain_calls.proofs.InEachMode.of-calls-in-each-mode
+
+-- With any budget those marked done are the first few, the image loads back, and a budget not enough is spent.
+pub of-calls-in-each-mode-at-every-step : OfCallsInEachModeAtEveryStep
+of-calls-in-each-mode-at-every-step = Rattle.chain_calls.proofs.InEachMode.of-calls-in-each-mode-at-every-step
+
+-- From memory to memory, where no source is ever a destination: what memory held before the run.
+pub copies-what-was-held-in-c : CopiesWhatWasHeldInC
+copies-what-was-held-in-c = Rattle.chain_calls.proofs.InEachMode.copies-what-was-held-in-c
+
+-- From memory to stream: the bytes of exactly these beats in the lent output, and the window but for the descriptors' last four bytes.
+pub sends-these-beats-in-c : SendsTheseBeatsInC
+sends-these-beats-in-c = Rattle.chain_calls.proofs.InEachMode.sends-these-beats-in-c
+
+-- And sgdma_find_record finds each of the k in run 1, with its count.
+pub each-found-in-each-mode : EachFoundInEachMode
+each-found-in-each-mode = Rattle.chain_calls.proofs.Ledger.each-found-in-each-mode
+
+-- ---- its premises can be met
+
+-- From memory to memory: a copy onto itself, and a fixed source that the first has written; in numbers.
+pub chain-of-copies : ChainOfCopies
+chain-of-copies = Rattle.chain.proofs.InModes.chain-of-copies
+
+-- From memory to stream: a packet of three beats, one of one, and two beats that begin and end none; in numbers.
+pub chain-of-packets : ChainOfPackets
+chain-of-packets = Rattle.chain.proofs.InModes.chain-of-packets
+
+-- The chain of copies and the chain of packets through the C calls: the numbers, and every lent byte.
+pub copies-in-c : CopiesInC
+copies-in-c = Rattle.chain_calls.proofs.Instances.copies-in-c
+
+pub packets-in-c : PacketsInC
+packets-in-c = Rattle.chain_calls.proofs.Instances.packets-in-c
 
 -- ---- order 6: the dated ledger
 
