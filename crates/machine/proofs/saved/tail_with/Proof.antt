@@ -6,7 +6,6 @@ use borrow.Author.Needs.{needs}
 use Rattle.machine.proofs.saved.tail_with.Statement.{statement}
 use Rattle.machine.proofs.saved.tail_with.Tie as tie
 
--- /work/wt-ahead/target/rlib/descriptor.rlib/interface/lang/src/lib.rt:19:24
 enum-told : tie.Need-enum-told
 enum-told c = search needs
 
