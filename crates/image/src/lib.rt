@@ -18,6 +18,7 @@ ghost use Rattle.image.specs.Helpers.InWords.{ofWords};
 ghost use Rattle.image.specs.Rules.{working, zeroOutside, phaseKept, faultKept, statusKept, controlKept, addressKept, sizeKept, dcontrolKept, errorsKept, asked, movedKept, eopKept, rules, firstFalse, lowestBroken, keepsRules};
 ghost use Rattle.image.specs.Helpers.WasPut.{fits, ImageWasPut};
 ghost use Rattle.image.specs.Promise.{ImageWasRead, Wrote};
+use crate::moves::broken_in;
 use bus::BusAddress;
 use bus::CheckedWindow;
 use bus::Refusal;
@@ -603,8 +604,8 @@ fn slot_kept_in(from: &[u8]) -> bool
     )
 }
 
-// Reads an image: its fields, where it has the right size and all of them keep the rules. Where they do not, a copy is looked at: that
-// the fields themselves are handed to `broken` would cost every good image their way through memory.
+// Reads an image: its fields, where it has the right size and all of them keep the rules. Where they do not, the field is told from the bytes,
+// which are read again: what that call is given is kept for it on the way of every good image too, and that is the slice alone.
 pub fn read(from: &[u8]) -> ReadImage
     ensures { λ r. ⌜ ImageWasRead (now (from .entry)) r ⌝ }
 {
@@ -614,8 +615,8 @@ pub fn read(from: &[u8]) -> ReadImage
     let f = unpack(from);
     let kept = core_kept(f) & slot_kept_in(from);
     if !kept {
-        let spoiled = f;
-        return ReadImage::Refused(Refusal::BadImage(broken(spoiled, tail_in(from))));
+        let spoiled = from;
+        return ReadImage::Refused(Refusal::BadImage(broken_in(EDITION, spoiled)));
     }
     ReadImage::Good(f)
 }

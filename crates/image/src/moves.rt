@@ -54,7 +54,7 @@ fn front(from: &[u8]) -> Fields
 
 // The lowest field that breaks a rule of its edition. But for the edition's number these are the rules of the latest, over fields of which
 // those that it lacks are zero.
-fn broken_in(edition: u8, from: &[u8]) -> u8
+pub(crate) fn broken_in(edition: u8, from: &[u8]) -> u8
     requires { ⌜ editionOf (now from) ≡ edition ⌝ }
     requires { ⌜ (edition ≡ 0 → ⊥) ⌝ }
     ensures { λ r. ⌜ r ≡ brokenIn (now (from .entry)) ⌝ }

@@ -1,6 +1,9 @@
 -- Where a run stands in the middle of what it is lent: what the loop keeps, and what it promises where it ends.
 -- Assumes nothing.
-use Prim.Native.Nat.{ℕ, _+_, _-_, _*_, _/_, _≤_}
+use Prim.Native.Nat.{ℕ, _+_, _-_, _*_, _/_, _≤_, _<_}
+use mathlib.Core.Bool.{Bool, true, false}
+use lib.Dec.{eqb}
+use borrow.Author.Tests.{eqb-true, eqb-false}
 use mathlib.Core.Path.{_≡_, refl, sym, ap, subst, subst⁻¹, _∙_}
 use mathlib.Core.List.{List, [], _∷_, _++_, append-nil}
 use native.Mathlib.Nat.{add-zero, sub-zero}
@@ -28,16 +31,18 @@ use Rattle.machine.specs.declared.Reason.{Reason}
 use Rattle.machine.specs.declared.Reason.the-variants as reason
 use Rattle.machine.specs.declared.RunAnswer.{RunAnswer}
 use Rattle.machine.specs.declared.RunAnswer.the-variants as many
+use Rattle.machine.specs.declared.steps.Wait.{Wait}
 use Rattle.machine.specs.declared.steps.Wait.the-variants.{Go, Stop}
 use Rattle.machine.specs.Step.{World, taken, noted, holding, entryFor, step}
 use Rattle.machine.specs.Run.{Report, run, Lent, Returned, back, asLent, Served, serves, refused, worldOf, outputOver, returned}
 use Rattle.machine.specs.Run.{ranAs, runAnswer, servedNumber, Runs}
 use Rattle.machine.specs.Helpers.Worlds.{worldAt, Within}
-use Rattle.machine.specs.Helpers.Waiting.{waitOf}
+use Rattle.machine.specs.Helpers.Waiting.{waitOf, haltOf}
 use Rattle.machine.specs.Helpers.Turns.{steps, Advances, Begun, Backs}
 use Rattle.machine.specs.Helpers.Resume.{Seated, Ready}
 use Rattle.machine.proofs.Streams.{beat-bytes-append, none-made}
 use Rattle.machine.proofs.Readiness.{steps-ready}
+use Rattle.machine.proofs.Waiting.{never-goes, halt-go}
 use Rattle.machine.proofs.AtWriteBack.{back-goes, appended-one}
 use Rattle.machine.proofs.Loop.{report, moreBy, run-stops, run-out, run-steps, more-none, more-more}
 use Rattle.machine.proofs.Outcomes.{took-since, over}
@@ -63,6 +68,11 @@ pub record Stands (m₀ : Machine) (l : Lent) (budget : ℕ) (b : Returned) (m :
       ≡ moreBy count (run (budget - count)
       (worldAt (holding (noted (worldOf m₀ l) records (capacity (length (b .ledger)) - used)) (settled (m .phase) slot)) m (b .window) (l .beats) took output
       (length (b .out) / 2 - made)))
+
+-- why, where it ends
+abbrev why : Wait → Reason
+why (Stop r) = r
+why Go = reason.Budget
 
 -- what a phase leaves of a slot in place is in place
 settled-seated : (m : Core) (p : Phase) (slot : Slot) → Seated m slot → Seated m (settled p slot)
@@ -211,14 +221,36 @@ module _ (m₀ : Machine) (l : Lent) (budget : ℕ) where
         }
 
     -- where no step can be taken
-    pub stands-stopped : (r : Reason) → waitOf (step here) ≡ Stop r → Runs serves m₀ l budget (many.Done (ended r)) b
+    stands-stopped : (r : Reason) → waitOf (step here) ≡ Stop r → Runs serves m₀ l budget (many.Done (ended r)) b
     stands-stopped r f = ends r (run-stops (budget - count) here r f)
 
     -- where the budget is spent, and one can
-    pub stands-out : waitOf (step here) ≡ Go → budget ≡ count → Runs serves m₀ l budget (many.Done (ended reason.Budget)) b
+    stands-out : waitOf (step here) ≡ Go → budget ≡ count → Runs serves m₀ l budget (many.Done (ended reason.Budget)) b
     stands-out f k =
         let none : budget - count ≡ 0 = omega arith in
         ends reason.Budget (ap (λ (k : ℕ). run k here) none ∙ run-out here f)
+
+    -- in either case, by what the code asks
+    halted-by : (spent : Bool) (x : Wait) (r : Reason) → eqb budget count ≡ spent → waitOf (step here) ≡ x → haltOf spent x ≡ Stop r
+        → Runs serves m₀ l budget (many.Done (ended r)) b
+    halted-by spent (Stop q) r e f h = stands-stopped r (f ∙ h)
+    halted-by true Go r e f h =
+        subst (λ (x : Reason). Runs serves m₀ l budget (many.Done (ended x)) b) (ap why h) (stands-out f (eqb-true _ _ e))
+    halted-by false Go r e f h = absurd (never-goes (sym h))
+
+    pub stands-halted : {r : Reason} {m' : Machine} {a : Ran} → haltOf (eqb budget count) (waitOf (step here)) ≡ Stop r
+        → m' ≡ machineWith m slot (m₀ .run) → a ≡ record { machine = m'; reason = r; steps = count; taken = took; made = made; used = used }
+        → Runs serves m₀ l budget (many.Done a) b
+    stands-halted {r} h there tells =
+        subst⁻¹ (λ (a : Ran). Runs serves m₀ l budget (many.Done a) b)
+        (tells ∙ ap (λ (x : Machine). record { machine = x; reason = r; steps = count; taken = took; made = made; used = used }) there)
+        (halted-by (eqb budget count) (waitOf (step here)) r refl refl h)
+
+    -- and where it goes on
+    pub stands-going : haltOf (eqb budget count) (waitOf (step here)) ≡ Go → (waitOf (step here) ≡ Go) × (count < budget)
+    stands-going h =
+        let go = halt-go (eqb budget count) (waitOf (step here)) h in
+        (go .0, omega (arith, s .spent, eqb-false budget count (go .1)))
 
 -- what is lent serves, or it is refused
 pub run-served : {served : Served} {m : Machine} {l : Lent} {budget : ℕ} {r : RunAnswer} {b : Returned} → served ≡ serves

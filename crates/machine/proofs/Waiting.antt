@@ -18,6 +18,7 @@ use Rattle.regs.specs.declared.Mode.{Mode}
 use Rattle.regs.specs.declared.Mode.the-variants.{MemoryToMemory, MemoryToStream, StreamToMemory}
 use Rattle.regs.specs.Control.{run}
 use Rattle.flow.specs.Beats.{beatsIn}
+use Rattle.ledger.specs.Records.{capacity}
 use Rattle.machine.specs.declared.Reason.{Reason}
 use Rattle.machine.specs.declared.Reason.the-variants as reason
 use Rattle.machine.specs.declared.Core.{Core}
@@ -27,7 +28,7 @@ use Rattle.machine.specs.declared.steps.Wait.{Wait}
 use Rattle.machine.specs.declared.steps.Wait.the-variants.{Go, Stop}
 use Rattle.machine.specs.Step.{World, Answer, taken, stopped, settle, step, stepIn, restStep, seen, meets, fetchStep, fetched, wantsLength, copyStep, sendStep, sendTo, receiveFrom, moveStep, backTo, writeBackStep, sourceOf, destinationOf}
 use Rattle.machine.specs.Helpers.Worlds.{midway}
-use Rattle.machine.specs.Helpers.Waiting.{waitOf, some, Waits, Goes}
+use Rattle.machine.specs.Helpers.Waiting.{waitOf, some, Waits, Goes, haltOf, Halts}
 use Rattle.machine.proofs.Streams.{some-beat, some-room}
 
 -- an answer that is a step; a choice of two of them is one
@@ -166,3 +167,17 @@ pub waits-at : (m : Core) (window beats : List ℕ) (took : ℕ) (out : List ℕ
     → waitOf (step (midway w m window beats took out made)) ≡ r
 waits-at m window beats took out made f w e =
     sym (f (midway w m window beats took out made) (some-beat beats took) (some-room (length out / 2) made) e)
+
+-- why a run ends, by what its next step waits for
+pub halts-at : (m : Core) (beats : List ℕ) (took : ℕ) (out : List ℕ) (made : ℕ) (ledger : List ℕ) (used : ℕ) (spent : Bool) {keeps : Bool} {x r : Wait}
+    → Waits step m (ltb took (length beats / 2)) (ltb made (length out / 2)) keeps x → keeps ≡ ltb used (capacity (length ledger)) → r ≡ haltOf spent x
+    → Halts m beats took out made ledger used spent r
+halts-at m beats took out made ledger used spent f e h w window left =
+    let keeps = e ∙ some-room (capacity (length ledger)) used ∙ ap (ltb 0) (sym left) in
+    h ∙ ap (haltOf spent) (sym (waits-at m window beats took out made f w keeps))
+
+-- where it goes on a step can be taken, and the budget is not spent
+pub halt-go : (spent : Bool) (x : Wait) → haltOf spent x ≡ Go → (x ≡ Go) × (spent ≡ false)
+halt-go true Go e = absurd (never-goes e)
+halt-go false Go e = (refl, refl)
+halt-go spent (Stop r) e = absurd (never-goes e)

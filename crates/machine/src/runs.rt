@@ -8,7 +8,7 @@ ghost use Rattle.machine.specs.declared.RunAnswer.the-variants.{Done};
 ghost use Rattle.machine.specs.Step.{whole as wholeOf, onward as onwardOf, step as stepOf};
 ghost use Rattle.machine.specs.Run.{lent, back, serves, Runs, HasRun, Stepped};
 ghost use Rattle.machine.specs.Helpers.Worlds.{Within};
-ghost use Rattle.machine.specs.Helpers.Waiting.{Goes};
+ghost use Rattle.machine.specs.Helpers.Waiting.{Goes, Halts};
 ghost use Rattle.machine.specs.Helpers.Turns.{Advances};
 ghost use Rattle.machine.specs.Helpers.AtOnce.{movedBy};
 ghost use Rattle.machine.specs.Helpers.Resume.{RunsIf, Ready, Seated, readyOf, steppedIn};
@@ -129,6 +129,32 @@ impl Core {
     }
 }
 
+impl Core {
+    // Why a run ends here, if it does: what a step waits for, and else that the budget is spent.
+    fn halts(
+        self,
+        beats: &[u8],
+        taken: usize,
+        out: &[u8],
+        made: usize,
+        ledger: &[u8],
+        used: u32,
+        spent: bool,
+    ) -> Wait
+        ensures { λ r. ⌜ Halts self (now (beats .entry)) taken (now (out .entry)) made (now (ledger .entry)) used spent r ⌝ }
+    {
+        let room = has_room(ledger, used);
+        let wait = self.wait(taken < beats.len() / 2, made < out.len() / 2, room);
+        if let Wait::Stop(_) = wait {
+            return wait;
+        }
+        if spent {
+            return Wait::Stop(Reason::Budget);
+        }
+        Wait::Go
+    }
+}
+
 impl Machine {
     // A run that led to this machine, for this reason.
     fn ran(self, reason: Reason, steps: u32, taken: usize, made: usize, used: u32) -> Ran
@@ -169,13 +195,9 @@ impl Machine {
         let mut filled: u32 = used;
         let mut steps: u32 = 0;
         let reason = loop {
-            let room = has_room(ledger, filled);
-            let wait = core.wait(taken < beats.len() / 2, made < out.len() / 2, room);
-            if let Wait::Stop(why) = wait {
+            let halts = core.halts(beats, taken, out, made, ledger, filled, budget == steps);
+            if let Wait::Stop(why) = halts {
                 break why;
-            }
-            if steps == budget {
-                break Reason::Budget;
             }
             let phase = core.phase;
             if let Phase::Move(k) = phase {
@@ -198,7 +220,7 @@ impl Machine {
         Machine::of(core, slot, run).ran(reason, steps, taken, made, filled)
     }
 
-    // A run of a machine that is good, or not. Its answer is the reason found where it ended.
+    // A run of a machine that is good, or not. Its answer is the reason found where it ended. One that takes no step ends before the loop.
     fn run_if(
         self,
         good: bool,
@@ -219,7 +241,16 @@ impl Machine {
         if let Served::Refused(why) = answer {
             return RunAnswer::Refused(why);
         }
-        RunAnswer::Done(self.run_on(window, beats, out, ledger, used, budget))
+        let core = self.core;
+        let slot = self.slot;
+        let halts = core.halts(beats, 0, out, 0, ledger, used, budget == 0);
+        match halts {
+            Wait::Stop(why) => {
+                let here = Machine::of(core, slot, self.run);
+                RunAnswer::Done(here.ran(why, 0, 0, 0, used))
+            }
+            Wait::Go => RunAnswer::Done(self.run_on(window, beats, out, ledger, used, budget)),
+        }
     }
 
     pub fn run(

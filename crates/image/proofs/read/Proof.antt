@@ -5,6 +5,8 @@ use Rattle.image.specs.Rules.{keepsRules}
 use Rattle.image.specs.Helpers.ByPhase.{coreKept, slotKeptOf}
 use Rattle.image.proofs.Answers.{was-read, read-size, read-broken, read-good}
 use Rattle.image.proofs.ByPhase.{kept-in-parts}
+use Rattle.image.proofs.Editions.{edition-second, broken-second}
+use native.Mathlib.Omega.{arith}
 use borrow.Author.Tests.{not-true, not-false}
 use mathlib.Core.Bool.{Bool, _&&_}
 use Prim.Native.Nat.{ℕ}
@@ -31,16 +33,14 @@ core-kept-requires c κs = search needs
 slot-kept-in-requires : tie.Need-slot-kept-in-requires
 slot-kept-in-requires c κs = search needs
 
-tail-in-requires : tie.Need-tail-in-requires
-tail-in-requires c κs = search needs
-
-broken-requires : tie.Need-broken-requires
-broken-requires c κs = search needs
+broken-in-requires : tie.Need-broken-in-requires
+broken-in-requires c κs =
+    let sized = c .before .before .before .before in
+    (edition-second (sized .before .before .args .from .now) (sized .if1 .left), λ e. absurd (omega (arith, e)))
 
 returns-2 : tie.Need-returns-2
 returns-2 c =
-    let last = c .before in
-    let tested = last .before in
+    let tested = c .before in
     let slot = tested .before in
     let core = slot .before in
     let read = core .before in
@@ -49,7 +49,7 @@ returns-2 c =
     (sym
     (read-broken _ (read .before .if1 .left)
     (kept-is _ f (core .core-kept .ensures) (slot .slot-kept-in .ensures) ∙ not-true _ (tested .if2 .taken))
-    (c .broken .ensures .value ∙ rw (f, last .tail-in .ensures .value))))
+    (c .broken-in .ensures ∙ broken-second _ (read .before .if1 .left))))
 
 returns-3 : tie.Need-returns-3
 returns-3 c =
@@ -71,7 +71,6 @@ read-spec =
     unpack-requires
     core-kept-requires
     slot-kept-in-requires
-    tail-in-requires
-    broken-requires
+    broken-in-requires
     returns-2
     returns-3)
