@@ -1,4 +1,4 @@
--- The premises of order 10 can be met, and what is concluded there in numbers: a copy onto itself, and three packets.
+-- The premises of order 10 can be met, and what is concluded there in numbers: a copy onto itself, and six beats sent, with two packets among them.
 -- Assumes nothing.
 use Prim.Native.Nat.{ℕ, _≤_}
 use mathlib.Core.Path.{refl}

@@ -1,6 +1,7 @@
 -- Chains that meet the premises, and what is concluded there in numbers. From stream to memory: known run 1 of the paper; and a chain of
 -- three with an EOP in the second and a fixed destination in the third. From memory to memory: a copy onto itself, and a fixed source. From
--- memory to stream: three packets. That it holds of them is `known-run-1`, `chain-of-three`, `chain-of-copies` and `chain-of-packets`.
+-- memory to stream: a packet of three beats, one of one, and two beats that begin and end none. That it holds of them is `known-run-1`,
+-- `chain-of-three`, `chain-of-copies` and `chain-of-packets`.
 -- Assumes nothing.
 use Prim.Native.Nat.{ℕ}
 use mathlib.Core.Path.{_≡_}

@@ -50,8 +50,8 @@ abbrev pub first : List Test → ℕ
 first [] = 0
 first (t ∷ ts) = cond (t .applies) (told t) (first ts)
 
--- "First that applies: 7, 8, 9, 19, 18, 2, 3, 4, 1, 5, 6", with 15 "after 8"; then those of the timer: 16, 17, of the controller: 21, 22, and
--- of mending: 23
+-- "First that applies: 7, 8, 9, 2, 3, 4, 1, 5, 6", with 15 "after 8", 19 "after 9" and 18 "after 19"; then those of the timer: 16, 17, of the
+-- controller: 21, 22, and of mending: 23
 abbrev pub order : List ℕ
 order = 7 ∷ 8 ∷ 15 ∷ 9 ∷ 19 ∷ 18 ∷ 2 ∷ 3 ∷ 4 ∷ 1 ∷ 5 ∷ 6 ∷ 16 ∷ 17 ∷ 21 ∷ 22 ∷ 23 ∷ []
 

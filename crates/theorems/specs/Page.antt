@@ -1,7 +1,7 @@
 -- Begin here: what is proved of the core, on one page. Each theorem has the sentence that it carries, the name of its statement and, by
 -- its path, the term that proves it. A statement stands whole, with every premise, under its name in specs/Theorems.antt of its crate;
--- those of image_rows in its specs/Rows.antt and Moves.antt, and those of sgdma beside the promises, in its specs/Calls.antt. What else a reader
--- believes are the definitions that the statements use, all of them in specs/.
+-- those of image_rows in its specs/Rows.antt and Moves.antt, and those of uniqueness beside the promises, in specs/Calls.antt of sgdma, links
+-- and timer and specs/Promise.antt of words. What else a reader believes are the definitions that the statements use, all of them in specs/.
 -- Assumes nothing.
 use Rattle.words.specs.Promise.{AnswersUnique}
 use Rattle.words.specs.Theorems.{RecodeBack, FieldsPacked, RowBack, RowThere}
@@ -589,6 +589,8 @@ copies-in-c = Rattle.chain_calls.proofs.Instances.copies-in-c
 pub packets-in-c : PacketsInC
 packets-in-c = Rattle.chain_calls.proofs.Instances.packets-in-c
 
+-- ======== the other requests on the core
+
 -- ---- order 6: the dated ledger
 
 -- A write-back and a record are one: the records that a run adds are those of its WriteBack steps, in order, each with the run number, the
@@ -789,7 +791,7 @@ unrecorded-fails = Rattle.chain_calls.proofs.NoneUseless.unrecorded-fails
 -- ---- ticks
 
 -- "Show that a running continuous timer with stored period value P, not written to, reaches zero every P + 1 ticks and sets TO each time":
--- first after its counter's ticks, P = 0 included.
+-- first after its counter's ticks, or after P + 1 where the counter stands at 0; P = 0 included.
 pub reaches-every-period : ReachesEveryPeriod
 reaches-every-period = Rattle.timer.proofs.Periods.reaches-every-period
 
@@ -797,7 +799,8 @@ reaches-every-period = Rattle.timer.proofs.Periods.reaches-every-period
 pub ticks-set-to : TicksSetTO
 ticks-set-to = Rattle.timer.proofs.Periods.ticks-set-to
 
--- A running one-shot timer, not written to, reaches zero once, TO is set, and on the next tick it is loaded again and stands.
+-- A running one-shot timer, not written to, is at 0 after its counter's ticks, and on the next tick it is loaded again and stands. Where the
+-- counter was above 0, zero is reached then, TO is set and, the period being above 0, that is the only time; where both are 0, the load is.
 pub one-shot : OneShot
 one-shot = Rattle.timer.proofs.Periods.one-shot
 

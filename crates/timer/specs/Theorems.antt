@@ -65,8 +65,8 @@ pub record Periodic (t : Timer) : Type 0 where
   -- so many times in all
   pub count : (j r : ℕ) → r ≤ t .period → zerosIn (first t + j * (t .period + 1) + r) t ≡ suc j
 
--- A running continuous timer with stored period P, not written to, reaches zero after its counter's ticks and then every P + 1, and
--- sets TO each time (P = 0 included).
+-- A running continuous timer with stored period P, not written to, reaches zero after its counter's ticks, or after P + 1 where the counter
+-- stands at 0, and then every P + 1, and sets TO each time (P = 0 included).
 abbrev pub ReachesEveryPeriod : Type 0
 ReachesEveryPeriod = (t : Timer) → t .run ≡ true → t .cont ≡ true → Periodic t
 
@@ -85,7 +85,8 @@ pub record Once (t : Timer) : Type 0 where
   pub count : (n : ℕ) → 0 < t .counter → 0 < t .period → t .counter ≤ n → zerosIn n t ≡ 1
   pub count-zero : (n : ℕ) → t .counter ≡ 0 → t .period ≡ 0 → 0 < n → zerosIn n t ≡ 1
 
--- A running one-shot timer, not written to, reaches zero once, TO is set, and on the next tick it is loaded again and stands.
+-- A running one-shot timer, not written to, is at 0 after its counter's ticks, and on the next tick it is loaded again and stands. Where the
+-- counter was above 0, zero is reached then, TO is set and, the period being above 0, that is the only time; where both are 0, the load is.
 abbrev pub OneShot : Type 0
 OneShot = (t : Timer) → t .run ≡ true → t .cont ≡ false → Once t
 
