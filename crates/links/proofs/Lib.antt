@@ -3,6 +3,7 @@ pub mod Looks
 pub mod Placing
 pub mod Pigeons
 pub mod Meaning
+pub mod Bytes
 pub mod Turns
 pub mod Windows
 pub mod Telling

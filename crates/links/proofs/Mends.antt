@@ -26,6 +26,7 @@ use Rattle.links.specs.Mending.{controlPlace, changeOf, clearedAt, unown
 use Rattle.links.proofs.Looks.{next, ownedAt, addressAfter, seenAfter, after-is, Stands, Steady, AllOwned}
 use Rattle.links.proofs.Placing.{neither, In, in-is, steady-last, steady-more}
 use Rattle.links.proofs.Meaning.{still, after-at, steady-form, front-steady, sound-from}
+use Rattle.links.proofs.Bytes.{says-same}
 
 -- ---- one byte set
 
@@ -36,10 +37,6 @@ set-behind : (xs : List ℕ) (k x at n : ℕ) → at + n ≤ k → part (set xs 
 set-behind xs k x at n h =
     let i : k ≡ at + (k - at) = omega (arith, h) in
     ap (λ (j : ℕ). take n (drop at (set xs j x))) i ∙ ap (take n) (drop-set-add at xs (k - at) x) ∙ take-set-le n (drop at xs) (k - at) x (omega (arith, h))
-
-says-same : (m o : List ℕ) (p : ℕ) → length m ≡ length o → part m p 32 ≡ part o p 32 → descriptorAt m p ≡ descriptorAt o p
-unfolding descriptorAt
-says-same m o p l e = rw (l, e)
 
 one-byte : (b : ℕ) → numberOf LeastFirst (b ∷ []) ≡ b
 one-byte b = omega arith
@@ -156,7 +153,7 @@ module _ (w : Window) (m : List ℕ) (a x : ℕ) (i : In w a) where
   untouched : (b : ℕ) → In w b → meets a b ≡ false
       → descriptorAt (set m (controlPlace w a) x) (placeOf w b) ≡ descriptorAt m (placeOf w b)
   untouched b j e =
-      says-same (set m (controlPlace w a) x) m (placeOf w b) (length-set m (controlPlace w a) x) (by (ltb a (b + 32)) refl (ltb b (a + 32)) refl e)
+      says-same (set m (controlPlace w a) x) m (placeOf w b) (by (ltb a (b + 32)) refl (ltb b (a + 32)) refl e)
     where
       by : (p : Bool) → ltb a (b + 32) ≡ p → (q : Bool) → ltb b (a + 32) ≡ q → (p && q) ≡ false
           → part (set m (controlPlace w a) x) (placeOf w b) 32 ≡ part m (placeOf w b) 32

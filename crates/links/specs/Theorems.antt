@@ -15,7 +15,7 @@ use Rattle.links.specs.declared.mending.Change.{Change}
 use Rattle.links.specs.declared.mending.Mended.{Mended}
 use Rattle.links.specs.declared.mending.Mended.the-variants as mended
 use Rattle.links.specs.declared.Verdict.the-variants as verdict
-use Rattle.links.specs.Form.{Link, Placed, Form}
+use Rattle.links.specs.Form.{Link, FirstSame, Placed, Form}
 use Rattle.links.specs.Mending.{controlPlace, mendedOf, leftOf, WasMended, OneBit, Kept}
 use Rattle.links.specs.MendRows.{AsMended}
 use Rattle.links.specs.Rows.{AsWanted}
@@ -74,6 +74,13 @@ StopsAtMost = (window : Window) (memory : List ℕ) (pointer : ℕ) → Limited 
 -- "At most 2,049 descriptors are read on one walk": 2,048, since a defect is known by its address and is not read.
 abbrev pub ReadAtMost : Type 0
 ReadAtMost = (window : Window) (memory : List ℕ) (pointer : ℕ) → Limited window → readFor (verdictOf window memory pointer) ≤ 2048
+
+-- "descriptors are read on one walk": the verdict goes by the 32 bytes of those counted, from the first on, and by no others. Another
+-- memory that has these at the same addresses gets the same verdict, whatever else it holds.
+abbrev pub NoOtherByte : Type 0
+NoOtherByte = (window : Window) (memory other : List ℕ) (pointer : ℕ)
+    → FirstSame window memory other pointer (readFor (verdictOf window memory pointer))
+    → verdictOf window other pointer ≡ verdictOf window memory pointer
 
 -- A walk that may look at more than 2,049 tells the same.
 abbrev pub MoreTellTheSame : Type 0

@@ -32,7 +32,7 @@ use Rattle.chain_calls.specs.Theorems.{VicCreateInOrder, VicPortInOrder, VicCho
 use Rattle.chain_calls.specs.Theorems.{MoveInOrder, MoveUnchanged, TimerInOrder, TimerUnchanged}
 use Rattle.chain_calls.specs.Theorems.{FindInOrder, FindUnchanged}
 use Rattle.chain_calls.specs.Theorems.{CheckInOrder, CheckUnchanged, CheckedRuns, MendInOrder, MendUnchanged}
-use Rattle.links.specs.Theorems.{SoundExactly, OneForm, MisalignedExactly, OutsideExactly, OverlapsExactly, VerdictMeans, ApartAtMost, SoundAtMost, StopsAtMost, ReadAtMost, MoreTellTheSame, VerdictsHold}
+use Rattle.links.specs.Theorems.{SoundExactly, OneForm, MisalignedExactly, OutsideExactly, OverlapsExactly, VerdictMeans, ApartAtMost, SoundAtMost, StopsAtMost, ReadAtMost, NoOtherByte, MoreTellTheSame, VerdictsHold}
 use Rattle.links.specs.Theorems.{NothingExactly, SoundUntouched, OneBitDiffers, FrontKept, MendOnce, MendsHold}
 use Rattle.links.specs.Calls.{ChainMendedUnique}
 use Rattle.timer.specs.Calls.{TimerRanUnique}
@@ -675,6 +675,10 @@ stops-at-most = Rattle.links.proofs.Meaning.stops-at-most
 -- "At most 2,049 descriptors are read on one walk": 2,048, since a defect is known by its address and is not read.
 pub read-at-most : ReadAtMost
 read-at-most = Rattle.links.proofs.Meaning.read-at-most
+
+-- "descriptors are read on one walk": a memory that has the 32 bytes of each of those at the same addresses gets the same verdict.
+pub no-other-byte : NoOtherByte
+no-other-byte = Rattle.links.proofs.Bytes.no-other-byte
 
 -- A walk that may look at more than 2,049 tells the same.
 pub more-tell-the-same : MoreTellTheSame
