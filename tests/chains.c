@@ -55,7 +55,7 @@ static const struct row ROWS[] = {
     {"the first is not owned", {{A, B, 0x7F}}, A, SOUND(0, A)},
     {"the second is not owned", {{B, C, 0}}, A, SOUND(1, B)},
     {"the third is not owned", {{C, D, 0x40}}, A, SOUND(2, C)},
-    {"the end is the last 32 bytes", AS_IT_IS, D, SOUND(0, BASE + LENGTH - SIZE)},
+    {"the end is the first 32 bytes", {{A, B, 0}, {B, A, OWNED}}, B, SOUND(1, A)},
     {"the end between two others", LINK(A, 0x1060), A, SOUND(1, 0x1060)},
 
     /* position 0: the pointer */
@@ -201,6 +201,7 @@ static void check_refused(void)
         {UINT64_C(0xFFFFFFFF), 1, SGDMA_DONE},
         {UINT64_C(0xFFFFFFFF), 2, SGDMA_BAD_WINDOW},
         {UINT64_C(0x100000000), 0, SGDMA_BAD_WINDOW},
+        {UINT64_C(0x100001000), LENGTH, SGDMA_BAD_WINDOW},
         {UINT64_MAX, 64, SGDMA_BAD_WINDOW},
         {0, 0, SGDMA_DONE},
     };
@@ -225,34 +226,22 @@ static void check_refused(void)
 /* A core runs the chain that was sound: as many are done as were owned. */
 static void check_run(void)
 {
-    enum { LANDS = 0x10C0, WHOLE = 256 };
-    static const uint32_t owned[] = {A, B, C};
-    uint8_t beats[2 * COUNT(owned)] = {0x00, 0x11, 0x00, 0x22, 0x00, 0x33};
-    uint8_t records[COUNT(owned) * SGDMA_RECORD_SIZE];
-    struct stream in = {beats, COUNT(owned)}, none = {NULL, 0};
-    struct ledger ledger = {records, COUNT(owned), 0};
     struct core core;
     struct checked checked;
     struct ran ran;
 
     check_case("what is sound is run");
-    memset(window, 0, sizeof window);
-    core_create(&core, SGDMA_MODE_STREAM_TO_MEMORY, BASE, window, WHOLE);
-    for (uint32_t i = 0; i < COUNT(owned); i++)
-        core_build(&core, owned[i], &(struct descriptor){
-            .destination = LANDS + i, .next = CHAIN[i].next, .length = 1, .control = OWNED});
+    build_chain(&core, CHAIN);
     checked = core_check(&core, A);
     check("verdict", checked.verdict, SGDMA_CHAIN_SOUND);
-    check("owned", checked.position, COUNT(owned));
-    core_write(&core, SGDMA_REGISTER_NEXT_DESCRIPTOR_POINTER, A);
-    core_write(&core, SGDMA_REGISTER_CONTROL, SGDMA_CONTROL_RUN);
-    ran = core_run(&core, in, none, ledger, UINT32_MAX);
+    check("owned", checked.position, 3);
+    ran = run_chain(&core);
     check("reason", ran.reason, SGDMA_REASON_ENDED);
     check("records", ran.used, checked.position);
     check("pointer", core_read(&core, SGDMA_REGISTER_NEXT_DESCRIPTOR_POINTER),
           checked.address);
-    for (size_t i = 0; i < COUNT(owned); i++)
-        check("done mark", core_byte(&core, owned[i])[CONTROL], 0);
+    for (size_t i = 0; i < COUNT(CHAIN); i++)
+        check("done mark", core_byte(&core, CHAIN[i].at)[CONTROL], CHAIN[i].control & 0x7F);
     checked = core_check(&core, A);
     check("then none is owned", checked.position, 0);
 }

@@ -85,6 +85,9 @@ class Commands(unittest.TestCase):
         self.assertEqual(self.run_command("check", back, *at), (1, "not sound: at position 2 0x1000 overlaps an earlier descriptor\n", ""))
         odd = self.dump((0x1000, 0x1042))
         self.assertEqual(self.run_command("check", odd, *at), (1, "not sound: at position 1 0x1042 is not a multiple of 4\n", ""))
+        far = self.dump((0x1000, 0x1044))
+        told = "not sound: at position 1 0x1044 has not its 32 bytes in the window\n"
+        self.assertEqual(self.run_command("check", far, *at), (1, told, ""))
         ended, _, said = self.run_command("check", sound, "--base", 0xFFFFFFF0, "--pointer", 0)
         self.assertEqual((ended, said.split(":")[1]), (2, " SGDMA_BAD_WINDOW (3)"))
 

@@ -35,3 +35,28 @@ void lay_row(uint32_t base, uint32_t owned, uint32_t next)
         put_link(base, &link);
     }
 }
+
+void build_chain(struct core *core, const struct link links[4])
+{
+    enum { LANDS = 0x10C0, WHOLE = 256 };
+
+    memset(window, 0, sizeof window);
+    core_create(core, SGDMA_MODE_STREAM_TO_MEMORY, BASE, window, WHOLE);
+    for (uint32_t i = 0; i < COUNT(CHAIN); i++)
+        core_build(core, links[i].at, &(struct descriptor){
+            .destination = LANDS + i, .next = links[i].next, .length = 1,
+            .control = links[i].control});
+}
+
+struct ran run_chain(struct core *core)
+{
+    static const struct stream none = {NULL, 0};
+    uint8_t beats[] = {0x00, 0x11, 0x00, 0x22, 0x00, 0x33, 0x00, 0x44};
+    uint8_t records[COUNT(CHAIN) * SGDMA_RECORD_SIZE];
+    struct stream in = {beats, COUNT(CHAIN)};
+    struct ledger ledger = {records, COUNT(CHAIN), 0};
+
+    core_write(core, SGDMA_REGISTER_NEXT_DESCRIPTOR_POINTER, A);
+    core_write(core, SGDMA_REGISTER_CONTROL, SGDMA_CONTROL_RUN);
+    return core_run(core, in, none, ledger, UINT32_MAX);
+}

@@ -45,4 +45,10 @@ void lay_chain(uint8_t other);
    last of these leads to `next`. */
 void lay_row(uint32_t base, uint32_t owned, uint32_t next);
 
+/* A core over a window of zeros with these four in it, each of one byte. */
+void build_chain(struct core *core, const struct link links[4]);
+
+/* Starts the core at A, with a beat and room for a record for each of the four. */
+struct ran run_chain(struct core *core);
+
 #endif

@@ -155,6 +155,8 @@ static void check_refused(void)
                                                       answer, size), size == 8 ? 23 : 7);
             check("no window", sgdma_mend_chain(window, LENGTH, UINT64_C(0xFFFFFF61),
                                                 pointers[i], answer, size), size == 8 ? 3 : 7);
+            check("far away", sgdma_mend_chain(window, LENGTH, UINT64_C(0x100001000),
+                                               pointers[i], answer, size), size == 8 ? 3 : 7);
             check("too long", sgdma_mend_chain(window, MOST + 1, 0, pointers[i], answer,
                                                size), size == 8 ? 3 : 7);
         }
@@ -167,34 +169,25 @@ static void check_refused(void)
    was kept are done, and the core stands at that one. */
 static void check_run(uint32_t position)
 {
-    enum { LANDS = 0x10C0, WHOLE = 256 };
-    static const uint32_t chain[] = {A, B, C, D};
-    uint8_t beats[] = {0x00, 0x11, 0x00, 0x22, 0x00, 0x33, 0x00, 0x44};
-    uint8_t records[COUNT(chain) * SGDMA_RECORD_SIZE];
-    struct stream in = {beats, COUNT(chain)}, none = {NULL, 0};
-    struct ledger ledger = {records, COUNT(chain), 0};
+    struct link links[COUNT(CHAIN)];
     struct mended mended = {0};
     struct core core;
     struct ran ran;
 
     check_case("what is mended is run");
-    memset(window, 0, sizeof window);
-    core_create(&core, SGDMA_MODE_STREAM_TO_MEMORY, BASE, window, WHOLE);
-    for (uint32_t i = 0; i < COUNT(chain); i++)
-        core_build(&core, chain[i], &(struct descriptor){
-            .destination = LANDS + i, .next = i + 1 == position ? A : chain[(i + 1) % 4],
-            .length = 1, .control = OWNED});
-    check("mend", mend_chain(window, WHOLE, BASE, A, &mended), SGDMA_DONE);
-    check("the last that is kept", mended.address, chain[position - 1]);
-    core_write(&core, SGDMA_REGISTER_NEXT_DESCRIPTOR_POINTER, A);
-    core_write(&core, SGDMA_REGISTER_CONTROL, SGDMA_CONTROL_RUN);
-    ran = core_run(&core, in, none, ledger, UINT32_MAX);
+    memcpy(links, CHAIN, sizeof links);
+    links[3].control = OWNED;
+    links[position - 1].next = A;
+    build_chain(&core, links);
+    check("mend", mend_chain(window, core.length, BASE, A, &mended), SGDMA_DONE);
+    check("the last that is kept", mended.address, links[position - 1].at);
+    ran = run_chain(&core);
     check("reason", ran.reason, SGDMA_REASON_ENDED);
     check("records", ran.used, position - 1);
     check("pointer", core_read(&core, SGDMA_REGISTER_NEXT_DESCRIPTOR_POINTER),
           mended.address);
-    for (uint32_t i = 0; i < COUNT(chain); i++)
-        check("done marks", core_descriptor(&core, chain[i]).actual, i + 1 < position);
+    for (uint32_t i = 0; i < COUNT(links); i++)
+        check("done marks", core_descriptor(&core, links[i].at).actual, i + 1 < position);
 }
 
 void test_mend(void)

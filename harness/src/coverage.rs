@@ -18,7 +18,7 @@ pub mod timers;
 
 pub use counts::{compare_and_cover, Coverage, Numbered, Reachable};
 pub use ledgers::{DateCase, LedgerFlaw, LedgerUse};
-pub use refusals::{applying, first_applying};
+pub use refusals::applying;
 pub use slots::{RunNumberCase, SlotCase};
 
 use crate::call::{Call, Function};
@@ -198,8 +198,8 @@ impl Reachable for Point {
         lists.concat()
     }
 
-    fn number_due(call: &Call) -> u32 {
-        first_applying(call)
+    fn applying(call: &Call) -> Vec<u32> {
+        refusals::numbers_applying(call)
     }
 
     fn shown(call: &Call, answer: &Answer, reach: &mut dyn FnMut(Point)) {

@@ -120,7 +120,7 @@ fn defects_by_hand() {
 }
 
 /// A descriptor that leads to itself, a loop of two, and one that leads by a word
-/// into itself.
+/// into itself; and at the top of the bus, where an address behind it is none.
 #[test]
 fn loops_by_hand() {
     for party in parties() {
@@ -132,6 +132,8 @@ fn loops_by_hand() {
         assert_eq!(two.told(party, 96), (3, 2, 96));
         let into = Window::new(64, 64, &[(64, 92)]);
         assert_eq!(into.told(party, 64), (3, 1, 92));
+        let top = Window::new(0xFFFF_FFE0, 32, &[(0xFFFF_FFE0, 0xFFFF_FFE0)]);
+        assert_eq!(top.told(party, 0xFFFF_FFE0), (3, 1, 0xFFFF_FFE0));
     }
 }
 
@@ -148,36 +150,24 @@ fn in_a_row(owned: u32, next: u32) -> Window {
 }
 
 /// 2,048 descriptors fill the window: 2,047 and the end, or one more with any defect.
+/// How many are owned, what the last of them leads to, and the verdict there.
+const LONGEST: [(u32, u32, u16); 7] = [
+    (2_047, 0x2_FFE0, 0),
+    (2_047, 0x2_FFC0, 3),
+    (2_047, 0x2_FFE4, 2),
+    (2_047, 0x2_FFE1, 1),
+    (2_048, 0x2_0000, 3),
+    (2_048, 0x3_0000, 2),
+    (2_048, 0x2_0002, 1),
+];
+
 #[test]
 fn the_longest_chains_by_hand() {
     for party in parties() {
-        let party = party.as_ref();
-        let first = 0x2_0000;
-        assert_eq!(
-            in_a_row(2_047, 0x2_FFE0).told(party, first),
-            (0, 2_047, 0x2_FFE0)
-        );
-        assert_eq!(
-            in_a_row(2_047, 0x2_FFC0).told(party, first),
-            (3, 2_047, 0x2_FFC0)
-        );
-        assert_eq!(
-            in_a_row(2_047, 0x2_FFE4).told(party, first),
-            (2, 2_047, 0x2_FFE4)
-        );
-        assert_eq!(
-            in_a_row(2_047, 0x2_FFE1).told(party, first),
-            (1, 2_047, 0x2_FFE1)
-        );
-        assert_eq!(in_a_row(2_048, first).told(party, first), (3, 2_048, first));
-        assert_eq!(
-            in_a_row(2_048, 0x3_0000).told(party, first),
-            (2, 2_048, 0x3_0000)
-        );
-        assert_eq!(
-            in_a_row(2_048, 0x2_0002).told(party, first),
-            (1, 2_048, 0x2_0002)
-        );
+        for (owned, next, verdict) in LONGEST {
+            let told = in_a_row(owned, next).told(party.as_ref(), 0x2_0000);
+            assert_eq!(told, (verdict, owned, next));
+        }
     }
 }
 
@@ -190,6 +180,7 @@ fn the_refusals_of_a_check_come_in_their_order() {
             ((1 << 32) - 63, 64),
             (0, 65_537),
             (u64::MAX, 96),
+            ((1 << 32) + 0x1000, 96),
         ] {
             let mut call = Window {
                 base,

@@ -61,23 +61,31 @@ impl Dump {
     }
 
     fn mend(&self) -> Call {
+        self.mend_into(MEND_SIZE)
+    }
+
+    /// A mend with an answer of so many bytes.
+    fn mend_into(&self, size: usize) -> Call {
         Call::MendChain {
             window: Lent::from(self.memory.as_slice()),
             base: self.base,
             pointer: self.pointer,
-            answer: Lent::from(vec![0xEE; MEND_SIZE]),
+            answer: Lent::from(vec![0xEE; size]),
+        }
+    }
+
+    fn check(&self) -> Call {
+        Call::CheckChain {
+            window: Lent::from(self.memory.as_slice()),
+            base: self.base,
+            pointer: self.pointer,
+            answer: Lent::from(vec![0xEE; CHECK_SIZE]),
         }
     }
 
     /// The verdict of a check, k or position, and the address.
     fn checked(&self, party: &dyn Party) -> (u32, u32, u32) {
-        let call = Call::CheckChain {
-            window: Lent::from(self.memory.as_slice()),
-            base: self.base,
-            pointer: self.pointer,
-            answer: Lent::from(vec![0xEE; CHECK_SIZE]),
-        };
-        let Call::CheckChain { answer, .. } = check_done(party, &call) else {
+        let Call::CheckChain { answer, .. } = check_done(party, &self.check()) else {
             unreachable!("a call stays what it is");
         };
         (
@@ -85,6 +93,18 @@ impl Dump {
             numbers(&answer[2..6]),
             numbers(&answer[6..]),
         )
+    }
+
+    /// The number that a mend must return, by what the check says.
+    fn number_due(&self, party: &dyn Party) -> u32 {
+        let refused = ask(party, &self.check()).returned;
+        if refused != 0 {
+            return refused;
+        }
+        match self.checked(party) {
+            (1.., 0, _) => 23,
+            _ => 0,
+        }
     }
 
     /// What a mend leaves, and the eight bytes that it tells.
@@ -102,7 +122,7 @@ impl Dump {
 /// the first leads to the third, the third to the second, the second to `next`.
 fn three(next: u32) -> Dump {
     let mut memory = vec![0; 128];
-    for (place, next, control) in [(0, 0x1040, 0x80), (64, 0x1020, 0xFF), (32, next, 0x91)] {
+    for (place, next, control) in [(0, 0x1040, 0x80), (64, 0x1020, 0xFF), (32, next, 0xD5)] {
         memory[place + 16..place + 20].copy_from_slice(&u32::to_le_bytes(next));
         memory[place + 31] = control;
     }
@@ -121,9 +141,9 @@ fn mends_by_hand() {
         for next in [0x1062, 0x1064, 0x1000, 0x105C, 0x0FFC, 0xFFFF_FFFF] {
             let (left, told) = three(next).mended(party);
             let mut due = three(next);
-            due.memory[63] = 0x11;
+            due.memory[63] = 0x55;
             assert!(left == due, "{next:#x}");
-            assert_eq!(told, [0, 1, 0, 0, 0x10, 0x20, 0x91, 0x11]);
+            assert_eq!(told, [0, 1, 0, 0, 0x10, 0x20, 0xD5, 0x55]);
             assert_eq!(left.checked(party), (0, 2, 0x1020));
         }
         let sound = three(0x1060);
@@ -142,10 +162,20 @@ fn the_first_alone_is_kept_by_hand() {
         dump.memory[16] = 0x02;
         let (left, told) = dump.mended(party);
         assert_eq!(told, [0, 1, 0, 0, 0x10, 0x00, 0x80, 0x00]);
-        assert_eq!(left.memory[31], 0);
+        dump.memory[31] = 0;
+        assert!(left == dump);
         assert_eq!(left.checked(party), (0, 0, 0x1000));
     }
 }
+
+/// A base and a length that are no window: each by one limit, and by far.
+const NO_WINDOWS: [(u64, usize); 5] = [
+    (1 << 32, 0),
+    ((1 << 32) - 63, 64),
+    (0, 65_537),
+    ((1 << 32) + 0x1000, 96),
+    (u64::MAX, 96),
+];
 
 /// "23 NothingToKeep when the defect is the first descriptor", behind 7 and 3.
 #[test]
@@ -155,21 +185,23 @@ fn the_refusals_of_a_mend_come_in_their_order() {
         for pointer in [0x1001, 0x0FFC, 0x1064, 0x1080, 0, u32::MAX] {
             let mut dump = three(0x1000);
             dump.pointer = pointer;
-            let mut call = dump.mend();
-            check_refused(party, &call, 23);
-            if let Call::MendChain { answer, .. } = &mut call {
-                *answer = Lent::zeros(10);
-            }
-            check_refused(party, &call, 7);
+            check_refused(party, &dump.mend(), 23);
+            check_refused(party, &dump.mend_into(10), 7);
             dump.base = 1 << 32;
+            check_refused(party, &dump.mend(), 3);
+            check_refused(party, &dump.mend_into(10), 7);
+        }
+        for (base, length) in NO_WINDOWS {
+            let (memory, pointer) = (vec![0; length], 0);
+            let dump = Dump {
+                base,
+                memory,
+                pointer,
+            };
             check_refused(party, &dump.mend(), 3);
         }
         for size in [0, 7, 9, 10, 16] {
-            let mut call = three(0x1000).mend();
-            if let Call::MendChain { answer, .. } = &mut call {
-                *answer = Lent::zeros(size);
-            }
-            check_refused(party, &call, 7);
+            check_refused(party, &three(0x1000).mend_into(size), 7);
         }
     }
 }
@@ -185,6 +217,7 @@ fn check_mend(party: &dyn Party, dump: &Dump) -> u32 {
         assert!(left == *dump && told == [0; MEND_SIZE]);
         return 0;
     }
+    assert_eq!(told[..2], [0, 1]);
     assert_eq!(left.checked(party), (0, position - 1, numbers(&told[2..6])));
     let changed = |&place: &usize| left.memory[place] != dump.memory[place];
     let places: Vec<usize> = (0..left.memory.len()).filter(changed).collect();
@@ -199,14 +232,14 @@ fn check_mend(party: &dyn Party, dump: &Dump) -> u32 {
 #[test]
 fn what_is_mended_is_sound_and_stays() {
     for party in parties() {
+        let party = party.as_ref();
         let mut host = MendHost::new(SEED);
         let mut mended = 0;
         for _ in 0..5_000 {
-            let call = host.next_call();
-            let dump = Dump::of(&call);
-            match ask(party.as_ref(), &dump.mend()).returned {
-                0 => mended += check_mend(party.as_ref(), &dump),
-                number => check_refused(party.as_ref(), &dump.mend(), number),
+            let dump = Dump::of(&host.next_call());
+            match dump.number_due(party) {
+                0 => mended += check_mend(party, &dump),
+                number => check_refused(party, &dump.mend(), number),
             }
         }
         assert!(mended > 1_000, "only {mended} were mended");

@@ -6,10 +6,14 @@ use harness::call::{parties, Party};
 use harness::firmware::Firmware;
 use harness::gen::Rng;
 use harness::model::{control, descriptor_control, offset, Descriptor, Reason};
+use std::collections::{BTreeMap, BTreeSet};
 
 const BASE: u32 = 0x1_2000;
 const WINDOW: usize = 768;
 const CHAINS: u32 = 6_000;
+/// How many chains must show each case.
+const FEWEST: u32 = 100;
+const MOST_OWNED: usize = 5;
 
 /// A window with a chain in it, and what is lent with it.
 struct Chain {
@@ -37,8 +41,61 @@ struct Outcome {
     shares: Vec<Share>,
     /// The window with the bytes sent, and no mark.
     data: Vec<u8>,
-    /// A byte was read where one had been written.
-    rereads: bool,
+    /// By which descriptor each byte of the window was written last.
+    writers: Vec<Option<usize>>,
+    cases: BTreeSet<Case>,
+}
+
+/// What chains show, each in the modes that can show it.
+#[derive(Clone, Copy, Debug, PartialEq, Eq, PartialOrd, Ord)]
+enum Case {
+    /// So many descriptors are owned.
+    Owned(usize),
+    /// STOP_DMA_ER is set, which is free in modes 0 and 1.
+    Stop,
+    /// One byte is moved, or more than 64.
+    OneByte,
+    Long,
+    /// Several are read at one address, or written there.
+    FixedSource,
+    FixedDestination,
+    /// A byte is read where the descriptor itself has written, or one before it.
+    ReadsItsOwn,
+    ReadsEarlier,
+    /// The beats of a descriptor have SOP, or not; EOP, or not; and are one, or more.
+    Beats(bool, bool, bool),
+    /// A descriptor of mode 2 has this length, an error, or is ended by EOP or not.
+    LengthZero,
+    Error,
+    EndedByEop(bool),
+}
+
+/// What the chains of a mode must show.
+fn required(mode: u32) -> Vec<Case> {
+    use Case::*;
+    let both = [false, true];
+    let mut cases: Vec<Case> = (0..=MOST_OWNED).map(Owned).collect();
+    cases.push(OneByte);
+    match mode {
+        0 => cases.extend([
+            Stop,
+            Long,
+            FixedSource,
+            FixedDestination,
+            ReadsItsOwn,
+            ReadsEarlier,
+        ]),
+        1 => {
+            cases.extend([Stop, Long, FixedSource]);
+            let marks = both.map(|sop| both.map(|eop| both.map(|one| Beats(sop, eop, one))));
+            cases.extend(marks.concat().concat());
+        }
+        _ => {
+            cases.extend([FixedDestination, LengthZero, Error]);
+            cases.extend(both.map(EndedByEop));
+        }
+    }
+    cases
 }
 
 fn place(address: u32) -> usize {
@@ -62,12 +119,20 @@ fn destination(fields: &Descriptor, i: u16) -> usize {
 
 impl Chain {
     /// Mode 0: each byte as memory holds it when it is read.
-    fn copy(&self, fields: &Descriptor, outcome: &mut Outcome, written: &mut [bool]) -> Share {
+    fn copy(&self, fields: &Descriptor, outcome: &mut Outcome) -> Share {
+        let number = outcome.shares.len();
         for i in 0..fields.length {
             let (from, to) = (source(fields, i), destination(fields, i));
-            outcome.rereads |= written[from];
+            let read = outcome.writers[from].map(|writer| {
+                if writer == number {
+                    Case::ReadsItsOwn
+                } else {
+                    Case::ReadsEarlier
+                }
+            });
+            outcome.cases.extend(read);
             outcome.data[to] = outcome.data[from];
-            written[to] = true;
+            outcome.writers[to] = Some(number);
         }
         Share {
             count: fields.length,
@@ -112,20 +177,43 @@ impl Chain {
         let mut outcome = Outcome {
             shares: Vec::new(),
             data: self.memory.clone(),
-            rereads: false,
+            writers: vec![None; WINDOW],
+            cases: BTreeSet::from([Case::Owned(self.owned.len())]),
         };
-        let mut written = vec![false; WINDOW];
         let mut taken = 0;
         for (_, fields) in &self.owned {
             let share = match self.mode {
-                0 => self.copy(fields, &mut outcome, &mut written),
+                0 => self.copy(fields, &mut outcome),
                 1 => self.send(fields),
                 _ => self.receive(fields, &self.beats[taken..], &mut outcome.data),
             };
             taken += share.taken;
+            outcome.cases.extend(self.cases(fields, &share));
             outcome.shares.push(share);
         }
         outcome
+    }
+
+    /// What a descriptor and its share show.
+    fn cases(&self, fields: &Descriptor, share: &Share) -> Vec<Case> {
+        let flag = |flag: u8| has(fields, flag);
+        let read_fixed = flag(descriptor_control::READ_FIXED_ADDRESS);
+        let write_fixed = flag(descriptor_control::WRITE_FIXED_ADDRESS);
+        let eop = flag(descriptor_control::GENERATE_EOP);
+        let one = share.count == 1;
+        let mut shown = vec![
+            Case::Beats(write_fixed, eop, one),
+            Case::EndedByEop(share.eop),
+        ];
+        let mut note = |met: bool, case: Case| shown.extend(met.then_some(case));
+        note(self.control & control::STOP_DMA_ER != 0, Case::Stop);
+        note(one, Case::OneByte);
+        note(share.count > 64, Case::Long);
+        note(read_fixed && !one, Case::FixedSource);
+        note(write_fixed && !one, Case::FixedDestination);
+        note(fields.length == 0, Case::LengthZero);
+        note(share.errors != 0, Case::Error);
+        shown
     }
 }
 
@@ -134,6 +222,17 @@ impl Outcome {
     fn steps(&self) -> u32 {
         let each = self.shares.iter().map(|share| u32::from(share.count) + 2);
         2 + each.sum::<u32>()
+    }
+
+    /// How many are done after so many steps: the first leaves Rest, and each
+    /// takes a Fetch, its bytes and a WriteBack.
+    fn done_after(&self, steps: u32) -> usize {
+        let mut last = 1;
+        let is_done = |share: &&Share| {
+            last += u32::from(share.count) + 2;
+            last <= steps
+        };
+        self.shares.iter().take_while(is_done).count()
     }
 
     fn made(&self) -> Vec<u16> {
@@ -171,6 +270,10 @@ impl Outcome {
 
 // ---- random chains
 
+/// Six descriptors leave at least 83 bytes of the window in a row, so that data of
+/// so many find a place.
+const LONGEST: u64 = 80;
+
 /// Aligned addresses of 32 bytes each that do not overlap, in any order.
 fn seats(rng: &mut Rng, count: usize) -> Vec<u32> {
     let mut seats: Vec<u32> = Vec::new();
@@ -205,7 +308,8 @@ fn data_address(rng: &mut Rng, seats: &[u32], bytes: u32, near: u32) -> u32 {
 fn job(rng: &mut Rng, mode: u32, seats: &[u32], near: u32) -> Descriptor {
     let control = rng.number() as u8 | descriptor_control::OWNED_BY_HW;
     let is_set = |flag| control & flag != 0;
-    let length = 1 + rng.below(9) as u32;
+    let most = rng.pick(&[9, 9, 9, LONGEST]);
+    let length = 1 + rng.below(most) as u32;
     let extent = |flag| if is_set(flag) { 1 } else { length };
     let mut fields = Descriptor {
         source: rng.number() as u32,
@@ -248,7 +352,7 @@ fn control_for(rng: &mut Rng, mode: u32) -> u32 {
 }
 
 fn chain(rng: &mut Rng, mode: u32) -> Chain {
-    let k = rng.below(6) as usize;
+    let k = rng.below(MOST_OWNED as u64 + 1) as usize;
     let seats = seats(rng, k + 1);
     let mut memory = rng.bytes(WINDOW);
     memory[place(seats[k] + 31)] &= !descriptor_control::OWNED_BY_HW;
@@ -313,11 +417,9 @@ fn check_at_once(mut core: Firmware, chain: &Chain, outcome: &Outcome, more: u32
 }
 
 /// "Those of the k marked done are the first few of the chain, each with the
-/// count": and each of the others is as it was.
-fn check_first_few(core: &Firmware, chain: &Chain, outcome: &Outcome) {
-    let is_done = |address: u32| core.memory[place(address + 31)] & 0x80 == 0;
-    let done = chain.owned.iter().filter(|(address, _)| is_done(*address));
-    let few = outcome.marked(chain, &chain.memory, done.count());
+/// count": so many after these steps, and each of the others is as it was.
+fn check_first_few(core: &Firmware, chain: &Chain, outcome: &Outcome, steps: u32) {
+    let few = outcome.marked(chain, &chain.memory, outcome.done_after(steps));
     for (address, _) in &chain.owned {
         let of = |memory: &[u8]| memory[place(*address)..][..32].to_vec();
         assert_eq!(of(&core.memory), of(&few), "not the first few");
@@ -336,46 +438,47 @@ fn check_step_by_step(mut core: Firmware, chain: &Chain, outcome: &Outcome) {
         assert_eq!((ran.reason, ran.steps), (reason as u16, 1), "step {step}");
         taken += ran.taken as usize;
         made.extend(ran.made);
-        check_first_few(&core, chain, outcome);
+        check_first_few(&core, chain, outcome, step);
     }
     assert_eq!((taken, made), (outcome.taken(), outcome.made()));
     check_end(&core, chain, outcome);
 }
 
-/// Tries random chains of one mode, and counts those of which something is read
-/// where it was written before.
-fn check_mode(party: &dyn Party, mode: u32) -> u32 {
+/// Tries random chains of one mode, which must show all that they can.
+fn check_mode(party: &dyn Party, mode: u32) {
     let mut rng = Rng::new(1000 + u64::from(mode));
-    let mut rereads = 0;
+    let mut counts: BTreeMap<Case, u32> = BTreeMap::new();
     for _ in 0..CHAINS {
         let mut chain = chain(&mut rng, mode);
         let core = started(party, &mut chain);
         let outcome = chain.outcome();
-        rereads += u32::from(outcome.rereads);
         check_at_once(core.clone(), &chain, &outcome, rng.below(3) as u32);
         check_step_by_step(core, &chain, &outcome);
+        let count = |case| *counts.entry(case).or_default() += 1;
+        outcome.cases.into_iter().for_each(count);
     }
-    rereads
+    let mut rare = required(mode);
+    rare.retain(|case| counts.get(case).is_none_or(|&count| count < FEWEST));
+    assert!(rare.is_empty(), "too seldom: {rare:?} of {counts:?}");
 }
 
 #[test]
 fn chains_from_memory_to_memory() {
     for party in parties() {
-        let rereads = check_mode(party.as_ref(), 0);
-        assert!(rereads > 1_500, "only {rereads} read what was written");
+        check_mode(party.as_ref(), 0);
     }
 }
 
 #[test]
 fn chains_from_memory_to_stream() {
     for party in parties() {
-        assert_eq!(check_mode(party.as_ref(), 1), 0);
+        check_mode(party.as_ref(), 1);
     }
 }
 
 #[test]
 fn chains_from_stream_to_memory() {
     for party in parties() {
-        assert_eq!(check_mode(party.as_ref(), 2), 0);
+        check_mode(party.as_ref(), 2);
     }
 }

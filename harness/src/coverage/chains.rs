@@ -155,11 +155,15 @@ pub enum Limit {
     Sum,
 }
 
+impl Limit {
+    pub(super) const ALL: [Limit; 3] = [Limit::Length, Limit::Base, Limit::Sum];
+}
+
 /// One thing that must have been reached.
 #[derive(Clone, Copy, Debug, PartialEq, Eq, PartialOrd, Ord)]
 pub enum Reached {
     Numbered(Numbered),
-    /// 3 was given for this limit.
+    /// 3 was given for this limit alone.
     NoWindow(Limit),
     Sound(Sound),
     /// A chain was walked, sound or not, in such a window.
@@ -212,7 +216,7 @@ impl<'call> Asked<'call> {
         }
     }
 
-    /// The limits that are broken, of which the first is told of a bad window.
+    /// The limits that are broken.
     pub fn limits(&self) -> Vec<Limit> {
         let length = self.memory.len() as u64;
         let sum = u128::from(self.base) + u128::from(length);
@@ -221,6 +225,14 @@ impl<'call> Asked<'call> {
         broken.extend((self.base >= TWO_TO_32).then_some(Limit::Base));
         broken.extend((sum > u128::from(TWO_TO_32)).then_some(Limit::Sum));
         broken
+    }
+
+    /// The limit that is broken, where it is the only one.
+    pub fn limit_alone(&self) -> Option<Limit> {
+        match self.limits()[..] {
+            [alone] => Some(alone),
+            _ => None,
+        }
     }
 
     fn end(&self) -> u64 {
@@ -269,17 +281,6 @@ impl<'call> Asked<'call> {
             met.push(self.next(address));
         }
     }
-}
-
-/// The numbers of all refusals that apply, in their order.
-fn numbers_applying(call: &Call) -> Vec<u32> {
-    let Call::CheckChain { answer, .. } = call else {
-        return Vec::new();
-    };
-    let mut applying = Vec::new();
-    applying.extend((answer.len() != CHECK_SIZE).then_some(7));
-    applying.extend((!Asked::of(call).limits().is_empty()).then_some(3));
-    applying
 }
 
 pub(super) fn bases(asked: &Asked) -> Vec<Base> {
@@ -429,7 +430,7 @@ fn done(call: &Call, after: &Call) -> Vec<Reached> {
 
 fn numbers() -> Vec<Reached> {
     let numbers = Numbered::of_call(Function::CheckChain, &[7, 3], &[(7, 3)]);
-    let limits = [Limit::Length, Limit::Base, Limit::Sum].map(Reached::NoWindow);
+    let limits = Limit::ALL.map(Reached::NoWindow);
     let numbers = numbers.into_iter().map(Reached::Numbered);
     numbers.chain(limits).collect()
 }
@@ -503,23 +504,21 @@ impl Reachable for Reached {
         points
     }
 
-    fn number_due(call: &Call) -> u32 {
-        numbers_applying(call).first().copied().unwrap_or(0)
+    fn applying(call: &Call) -> Vec<u32> {
+        let Call::CheckChain { answer, .. } = call else {
+            return Vec::new();
+        };
+        let mut applying = Vec::new();
+        applying.extend((answer.len() != CHECK_SIZE).then_some(7));
+        applying.extend((!Asked::of(call).limits().is_empty()).then_some(3));
+        applying
     }
 
     fn shown(call: &Call, answer: &Answer, reach: &mut dyn FnMut(Reached)) {
-        let applying = numbers_applying(call);
-        Numbered::shown(call.function(), answer.returned, &applying, &[])
-            .into_iter()
-            .map(Reached::Numbered)
-            .for_each(&mut *reach);
+        Numbered::shown(call, answer, &[], Reached::Numbered, reach);
         let shown = match answer.returned {
             0 => done(call, &answer.after),
-            3 => Asked::of(call)
-                .limits()
-                .into_iter()
-                .map(Reached::NoWindow)
-                .collect(),
+            3 => Vec::from_iter(Asked::of(call).limit_alone().map(Reached::NoWindow)),
             _ => Vec::new(),
         };
         shown.into_iter().for_each(reach);

@@ -183,22 +183,17 @@ impl Reachable for Reached {
         [numbers(), marks(), choices()].concat()
     }
 
-    fn number_due(call: &Call) -> u32 {
-        let applying = numbers_applying(on_controller(call));
-        applying.first().copied().unwrap_or(0)
+    fn applying(call: &Call) -> Vec<u32> {
+        numbers_applying(on_controller(call))
     }
 
     fn shown(call: &Call, answer: &Answer, reach: &mut dyn FnMut(Reached)) {
-        let call = on_controller(call);
-        let (function, applying) = (call.function(), numbers_applying(call));
-        let broken = broken_fields(call.vic());
-        Numbered::shown(function, answer.returned, &applying, &broken)
-            .into_iter()
-            .map(Reached::Numbered)
-            .for_each(&mut *reach);
+        let controller = on_controller(call);
+        let broken = broken_fields(controller.vic());
+        Numbered::shown(call, answer, &broken, Reached::Numbered, reach);
         let shown = match answer.returned {
-            0 => done(call),
-            22 => too_large(call),
+            0 => done(controller),
+            22 => too_large(controller),
             _ => Vec::new(),
         };
         shown.into_iter().for_each(reach);

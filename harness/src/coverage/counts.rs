@@ -13,11 +13,17 @@ pub trait Reachable: Copy + Debug + Ord {
     /// The whole list.
     fn required() -> Vec<Self>;
 
-    /// The number that the call must return, found without the model's calls.
-    fn number_due(call: &Call) -> u32;
+    /// The numbers of all refusals that apply to the call, in their order and 8 with
+    /// its field, found without the model's calls.
+    fn applying(call: &Call) -> Vec<u32>;
 
     /// Gives every case that a call and its answer show to `reach`.
     fn shown(call: &Call, answer: &Answer, reach: &mut dyn FnMut(Self));
+
+    /// The number that the call must return.
+    fn number_due(call: &Call) -> u32 {
+        Self::applying(call).first().copied().unwrap_or(0)
+    }
 }
 
 pub struct Coverage<Thing: Reachable> {
@@ -62,7 +68,8 @@ impl<Thing: Reachable> Coverage<Thing> {
 }
 
 /// Puts so many calls of the host to the model and to the party: they must agree,
-/// each answer must be the number that is due, and every case be reached.
+/// each answer must be the number that is due, a refused call must change nothing,
+/// and every case be reached.
 pub fn compare_and_cover<Thing: Reachable>(
     host: &mut dyn Hosts,
     party: &dyn Party,
@@ -76,6 +83,8 @@ pub fn compare_and_cover<Thing: Reachable>(
             Thing::number_due(call),
             "refusal of\n{call}"
         );
+        let stays = answer.returned == 0 || answer.after == *call;
+        assert!(stays, "changed by a refused\n{call}");
         coverage.observe(call, answer);
     });
     if let Err(mismatch) = outcome {
@@ -99,27 +108,36 @@ pub enum Numbered {
 }
 
 impl Numbered {
-    /// What a call shows that returned this number, where these refusals applied
-    /// and these fields were broken.
-    pub(super) fn shown(
-        function: Function,
-        returned: u32,
-        applying: &[u32],
+    /// Gives what the number of an answer shows to `reach`, as a case of the thing,
+    /// where these fields were broken.
+    pub(super) fn shown<Thing: Reachable>(
+        call: &Call,
+        answer: &Answer,
         broken: &[usize],
-    ) -> Vec<Numbered> {
+        case: fn(Numbered) -> Thing,
+        reach: &mut dyn FnMut(Thing),
+    ) {
+        let function = call.function();
         let refusal = |number: u32| number & 0xFF;
-        let mut shown = vec![Numbered::Returned(function, refusal(returned))];
-        if let Some((&first, others)) = applying.split_first() {
-            let pair = |&other: &u32| Numbered::Outranked(function, refusal(first), refusal(other));
-            shown.extend(others.iter().map(pair));
-            if refusal(first) == 8 {
-                shown.push(match broken {
-                    [alone] => Numbered::Field(*alone),
-                    _ => Numbered::FieldOfSome,
-                });
-            }
+        let mut reach = |numbered: Numbered| reach(case(numbered));
+        reach(Numbered::Returned(function, refusal(answer.returned)));
+        let applying = Thing::applying(call);
+        let Some((&first, others)) = applying.split_first() else {
+            return;
+        };
+        for &other in others {
+            reach(Numbered::Outranked(
+                function,
+                refusal(first),
+                refusal(other),
+            ));
         }
-        shown
+        if refusal(first) == 8 {
+            reach(match broken {
+                [alone] => Numbered::Field(*alone),
+                _ => Numbered::FieldOfSome,
+            });
+        }
     }
 
     /// Of one call: done, each of its refusals, and each pair of these.
@@ -162,8 +180,8 @@ mod tests {
             vec![Short(0), Short(1)]
         }
 
-        fn number_due(_call: &Call) -> u32 {
-            0
+        fn applying(_call: &Call) -> Vec<u32> {
+            Vec::new()
         }
 
         fn shown(_call: &Call, answer: &Answer, reach: &mut dyn FnMut(Short)) {

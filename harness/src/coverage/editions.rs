@@ -92,18 +92,15 @@ impl Reachable for Reached {
         [numbers(), told(), moved(), slots()].concat()
     }
 
-    fn number_due(call: &Call) -> u32 {
+    fn applying(call: &Call) -> Vec<u32> {
         let (from, to) = slices(call);
-        numbers_applying(from, to).first().copied().unwrap_or(0)
+        numbers_applying(from, to)
     }
 
     fn shown(call: &Call, answer: &Answer, reach: &mut dyn FnMut(Reached)) {
         let (from, to) = slices(call);
-        let (applying, broken) = (numbers_applying(from, to), broken_fields(from));
-        Numbered::shown(call.function(), answer.returned, &applying, &broken)
-            .into_iter()
-            .map(Reached::Numbered)
-            .for_each(&mut *reach);
+        let broken = broken_fields(from);
+        Numbered::shown(call, answer, &broken, Reached::Numbered, reach);
         let (Some((old, image)), Some(new)) = (seen(from), edition(to.len())) else {
             return;
         };

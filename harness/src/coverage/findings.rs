@@ -116,18 +116,6 @@ impl Question {
     }
 }
 
-/// The numbers of all refusals that apply, in their order.
-fn numbers_applying(call: &Call) -> Vec<u32> {
-    let Call::FindRecord { answer, run, .. } = call else {
-        return Vec::new();
-    };
-    let mut applying = Vec::new();
-    applying.extend((answer.len() != FINDING_SIZE).then_some(7));
-    applying.extend(LedgerFlaw::of(call).map(|_| 19));
-    applying.extend((*run == u32::MAX).then_some(18));
-    applying
-}
-
 fn found(question: &Question, places: &[usize]) -> Vec<Asked> {
     let used = &question.records[..question.used];
     let (first, last) = (places[0], places[places.len() - 1]);
@@ -243,16 +231,19 @@ impl Reachable for Reached {
         points
     }
 
-    fn number_due(call: &Call) -> u32 {
-        numbers_applying(call).first().copied().unwrap_or(0)
+    fn applying(call: &Call) -> Vec<u32> {
+        let Call::FindRecord { answer, run, .. } = call else {
+            return Vec::new();
+        };
+        let mut applying = Vec::new();
+        applying.extend((answer.len() != FINDING_SIZE).then_some(7));
+        applying.extend(LedgerFlaw::of(call).map(|_| 19));
+        applying.extend((*run == u32::MAX).then_some(18));
+        applying
     }
 
     fn shown(call: &Call, answer: &Answer, reach: &mut dyn FnMut(Reached)) {
-        let applying = numbers_applying(call);
-        Numbered::shown(call.function(), answer.returned, &applying, &[])
-            .into_iter()
-            .map(Reached::Numbered)
-            .for_each(&mut *reach);
+        Numbered::shown(call, answer, &[], Reached::Numbered, reach);
         let shown = match answer.returned {
             0 => done(call, &answer.after),
             number => refused(call, number),

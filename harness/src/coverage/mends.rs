@@ -2,7 +2,7 @@
 //! to a call, and what it must leave, is found here by the walk of the check's
 //! coverage, without the model.
 
-use super::chains::{bases, of_overlap, overlaps, Asked, Base, Overlap, Position, Walk};
+use super::chains::{bases, of_overlap, overlaps, Asked, Base, Limit, Overlap, Position, Walk};
 use super::counts::number;
 use super::{Numbered, Reachable, BOTH};
 use crate::call::{Call, Function};
@@ -24,6 +24,8 @@ pub enum Bits {
 #[derive(Clone, Copy, Debug, PartialEq, Eq, PartialOrd, Ord)]
 pub enum Reached {
     Numbered(Numbered),
+    /// 3 was given for this limit alone.
+    NoWindow(Limit),
     /// A sound chain of so many owned descriptors was left, and of more.
     Left(usize),
     LeftMany,
@@ -45,24 +47,6 @@ fn changed(asked: &Asked, walk: &Walk) -> Option<(usize, u64)> {
     };
     let place = (before + CONTROL_AT - asked.base) as usize;
     (walk.wrong.verdict() != 0).then_some((place, before))
-}
-
-/// The numbers of all refusals that apply, in their order.
-fn numbers_applying(call: &Call) -> Vec<u32> {
-    let Call::MendChain { answer, .. } = call else {
-        return Vec::new();
-    };
-    let asked = Asked::of(call);
-    let mut applying = Vec::new();
-    applying.extend((answer.len() != MEND_SIZE).then_some(7));
-    if !asked.limits().is_empty() {
-        applying.push(3);
-        return applying;
-    }
-    let walk = asked.walk();
-    let nothing = walk.wrong.verdict() != 0 && walk.met.len() == 1;
-    applying.extend(nothing.then_some(23));
-    applying
 }
 
 /// What a mend that was done must leave, and tell: the address and both bytes.
@@ -123,6 +107,7 @@ impl Reachable for Reached {
         let pairs = [(7, 3), (7, 23)];
         let numbers = Numbered::of_call(Function::MendChain, &[7, 3, 23], &pairs);
         let mut points: Vec<Reached> = numbers.into_iter().map(Reached::Numbered).collect();
+        points.extend(Limit::ALL.map(Reached::NoWindow));
         points.extend([0, 1, 2, 2_047].map(Reached::Left));
         points.extend([1, 2].map(Reached::NothingToKeep));
         points.extend([Bits::None, Bits::Some, Bits::All].map(Reached::Bits));
@@ -138,22 +123,33 @@ impl Reachable for Reached {
         points
     }
 
-    fn number_due(call: &Call) -> u32 {
-        numbers_applying(call).first().copied().unwrap_or(0)
+    fn applying(call: &Call) -> Vec<u32> {
+        let Call::MendChain { answer, .. } = call else {
+            return Vec::new();
+        };
+        let asked = Asked::of(call);
+        let mut applying = Vec::new();
+        applying.extend((answer.len() != MEND_SIZE).then_some(7));
+        if !asked.limits().is_empty() {
+            applying.push(3);
+            return applying;
+        }
+        let walk = asked.walk();
+        let nothing = walk.wrong.verdict() != 0 && walk.met.len() == 1;
+        applying.extend(nothing.then_some(23));
+        applying
     }
 
     fn shown(call: &Call, answer: &Answer, reach: &mut dyn FnMut(Reached)) {
-        let applying = numbers_applying(call);
-        Numbered::shown(call.function(), answer.returned, &applying, &[])
-            .into_iter()
-            .map(Reached::Numbered)
-            .for_each(&mut *reach);
-        match answer.returned {
-            0 => done(call, &answer.after).into_iter().for_each(reach),
-            23 => reach(Reached::NothingToKeep(
+        Numbered::shown(call, answer, &[], Reached::Numbered, reach);
+        let shown = match answer.returned {
+            0 => done(call, &answer.after),
+            3 => Vec::from_iter(Asked::of(call).limit_alone().map(Reached::NoWindow)),
+            23 => vec![Reached::NothingToKeep(
                 Asked::of(call).walk().wrong.verdict(),
-            )),
-            _ => {}
-        }
+            )],
+            _ => Vec::new(),
+        };
+        shown.into_iter().for_each(reach);
     }
 }

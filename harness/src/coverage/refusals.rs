@@ -95,13 +95,13 @@ pub fn applying(call: &Call) -> Vec<Refusal> {
     applying
 }
 
-/// The number that the call must return.
-pub fn first_applying(call: &Call) -> u32 {
-    match applying(call).first() {
-        None => 0,
-        Some(BadImage) => broken_fields(call).first().map_or(0, bad_image_number),
-        Some(&refusal) => refusal as u32,
-    }
+/// Their numbers; 8 with its field.
+pub fn numbers_applying(call: &Call) -> Vec<u32> {
+    let number = |refusal: Refusal| match refusal {
+        BadImage => broken_fields(call).first().map_or(0, bad_image_number),
+        other => other as u32,
+    };
+    applying(call).into_iter().map(number).collect()
 }
 
 fn has_bad_size(call: &Call) -> bool {

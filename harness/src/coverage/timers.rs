@@ -176,19 +176,14 @@ impl Reachable for Reached {
         [numbers(), registers(), ticks(), snapshots()].concat()
     }
 
-    fn number_due(call: &Call) -> u32 {
-        let applying = numbers_applying(on_timer(call));
-        applying.first().copied().unwrap_or(0)
+    fn applying(call: &Call) -> Vec<u32> {
+        numbers_applying(on_timer(call))
     }
 
     fn shown(call: &Call, answer: &Answer, reach: &mut dyn FnMut(Reached)) {
         let timer = on_timer(call);
-        let (function, applying) = (call.function(), numbers_applying(timer));
         let broken = broken_fields(timer.timer());
-        Numbered::shown(function, answer.returned, &applying, &broken)
-            .into_iter()
-            .map(Reached::Numbered)
-            .for_each(&mut *reach);
+        Numbered::shown(call, answer, &broken, Reached::Numbered, reach);
         let shown = match answer.returned {
             0 => done(timer, on_timer(&answer.after)),
             17 => not_full(timer),

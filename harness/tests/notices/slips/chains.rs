@@ -16,6 +16,9 @@ overlap(one: u32, other: u32) -> bool {
     "an overlap from below is none" => { one >= other && one - other < 32 }
     "an overlap from above is none" => { one <= other && other - one < 32 }
     "an overlap by half is none" => { one.abs_diff(other) < 16 }
+    "an overlap next to the top of the bus is none" => {
+        one < other.wrapping_add(32) && other < one.wrapping_add(32)
+    }
 }
 
 cause(window: Window, earlier: &[u32], address: u32) -> Option<Cause> {
@@ -38,6 +41,14 @@ cause(window: Window, earlier: &[u32], address: u32) -> Option<Cause> {
             Paper.place(window, u64::from(address), 32).is_none()
         })
     }
+    "a multiple of 2 is aligned in a check" => {
+        if address % 4 != 2 {
+            return Paper.cause(window, earlier, address);
+        }
+        let inside = Paper.place(window, u64::from(address), 32).is_some();
+        let overlaps = earlier.iter().any(|&other| Paper.overlap(address, other));
+        (!inside).then_some(Cause::Outside).or(overlaps.then_some(Cause::Overlaps))
+    }
     "outside and overlapping have each other's number" => {
         match Paper.cause(window, earlier, address) {
             Some(Cause::Outside) => Some(Cause::Overlaps),
@@ -58,6 +69,10 @@ cause(window: Window, earlier: &[u32], address: u32) -> Option<Cause> {
             None if Paper.cause(window, earlier, address).is_some() => Some(Cause::Overlaps),
             other => other,
         }
+    }
+    "a descriptor at the base is outside" => {
+        let first = address.is_multiple_of(4) && u64::from(address) == window.base;
+        if first { Some(Cause::Outside) } else { Paper.cause(window, earlier, address) }
     }
     "the last descriptor of the window is outside" => {
         let shorter = Window { length: window.length.saturating_sub(1), ..window };
@@ -84,6 +99,10 @@ cause(window: Window, earlier: &[u32], address: u32) -> Option<Cause> {
     "an overlap with the first is not looked for" => {
         let behind = earlier.len().min(1);
         Paper.cause(window, &earlier[behind..], address)
+    }
+    "an overlap is looked for in the last 2,047 only" => {
+        let from = earlier.len().saturating_sub(2_047);
+        Paper.cause(window, &earlier[from..], address)
     }
     "only the first descriptor is looked for" => {
         let first = earlier.len().min(1);
@@ -137,6 +156,9 @@ link(bytes: &[u8; DESCRIPTOR_SIZE]) -> Option<u32> {
     "the lower two bits of a link are dropped" => {
         Paper.link(bytes).map(|next| next & !3)
     }
+    "the link has 24 bits" => {
+        Paper.link(bytes).map(|next| next & 0xFF_FFFF)
+    }
     "the link has 16 bits" => {
         Paper.link(bytes).map(|next| next & 0xFFFF)
     }
@@ -155,6 +177,20 @@ walk(memory: &[u8], window: Window, pointer: u32) -> Stop {
     }
     "the address told is the pointer" => {
         Stop { address: pointer, ..Paper.walk(memory, window, pointer) }
+    }
+    "the address told at the end is that of the last owned one" => {
+        let stop = Paper.walk(memory, window, pointer);
+        match stop.cause {
+            None => Stop { address: stop.before.unwrap_or(pointer), ..stop },
+            Some(_) => stop,
+        }
+    }
+    "the address of a defect is that of the one before it" => {
+        let stop = Paper.walk(memory, window, pointer);
+        match stop.cause {
+            Some(_) => Stop { address: stop.before.unwrap_or(pointer), ..stop },
+            None => stop,
+        }
     }
     "the address of a defect is the one of its link" => {
         let stop = Paper.walk(memory, window, pointer);
@@ -220,6 +256,9 @@ verdict_bytes(stop: &Stop) -> [u8; CHECK_SIZE] {
     "the address is least significant first" => {
         Paper.verdict_bytes(&Stop { address: stop.address.swap_bytes(), ..*stop })
     }
+    "the position is told in 11 bits" => {
+        Paper.verdict_bytes(&Stop { position: stop.position & 0x7FF, ..*stop })
+    }
     "the position is told in 8 bits" => {
         Paper.verdict_bytes(&Stop { position: stop.position & 0xFF, ..*stop })
     }
@@ -255,6 +294,27 @@ slice_at(base: u64, memory: &[u8]) -> Result<Window, u32> {
     }
     "a window must begin at a multiple of 4" => {
         if !base.is_multiple_of(4) { Err(3) } else { Paper.slice_at(base, memory) }
+    }
+    "a window of 65,537 bytes is checked" => {
+        Paper.slice_at(base, memory).or_else(|number| match memory.len() {
+            65_537 => Ok(Window { base, length: 65_537 }),
+            _ => Err(number),
+        })
+    }
+    "a window that ends above 2^32 is checked" => {
+        let length = memory.len() as u64;
+        let taken = base < 1 << 32 && length <= 65_536;
+        if taken { Ok(Window { base, length }) } else { Err(3) }
+    }
+    "a window that ends at 2^32 is not checked" => {
+        Paper.slice_at(base, memory).and_then(|window| match window.base + window.length {
+            0x1_0000_0000 => Err(3),
+            _ => Ok(window),
+        })
+    }
+    "base 2^32 is taken for an empty window in a check" => {
+        let taken = base == 1 << 32 && memory.is_empty();
+        if taken { Ok(Window { base, length: 0 }) } else { Paper.slice_at(base, memory) }
     }
     "the largest window is refused" => {
         if memory.len() == 65_536 { Err(3) } else { Paper.slice_at(base, memory) }

@@ -75,6 +75,10 @@ clear(memory: &mut [u8], window: Window, address: u32) -> Mended {
         let mended = Paper.clear(memory, window, address);
         Mended { old: mended.new, ..mended }
     }
+    "the status byte is told as the old one" => {
+        let place = (u64::from(address) - window.base) as usize;
+        Mended { old: memory[place + 30], ..Paper.clear(memory, window, address) }
+    }
     "the address of the byte is told" => {
         let mended = Paper.clear(memory, window, address);
         Mended { address: mended.address.wrapping_add(31), ..mended }
@@ -130,6 +134,24 @@ sgdma_mend_chain(memory: &mut [u8], base: u64, pointer: u32, answer: &mut [u8]) 
     "a refused mend clears the answer" => {
         let number = Paper.sgdma_mend_chain(memory, base, pointer, answer);
         if number != 0 { answer.fill(0); }
+        number
+    }
+    "what is wrong is cleared where there is nothing to keep" => {
+        let number = Paper.sgdma_mend_chain(memory, base, pointer, answer);
+        let place = (u64::from(pointer) + 31).checked_sub(base).unwrap_or(u64::MAX);
+        if let (23, Some(control)) = (number, memory.get_mut(place as usize)) {
+            *control &= 0x7F;
+        }
+        number
+    }
+    "the address of the defect is told" => {
+        let before = memory.to_vec();
+        let number = Paper.sgdma_mend_chain(memory, base, pointer, answer);
+        if number == 0 && answer[1] == 1 {
+            let window = Window { base, length: before.len() as u64 };
+            let stop = Paper.walk(&before, window, pointer);
+            answer[2..6].copy_from_slice(&stop.address.to_be_bytes());
+        }
         number
     }
     "a mend refused for its answer is made" => {
