@@ -27,16 +27,17 @@ include bench/processor.mk
 
 bench: run-bench
 
-board: $(addprefix run-board-,$(FIRMWARES))
+board: $(addprefix $(BUILD)/board-,$(FIRMWARES))
+	@apart=; for program in $^; do printf "$$apart"; apart='\n'; $(RUN) $$program || exit; done
 
 # The run of one firmware as a wave: make wave FIRMWARE=copier; one that lies elsewhere with FIRMWARE_DIR=..
 FIRMWARE = samples
 STEM = $(BUILD)/$(FIRMWARE)
 
 # The registers by their addresses, which the view shows in place of numbers, are those that the reports name. A board that was stopped
-# leaves its wave too.
+# leaves its wave too. What an earlier run has left is taken away first: a run that is killed would leave it, and it would look new.
 wave: $(BUILD)/board-$(FIRMWARE)
-	@rm -f $(STEM).reports
+	@rm -f $(STEM).reports $(STEM).registers $(STEM).vcd $(STEM).memory $(STEM).*.ledger
 	@$(RUN) $< $(STEM); ended=$$?; [ -e $(STEM).reports ] || exit $$ended; \
 		awk '$$1 != "step" { print substr($$3, 3), $$7, $$6 }' $(STEM).reports | sort -u >$(STEM).registers; \
 		printf '\nThe wave is %s. To look at it: gtkwave %s\n' $(STEM).vcd '$(STEM).vcd $(wildcard board/$(FIRMWARE).gtkw)'; exit $$ended
@@ -83,20 +84,26 @@ $(C_PROGRAMS:%=$(BUILD)/%): $(LENT) $(wildcard bench/*.h tests/*.h ledger/*.h du
 # the same name may lie in another folder.
 FIRMWARE_HEADERS = $(wildcard board/include/*.h board/include/*/*.h board/include/*/*/*.h)
 OF_FIRMWARE = -std=c99 $(CFLAGS) $(WARNINGS) -I$(INCLUDE) -Iboard/include
-BOARD = $(addprefix board/,board.c bus.c description.c interrupts.c saved.c stop.c vic.c) $(addprefix bench/,core.c timer.c controller.c)
+BOARD = $(addprefix board/,board.c bus.c description.c guard.c interrupts.c saved.c stop.c vic.c) \
+	$(addprefix bench/,core.c timer.c controller.c)
 BOARD_HEADERS = $(FIRMWARE_HEADERS) $(LENT) $(wildcard board/*.h bench/*.h tests/*.h tests/board/*.h)
-FOR_BOARD = $(OF_FIRMWARE) -Iboard/include/model -Iboard -Ibench -Itests
+FOR_BOARD = $(OF_FIRMWARE) -pthread -Iboard/include/model -Iboard -Ibench -Itests
 
 $(BUILD)/firmware-%.o: $(FIRMWARE_DIR)/%.c $(FIRMWARE_HEADERS) $(LENT) anew
 	@mkdir -p $(@D)
 	@$(CC) $(OF_FIRMWARE) -Iboard/include/model -Dmain=firmware_main -c -o $@ $<
 
 $(BUILD)/board-tests: $(wildcard tests/board/*.c) tests/check.c board/wave.c bench/progress.c
-$(FIRMWARES:%=$(BUILD)/board-%): $(BUILD)/board-%: $(BUILD)/firmware-%.o board/run.c board/workshop.c board/wave.c bench/tell.c bench/progress.c
+$(FIRMWARES:%=$(BUILD)/board-%): $(BUILD)/board-%: $(BUILD)/firmware-%.o board/run.c board/workshop.c board/wave.c \
+	bench/tell.c bench/beats.c bench/progress.c
 
 $(BUILD)/board-tests $(FIRMWARES:%=$(BUILD)/board-%): $(BOARD) $(BOARD_HEADERS)
 	@mkdir -p $(@D)
-	@$(CC) $(FOR_BOARD) -o $@ $(filter %.o %.c,$^) $(LIBRARY) $(LDLIBS)
+	@$(CC) $(FOR_BOARD) -DFIRMWARE_NAME='"$(@:$(BUILD)/board-%=%)"' -o $@ $(filter %.o %.c,$^) $(LIBRARY) $(LDLIBS)
+
+# Reached where a firmware has no file: also where its program is there from before, which would be run in silence.
+$(BUILD)/board-%: anew
+	@echo 'there is no $(FIRMWARE_DIR)/$*.c' >&2; exit 1
 
 target-syntax:
 	@$(CC) $(OF_FIRMWARE) -Iboard/include/hardware -fsyntax-only $(FIRMWARES:%=$(FIRMWARE_DIR)/%.c)
@@ -154,7 +161,8 @@ uninstall:
 # The same program in four languages.
 LANGUAGES = c cpp rs py
 
-examples: $(LANGUAGES:%=run-example-%)
+examples:
+	@for language in $(LANGUAGES); do printf '\nexamples/example.%s says:\n\n' $$language; $(MAKE) -s run-example-$$language || exit; done
 
 $(BUILD)/example-c: examples/example.c $(LENT)
 	@mkdir -p $(@D)

@@ -3,6 +3,7 @@
  * it is not. Each scene is played, shown and compared with what must come of
  * it; the program fails where one is not as it must be.
  */
+#include "beats.h"
 #include "checked.h"
 #include "late.h"
 #include "shared.h"
@@ -352,14 +353,14 @@ static bool play(size_t number, const struct scene *scene)
     struct outcome outcome;
     bool as;
 
-    printf("\n%zu.  %s\n    %s\n\n", number, scene->title, scene->see);
+    show_title(number, scene->title, scene->see);
     prepare(&both[0], scene);
     end = run(scene, both, &outcome);
     show_fault(outcome.fault);
     printf("\n");
     walk(&end->core, &outcome);
     printf("\n");
-    show_ledger(end->ledger, end->taken);
+    show_beats(end->ledger, &end->core, end->taken);
     as = as_it_must_be(scene, end, &outcome);
     if (scene->saved_after || scene->spoiled_after)
         as = same_end(scene, end) && as;

@@ -3,6 +3,7 @@
 #include <inttypes.h>
 #include <stdio.h>
 
+#include "beats.h"
 #include "show.h"
 
 /* The descriptors of the chain, and the end behind them. */
@@ -88,9 +89,8 @@ bool play_checked(size_t number, uint32_t enables)
     struct firmware firmware;
     bool as;
 
-    printf("\n%zu.  A chain that is checked before it runs\n"
-           "    What is wrong is told with position and cause; put right, all of it runs.\n\n",
-           number);
+    show_title(number, "A chain that is checked before it runs",
+               "What is wrong is told with position and cause; put right, all of it runs.");
     firmware_begin(&firmware, enables);
     as = damage(&firmware.core);
     printf("    put right\n");
@@ -98,7 +98,7 @@ bool play_checked(size_t number, uint32_t enables)
     printf("\n");
     as = runs(&firmware, &SOUND) && as;
     printf("\n");
-    show_ledger(firmware.ledger, firmware.taken);
+    show_beats(firmware.ledger, &firmware.core, firmware.taken);
     return show_verdict(as);
 }
 
@@ -130,9 +130,8 @@ bool play_mended(size_t number, uint32_t enables)
     struct firmware firmware;
     bool as;
 
-    printf("\n%zu.  A chain that is mended after a crash\n"
-           "    What stood before the defect is kept: the last of it is the end, unrecorded.\n\n",
-           number);
+    show_title(number, "A chain that is mended after a crash",
+               "What stood before the defect is kept: the last of it is the end, unrecorded.");
     firmware_begin(&firmware, enables);
     lead(&firmware.core, THIRD, CRASHED.address);
     printf("    0x%04X leads to 0x%04" PRIX32 "\n", (unsigned)THIRD, CRASHED.address);
@@ -143,6 +142,6 @@ bool play_mended(size_t number, uint32_t enables)
     printf("\n");
     as = runs(&firmware, &KEPT) && as;
     printf("\n");
-    show_ledger(firmware.ledger, firmware.taken);
+    show_beats(firmware.ledger, &firmware.core, firmware.taken);
     return show_verdict(as);
 }

@@ -3,6 +3,7 @@
 #include <inttypes.h>
 #include <stdio.h>
 
+#include "beats.h"
 #include "show.h"
 
 /*
@@ -74,7 +75,7 @@ static bool play_half(uint32_t enables, bool pointer_too, size_t fresh)
     printf("\n");
     as = chain_as(&firmware, fresh) && as;
     printf("\n");
-    show_ledger(firmware.ledger, firmware.taken);
+    show_beats(firmware.ledger, &firmware.core, firmware.taken);
     return as && firmware.ledger.used == DESCRIPTORS;
 }
 
@@ -82,9 +83,8 @@ bool play_late(size_t number, uint32_t enables)
 {
     bool late, right;
 
-    printf("\n%zu.  A descriptor rewritten late, and then rightly\n"
-           "    The core has read it ahead: the old one runs, and the new one reads as done.\n\n",
-           number);
+    show_title(number, "A descriptor rewritten late, and then rightly",
+               "The core has read it ahead: the old one runs, and the new one reads as done.");
     late = play_half(enables, false, 0);
     printf("\n    The same again, with the pointer written too: the new one runs.\n\n");
     right = play_half(enables, true, PACKET);

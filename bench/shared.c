@@ -3,6 +3,7 @@
 #include <inttypes.h>
 #include <stdio.h>
 
+#include "beats.h"
 #include "controller.h"
 #include "show.h"
 #include "timer.h"
@@ -125,10 +126,9 @@ bool play_shared(size_t number, uint32_t enables)
     static struct bench bench;
     size_t slices = 0;
 
-    printf("\n%zu.  Two cores and the timer on one interrupt controller\n"
-           "    Of those whose lines are up the one with the largest level is told first.\n\n"
-           "    slice  A     B     timer  served  level  handler  status read and cleared\n",
-           number);
+    show_title(number, "Two cores and the timer on one interrupt controller",
+               "Of those whose lines are up the one with the largest level is told first.");
+    printf("    slice  A     B     timer  served  level  handler  status read and cleared\n");
     begin(&bench, enables);
     while (slice(&bench, ++slices))
         ;
@@ -136,7 +136,7 @@ bool play_shared(size_t number, uint32_t enables)
            firmware_done(&bench.cores[0]), firmware_done(&bench.cores[1]));
     for (size_t i = 0; i < CORES; i++) {
         printf("\n    %s\n", NAMES[i]);
-        show_ledger(bench.cores[i].ledger, bench.cores[i].taken);
+        show_beats(bench.cores[i].ledger, &bench.cores[i].core, bench.cores[i].taken);
     }
     return show_verdict(served_as(&bench));
 }

@@ -49,6 +49,12 @@ void show_legend(void)
            MEMORY, DESCRIPTORS, PACKET, SLICE, FRESH, OLD, STRANGE);
 }
 
+/* All titles stand in one column, with the text below them. */
+void show_title(size_t number, const char *title, const char *see)
+{
+    printf("\n%zu.%*s%s\n    %s\n\n", number, number < 10 ? 2 : 1, "", title, see);
+}
+
 void show_slice_heading(void)
 {
     printf("    slice  steps  beats  records  stopped by  line  "

@@ -24,6 +24,10 @@ struct found {
 struct found find(const struct core *core, uint32_t address, size_t first);
 
 void show_legend(void);
+
+/* The title of a scene, and the line under it. */
+void show_title(size_t number, const char *title, const char *see);
+
 void show_slice_heading(void);
 void show_slice(size_t number, const struct slice *slice);
 

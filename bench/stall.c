@@ -3,6 +3,7 @@
 #include <inttypes.h>
 #include <stdio.h>
 
+#include "beats.h"
 #include "show.h"
 #include "timer.h"
 
@@ -73,16 +74,15 @@ bool play_stall(size_t number, uint32_t enables)
     uint32_t status;
     bool as;
 
-    printf("\n%zu.  A stall timed with two snapshots\n"
-           "    The timer counts a tick a step, and passes zero while the stream is silent.\n\n",
-           number);
+    show_title(number, "A stall timed with two snapshots",
+               "The timer counts a tick a step, and passes zero while the stream is silent.");
     show_slice_heading();
     begin(&stall, enables);
     as = run_slices(&stall) == SGDMA_REASON_NEEDS_INPUT;
     time_stall(&stall);
     as = run_slices(&stall) == SGDMA_REASON_ENDED && as;
     printf("\n");
-    show_ledger(stall.firmware.ledger, stall.firmware.taken);
+    show_beats(stall.firmware.ledger, &stall.firmware.core, stall.firmware.taken);
     status = timer_read(&stall.timer, SGDMA_TIMER_REGISTER_STATUS);
     as = as && stall.earlier == MUST_EARLIER && stall.later == MUST_LATER &&
          stall.ticks == MUST_TICKS &&

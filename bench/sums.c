@@ -165,10 +165,9 @@ bool play_sums(size_t number, uint32_t enables)
     struct account account = {0};
     bool as = true;
 
-    printf("\n%zu.  Three runs and a reset\n"
-           "    Ledger, in hand, abandoned by reset or fault: together every beat taken.\n\n"
-           "    after           run  beats  ledger + in hand + abandoned = beats in all\n",
-           number);
+    show_title(number, "Three runs and a reset",
+               "Ledger, in hand, abandoned by reset or fault: together every beat taken.");
+    printf("    after           run  beats  ledger + in hand + abandoned = beats in all\n");
     firmware_begin(&sums.firmware, enables);
     for (size_t i = 0; i < CALL_COUNT; i++) {
         uint32_t before = sums.firmware.taken;

@@ -39,6 +39,15 @@ static const char *const CAUSES[] = {
     [SGDMA_CHAIN_OVERLAPS] = "overlaps an earlier descriptor",
 };
 
+/* What a core has met where it faulted, in the header's words. */
+static const char *const FAULTS[] = {
+    [SGDMA_FAULT_MISALIGNED] = "the pointer is not a multiple of 4",
+    [SGDMA_FAULT_DESCRIPTOR_OUTSIDE] = "the descriptor's 32 bytes are not in the window",
+    [SGDMA_FAULT_NO_LENGTH] = "bytes_to_transfer is 0",
+    [SGDMA_FAULT_SOURCE_OUTSIDE] = "the byte to read is not in the window",
+    [SGDMA_FAULT_DESTINATION_OUTSIDE] = "the byte to write is not in the window",
+};
+
 #define IN_HAND "be 0 but in Move and WriteBack"
 
 /* The fields of an image that can be told, and what each must do or be. */
@@ -121,11 +130,21 @@ void show_refused(uint32_t number)
     printf("\n");
 }
 
+/* The code is read from an image that nobody has looked at: it may be any. */
+static const char *fault_words(uint32_t code)
+{
+    const char *words = NULL;
+
+    if (code < sizeof FAULTS / sizeof *FAULTS)
+        words = FAULTS[code];
+    return words ? words : "no fault has this number";
+}
+
 void show_fault(struct fault fault)
 {
     if (fault.code)
-        printf("    fault %" PRIu32 " at 0x%04" PRIX32 "\n", fault.code,
-               fault.address);
+        printf("    fault %" PRIu32 " at 0x%04" PRIX32 ": %s\n", fault.code,
+               fault.address, fault_words(fault.code));
 }
 
 void show_checked(const struct checked *checked)

@@ -16,7 +16,7 @@ void show_timer_status(uint32_t status);
 /* A refusal; where it is that of an image, with the field in words. */
 void show_refused(uint32_t number);
 
-/* The code and address of a fault, where there is one. */
+/* The code and address of a fault, where there is one, and what was met there. */
 void show_fault(struct fault fault);
 
 /* What a check tells of a chain: that it is sound, or where and why it is not. */

@@ -111,6 +111,7 @@ void board_pass(uint32_t ticks)
     for (uint32_t i = 0; i < ticks; i++) {
         if (board_state.ticks >= board_state.description->time.most_ticks)
             board_stop(BOARD_TIME_UP);
+        board_heed();
         board_state.ticks++;
         timer_run(&board_state.timer, 1);
         for (size_t core = 0; core < board_state.description->core_count; core++)

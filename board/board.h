@@ -11,7 +11,7 @@
  * of the description. It is told on standard error, with the refusal's name, the
  * register and the firmware's file and line, and the program ends with BOARD_STOPPED.
  * So does a plain load or store where nothing is mapped; there the line is that of the
- * last access before it.
+ * last access before it, and it is told that the firmware is behind it.
  */
 #ifndef BOARD_H
 #define BOARD_H
@@ -97,6 +97,21 @@ void board_make(const struct board *board);
 
 /* Takes the board and its memory away. */
 void board_end(void);
+
+/*
+ * Looks after the firmware that is called between these two. Firmware that loops over
+ * memory alone lets no tick pass, so that nothing it waits for comes: when it has used
+ * ten seconds of the processor without a tick, the board stops. It also stops at SIGINT
+ * and SIGTERM, where the program was not started to ignore them; once it stops, or nobody
+ * is looked after any longer, they do nothing. These seconds decide no tick: a run that
+ * comes to its end is the same each time.
+ *
+ * A program that a debugger holds uses no time of the processor. Firmware that computes
+ * for longer between two accesses is run with another number in the environment, as
+ * BOARD_SECONDS=60; with BOARD_SECONDS=0 it is given all the time that it takes.
+ */
+void board_guard(void);
+void board_unguard(void);
 
 /*
  * All state of the board, as bytes: the images, the timer, the controller, the memory,

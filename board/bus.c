@@ -72,7 +72,7 @@ static void name_place(const struct board *board, struct found found)
 {
     static const char *const NONE = "(no register of it)";
     const char *names[] = {
-        [NOTHING] = NULL,
+        [NOTHING] = "",
         [MEMORY] = "",
         [CORE] = core_register_name(found.number),
         [TIMER] = timer_register_name(found.number),
@@ -90,9 +90,10 @@ static void name_place(const struct board *board, struct found found)
     board_state.access.reg = names[found.kind] ? names[found.kind] : NONE;
 }
 
-/* Keeps where the firmware is; the board, which there must be. */
+/* Enters, and keeps where the firmware is; the board, which there must be. */
 static const struct board *come_to(struct board_access access)
 {
+    board_enter();
     board_state.access = access;
     if (!board_state.description)
         board_stop(BOARD_NOT_MADE);
@@ -125,6 +126,7 @@ static void end(uint32_t value)
     if (board_state.watch && board_state.watch->access)
         board_state.watch->access(&access);
     board_serve();
+    board_leave();
 }
 
 static uint32_t read_word(const uint8_t *memory)
@@ -183,5 +185,6 @@ unsigned int board_wait(uint32_t microseconds, const char *file, int line)
             board_pass(1);
             board_serve();
         }
+    board_leave();
     return 0;
 }

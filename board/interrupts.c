@@ -38,7 +38,9 @@ static void call_handler(const struct handler *handler)
         board_stop(BOARD_NO_HANDLER);
     in_handler = true;
     board_state.interrupts++;
+    board_leave();
     handler->serve(handler->context);
+    board_enter();
     in_handler = false;
 }
 
@@ -70,8 +72,10 @@ static int enable(uint32_t ic_id, uint32_t irq, bool on)
 {
     if (!has_port(ic_id, irq))
         return -1;
+    board_enter();
     controller_enable(&board_state.controller, irq, on);
     board_serve();
+    board_leave();
     return 0;
 }
 

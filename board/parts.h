@@ -38,7 +38,10 @@ enum {
 #define BOARD_NO_HANDLER   "BOARD_NO_HANDLER: the chosen port has no handler"
 #define BOARD_LINE_STAYS   "BOARD_LINE_STAYS: the handler does not take the line down"
 #define BOARD_LEDGER_FULL  "BOARD_LEDGER_FULL: a core waits for room in its ledger"
-#define BOARD_TIME_UP      "BOARD_TIME_UP: most_ticks of the description have passed"
+#define BOARD_TIME_UP      "BOARD_TIME_UP: most_ticks of the description (board/workshop.c) have passed"
+#define BOARD_SILENT       "BOARD_SILENT: no tick within %lu s of processor time: a loop over " \
+                           "memory alone is granted none; wait by alt_busy_sleep"
+#define BOARD_INTERRUPTED  "BOARD_INTERRUPTED: the program was told to end, by %s"
 #define BOARD_NO_MEMORY    "BOARD_NO_MEMORY: the memory cannot be mapped at its bus address"
 #define BOARD_BAD_CORES    "BOARD_BAD_CORES: there are no cores, or more than BOARD_CORES_MAX"
 #define BOARD_BAD_PLACE    "BOARD_BAD_PLACE: registers not at a multiple of 4, or in another's place"
@@ -47,8 +50,10 @@ enum {
 #define BOARD_NOT_SAVED    "BOARD_NOT_SAVED: the bytes are not the state of such a board"
 #define BOARD_NOT_MAPPED   "BOARD_NOT_MAPPED: a load or store, without the macros, where no memory is"
 
-/* Tells the refusal and where the firmware is, and ends the program. */
+/* Tells the refusal and where the firmware is, and ends the program. The second is for
+   firmware that is not in an access: it has gone on behind its last. */
 void board_stop(const char *refusal);
+void board_stop_behind(const char *refusal);
 
 /* The same of a call of the model. */
 void board_stop_call(const char *call, uint32_t number);
@@ -56,6 +61,14 @@ void board_stop_call(const char *call, uint32_t number);
 /* Stops the program at a load or store where nothing is mapped; or no longer does. */
 void board_catch_faults(void);
 void board_let_faults(void);
+
+/* What the firmware calls of the board stands between these two, in which nobody else
+   stops the board; a handler of the firmware, which is called there, is outside. */
+void board_enter(void);
+void board_leave(void);
+
+/* Stops the board where a signal has asked for it. */
+void board_heed(void);
 
 /* Looks at a description, and stops where no board can be made of it. */
 void board_look_at(const struct board *board);

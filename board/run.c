@@ -1,6 +1,7 @@
 /*
  * Runs a firmware on the workshop's board, and shows what came of it. The firmware's
- * file is compiled as it is; its main is called firmware_main here.
+ * file is compiled as it is; its main is called firmware_main here. FIRMWARE_NAME is the
+ * name of its file, without the ending.
  *
  *   board-NAME [STEM]    with the two files of wave.h, STEM.vcd and STEM.reports; at the
  *                        end STEM.memory, and for each core STEM.CORE.ledger
@@ -9,6 +10,7 @@
 #include <stdio.h>
 #include <stdlib.h>
 
+#include "beats.h"
 #include "progress.h"
 #include "tell.h"
 #include "wave.h"
@@ -27,15 +29,15 @@ static void show_core(size_t place)
     show_status(core_read(&state->core, SGDMA_REGISTER_STATUS));
     printf("\n");
     show_fault(core_fault(&state->core));
-    if (state->ledger.used == 0)
+    if (state->ledger.used == 0 && state->taken == 0)
         return;
     if (core->mode == SGDMA_MODE_STREAM_TO_MEMORY)
-        show_ledger(state->ledger, state->taken);
+        show_beats(state->ledger, &state->core, state->taken);
     else
         show_records(state->ledger);
 }
 
-enum { LONGEST_PATH = 4096, CANNOT_WRITE = 2 };
+enum { LONGEST_PATH = 4096, SHORT_WORDS = 40, CANNOT_WRITE = 2 };
 
 /* The path of a file of the stem, or of one of a core's. */
 static void put_path(char *path, const char *stem, const char *core, const char *ending)
@@ -74,11 +76,35 @@ static bool write_dumps(void)
     return written;
 }
 
-/* A board that was stopped leaves its files too: firmware that never ends is stopped. */
+/* "1 tick", "2 ticks". */
+static const char *counted(char *words, uint32_t count, const char *what, const char *ending)
+{
+    snprintf(words, SHORT_WORDS, "%" PRIu32 " %s%s", count, what, count == 1 ? "" : ending);
+    return words;
+}
+
+static void show_board(void)
+{
+    char accesses[SHORT_WORDS], handlers[SHORT_WORDS], ticks[SHORT_WORDS];
+
+    printf("\nThe board says: %s, %s called, %s\n",
+           counted(accesses, board_accesses(), "access", "es"),
+           counted(handlers, board_interrupts(), "handler", "s"),
+           counted(ticks, board_ticks(), "tick", "s"));
+    for (size_t i = 0; i < board_description()->core_count; i++)
+        show_core(i);
+}
+
+/* A board that was stopped leaves its files too, and shows its cores: firmware that
+   never ends is stopped. The files come first, since to show a core can be refused. */
 static void at_end(void)
 {
-    if (board_description())
+    board_unguard();
+    if (!board_description())
+        return;
+    if (stem)
         write_dumps();
+    show_board();
 }
 
 static void begin_files(void)
@@ -88,7 +114,6 @@ static void begin_files(void)
     put_path(wave, stem, "", ".vcd");
     put_path(reports, stem, "", ".reports");
     wave_begin(wave, reports);
-    atexit(at_end);
 }
 
 static bool end_files(void)
@@ -104,6 +129,21 @@ static void at_step(size_t core, const struct ran *ran)
     show_progress(board_ticks(), "ticks");
 }
 
+/* Calls the firmware, and tells its number where it is one of an error. */
+static int run_firmware(void)
+{
+    int returned;
+
+    printf("The firmware %s says:\n\n", FIRMWARE_NAME);
+    board_guard();
+    returned = firmware_main();
+    board_unguard();
+    end_progress();
+    if (returned)
+        printf("\nThe firmware ended with %d\n", returned);
+    return returned;
+}
+
 int main(int count, char **arguments)
 {
     static const struct board_watch WATCH = {at_step, NULL};
@@ -114,15 +154,11 @@ int main(int count, char **arguments)
     stem = count == 2 ? arguments[1] : NULL;
     if (stem)
         begin_files();
-    printf("The firmware says:\n\n");
-    returned = firmware_main();
-    end_progress();
+    atexit(at_end); /* and so before the wave is ended, where the board stops */
+    returned = run_firmware();
     if (stem && !end_files())
         returned = CANNOT_WRITE;
-    printf("\nThe board says: %" PRIu32 " accesses, %" PRIu32 " handlers called, %" PRIu32
-           " ticks\n", board_accesses(), board_interrupts(), board_ticks());
-    for (size_t i = 0; i < board_description()->core_count; i++)
-        show_core(i);
+    show_board();
     board_end();
     return returned;
 }

@@ -1,4 +1,4 @@
-#define _DEFAULT_SOURCE /* for sigaction */
+#define _DEFAULT_SOURCE /* for sigaction and flockfile */
 
 #include "parts.h"
 
@@ -38,29 +38,50 @@ static const char *refusal_name(uint32_t refusal)
     return name ? name : "a refusal that the board does not know";
 }
 
-/* Where the firmware is: the access that it is in, or was in last. */
-static void tell_place(void)
+/* Where the firmware is: the access that it is in, or was in last, with a word before it. */
+static void tell_place(const char *word)
 {
     const struct board_access *access = &board_state.access;
 
     if (!access->file)
         fprintf(stderr, "    before the first access of the firmware\n");
     else if (access->does == BOARD_WAIT)
-        fprintf(stderr, "    %s:%d: wait\n", access->file, access->line);
+        fprintf(stderr, "    %s%s:%d: wait\n", word, access->file, access->line);
     else
-        fprintf(stderr, "    %s:%d: %s at 0x%08" PRIX32 ": %s %s\n", access->file,
+        fprintf(stderr, "    %s%s:%d: %s at 0x%08" PRIX32 ": %s%s%s\n", word, access->file,
                 access->line, access->does == BOARD_WRITE ? "write" : "read", access->address,
                 access->device ? access->device : "no device",
-                access->reg ? access->reg : "");
+                access->reg && *access->reg ? " " : "", access->reg ? access->reg : "");
+}
+
+/* What is written at the end of the program may be refused too: then there is no second
+   end, and what the files have so far is kept. */
+static void stop(const char *refusal, const char *word)
+{
+    static bool stopping;
+
+    board_enter();     /* and never leaves: whoever comes later does not stop it again */
+    flockfile(stdout); /* nor does firmware that goes on print over what is told now */
+    fflush(stdout);
+    fprintf(stderr, "board: stopped after %" PRIu32 " tick%s\n    %s\n", board_state.ticks,
+            board_state.ticks == 1 ? "" : "s", refusal);
+    tell_place(word);
+    if (stopping) {
+        fflush(NULL);
+        _Exit(BOARD_STOPPED);
+    }
+    stopping = true;
+    exit(BOARD_STOPPED);
 }
 
 void board_stop(const char *refusal)
 {
-    fflush(stdout);
-    fprintf(stderr, "board: stopped after %" PRIu32 " ticks\n    %s\n",
-            board_state.ticks, refusal);
-    tell_place();
-    exit(BOARD_STOPPED);
+    stop(refusal, "");
+}
+
+void board_stop_behind(const char *refusal)
+{
+    stop(refusal, "behind ");
 }
 
 void board_stop_call(const char *call, uint32_t number)
@@ -83,7 +104,7 @@ static void at_fault(int signal, siginfo_t *info, void *context)
     (void)context;
     snprintf(refusal, sizeof refusal, "%s, at 0x%08" PRIXPTR, BOARD_NOT_MAPPED,
              (uintptr_t)info->si_addr);
-    board_stop(refusal);
+    board_stop_behind(refusal);
 }
 
 void board_catch_faults(void)

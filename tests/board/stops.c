@@ -1,10 +1,13 @@
-#define _DEFAULT_SOURCE /* for MAP_ANONYMOUS */
+#define _DEFAULT_SOURCE /* for MAP_ANONYMOUS, setenv and kill */
 
 #include "stops.h"
 
+#include <signal.h>
 #include <stdio.h>
+#include <stdlib.h>
 #include <string.h>
 #include <sys/mman.h>
+#include <unistd.h>
 
 #include "check.h"
 #include "small.h"
@@ -102,6 +105,72 @@ static void line_stays(void)
     raise_port(READER_PORT);
 }
 
+/* Firmware that waits where no tick passes, in each way. It is given a second. */
+static void guard_shortly(void)
+{
+    setenv("BOARD_SECONDS", "1", 1);
+    IORD_ALTERA_AVALON_SGDMA_STATUS(READER);
+    board_guard();
+}
+
+static bool is_owned(void)
+{
+    return *(volatile alt_u8 *)&SMALL->reading->control & SGDMA_DESC_OWNED_BY_HW;
+}
+
+static void silent(void)
+{
+    guard_shortly();
+    while (is_owned())
+        ;
+}
+
+static void silent_printing(void)
+{
+    guard_shortly();
+    while (is_owned())
+        printf("waiting\n");
+}
+
+static void silent_waiting(void)
+{
+    guard_shortly();
+    while (is_owned())
+        alt_busy_sleep(0);
+}
+
+static void wait_in_handler(void *context)
+{
+    (void)context;
+    while (is_owned())
+        ;
+}
+
+static void silent_handler(void)
+{
+    guard_shortly();
+    alt_ic_isr_register(VIC_ID, READER_PORT, wait_in_handler, NULL, NULL);
+    raise_port(READER_PORT);
+}
+
+/* The program is told to end; and not by what it was told to ignore. */
+static void interrupted(void)
+{
+    signal(SIGINT, SIG_DFL);
+    IORD_ALTERA_AVALON_SGDMA_STATUS(READER);
+    board_guard();
+    kill(getpid(), SIGINT);
+    wait_in_handler(NULL);
+}
+
+static void ignoring(void)
+{
+    signal(SIGINT, SIG_IGN);
+    guard_shortly();
+    kill(getpid(), SIGINT);
+    wait_in_handler(NULL);
+}
+
 /* The board made anew, with one change of its description. */
 #define MAKE_WITH(change)            \
     do {                             \
@@ -130,7 +199,26 @@ static void place_taken(void)
     small_make(1);
 }
 
-#define BEFORE "before the first access"
+static void tell_to_end(size_t core, const struct ran *ran)
+{
+    (void)ran;
+    if (core == 0 && board_ticks() == 10)
+        kill(getpid(), SIGTERM);
+}
+
+/* In the midst of a wait, which is so long that the board's own end would come much later. */
+static void terminated(void)
+{
+    static const struct board_watch WATCH = {tell_to_end, NULL};
+
+    signal(SIGTERM, SIG_DFL);
+    MAKE_WITH(time.most_ticks = 50000000);
+    board_watch(&WATCH);
+    board_guard();
+    alt_busy_sleep(UINT32_MAX);
+}
+
+#define BEFORE "before the first access of the firmware"
 
 static const struct {
     const char *name;
@@ -141,16 +229,23 @@ static const struct {
     {"no-device", no_device, "BOARD_NO_DEVICE", "read at 0x34080100: no device"},
     {"misaligned", misaligned, "BOARD_MISALIGNED", "read at 0x34000102: reader status"},
     {"no-register", no_register, "SGDMA_NO_REGISTER", "write at 0x34000104: reader (no register of it)"},
-    {"no-timer-register", no_timer_register, "SGDMA_NO_TIMER_REGISTER", "read at 0x3400021C: timer (no"},
-    {"no-vic-register", no_vic_register, "BOARD_NO_VIC_REGISTER", "read at 0x340010B0: vic (no"},
+    {"no-timer-register", no_timer_register, "SGDMA_NO_TIMER_REGISTER", "read at 0x3400021C: timer (no register of it)"},
+    {"no-vic-register", no_vic_register, "BOARD_NO_VIC_REGISTER", "read at 0x340010B0: vic (no register of it)"},
     {"read-only", read_only, "BOARD_READ_ONLY", "write at 0x3400108C: vic INT_PENDING"},
-    {"no-board", no_board, "BOARD_NOT_MADE", "read at 0x34000100"},
+    {"no-board", no_board, "BOARD_NOT_MADE", "read at 0x34000100: no device"},
     {"spoiled", spoiled, "SGDMA_BAD_IMAGE: sgdma_run refused it with 8, field 1", "sender status"},
     {"too-far", too_far, "BOARD_NOT_SAVED", "sender status"},
     {"other-length", other_length, "BOARD_NOT_SAVED", "sender status"},
     {"not-mapped", not_mapped, "where no memory is, at 0x34000100", "reader status"},
     {"full-ledger", full_ledger, "BOARD_LEDGER_FULL", ": wait"},
     {"time-up", time_up, "BOARD_TIME_UP", "reader status"},
+    {"silent", silent, "BOARD_SILENT: no tick within 1 s", "reader status"},
+    {"silent-printing", silent_printing, "BOARD_SILENT", "reader status"},
+    {"silent-waiting", silent_waiting, "BOARD_SILENT", ": wait"},
+    {"silent-handler", silent_handler, "BOARD_SILENT", "vic SW_INTERRUPT"},
+    {"interrupted", interrupted, "BOARD_INTERRUPTED: the program was told to end, by SIGINT", "reader status"},
+    {"ignoring", ignoring, "BOARD_SILENT", "reader status"},
+    {"terminated", terminated, "told to end, by SIGTERM", ": wait"},
     {"no-handler", no_handler, "BOARD_NO_HANDLER", "vic SW_INTERRUPT"},
     {"line-stays", line_stays, "BOARD_LINE_STAYS", "vic SW_INTERRUPT"},
     {"vector-too-far", vector_too_far, "SGDMA_ADDRESS_TOO_LARGE: sgdma_vic_choose", "vic SW_INTERRUPT"},

@@ -1,6 +1,7 @@
 /*
  * Waiting, on the board: its time passes. A loop of the firmware that neither waits so
- * nor makes an access is granted no step, and does not end by what a core does.
+ * nor makes an access is granted no step, and does not end by what a core does: the board
+ * stops there.
  */
 #ifndef PRIV_ALT_BUSY_SLEEP_H
 #define PRIV_ALT_BUSY_SLEEP_H
