@@ -134,10 +134,11 @@ compiler:
 	@echo $(CC)
 
 # Installing. VERSION is the edition of the image, which the header tells: a library of another edition does not take this one's bytes.
-# DESTDIR stands before PREFIX where the files are put together for another place.
+# DESTDIR stands before PREFIX where the files are put together for another place. A PREFIX that is relative is one from here.
 PREFIX = /usr/local
+PLACE = $(abspath $(PREFIX))
 VERSION := $(shell sed -n 's/^\#define SGDMA_EDITION  *\([0-9]*\) .*/\1/p' $(INCLUDE)/sgdma.h)
-TO = $(DESTDIR)$(PREFIX)
+TO = $(DESTDIR)$(PLACE)
 SHARED = $(BUILD)/libsgdma.so.$(VERSION)
 INSTALLED = include/sgdma.h lib/libsgdma.a lib/libsgdma.so.$(VERSION) lib/libsgdma.so lib/pkgconfig/sgdma.pc share/man/man3/sgdma.3
 
@@ -152,11 +153,16 @@ install: $(LENT) $(SHARED)
 	@install -m 644 $(INCLUDE)/sgdma.h $(TO)/include
 	@install -m 644 $(LIBRARY) $(SHARED) $(TO)/lib
 	@ln -sf $(notdir $(SHARED)) $(TO)/lib/libsgdma.so
-	@sed 's|@PREFIX@|$(PREFIX)|; s|@VERSION@|$(VERSION)|' install/sgdma.pc.in >$(TO)/lib/pkgconfig/sgdma.pc
+	@sed 's|@PREFIX@|$(PLACE)|; s|@VERSION@|$(VERSION)|' install/sgdma.pc.in >$(TO)/lib/pkgconfig/sgdma.pc
 	@awk -f install/manual $(INCLUDE)/sgdma.h >$(TO)/share/man/man3/sgdma.3
+	@printf 'installed: %s\n' $(INSTALLED:%=$(TO)/%)
+
+# Folders that are empty then go too, but not those of the system.
+FOLDERS = $(addprefix $(TO)/,include lib/pkgconfig lib share/man/man3 share/man share)
 
 uninstall:
 	@rm -f $(INSTALLED:%=$(TO)/%)
+	@$(if $(filter /usr /usr/local,$(PLACE)),:,rmdir $(FOLDERS) 2>/dev/null || :)
 
 # The same program in four languages.
 LANGUAGES = c cpp rs py

@@ -34,9 +34,9 @@ static const struct bit TIMER_STATUS_BITS[] = {
 
 /* What is wrong with a descriptor of a chain. */
 static const char *const CAUSES[] = {
-    [SGDMA_CHAIN_MISALIGNED] = "is not a multiple of 4",
-    [SGDMA_CHAIN_OUTSIDE] = "has not its 32 bytes in the window",
-    [SGDMA_CHAIN_OVERLAPS] = "overlaps an earlier descriptor",
+    [SGDMA_CHAIN_MISALIGNED] = "it is not a multiple of 4",
+    [SGDMA_CHAIN_OUTSIDE] = "its 32 bytes are not in the window",
+    [SGDMA_CHAIN_OVERLAPS] = "it overlaps an earlier descriptor",
 };
 
 /* What a core has met where it faulted, in the header's words. */
@@ -149,45 +149,64 @@ void show_fault(struct fault fault)
 
 void show_checked(const struct checked *checked)
 {
-    if (checked->verdict == SGDMA_CHAIN_SOUND)
+    if (checked->verdict == SGDMA_CHAIN_SOUND && !checked->position)
+        printf("sound: none owned, 0x%04" PRIX32 " is the end; what lies behind it is not looked at\n",
+               checked->address);
+    else if (checked->verdict == SGDMA_CHAIN_SOUND)
         printf("sound: %" PRIu32 " owned, and the end at 0x%04" PRIX32 "\n",
                checked->position, checked->address);
     else
-        printf("not sound: at position %" PRIu32 " 0x%04" PRIX32 " %s\n",
+        printf("not sound: at position %" PRIu32 ", 0x%04" PRIX32 ": %s\n",
                checked->position, checked->address, CAUSES[checked->verdict]);
 }
 
 void show_mended(const struct mended *mended)
 {
     if (mended->any)
-        printf("mended: 0x%04" PRIX32 " is the end now, control 0x%02X, before it was 0x%02X\n",
-               mended->address, mended->new, mended->old);
+        printf("mended: 0x%04" PRIX32 " is the end now: its control, at 0x%04" PRIX32
+               ", is 0x%02X and was 0x%02X\n",
+               mended->address, mended->address + SGDMA_DESCRIPTOR_DESC_CONTROL_AT, mended->new,
+               mended->old);
     else
         printf("nothing to mend\n");
 }
 
-void show_record(size_t number, const struct record *record)
+int run_width(struct ledger ledger)
+{
+    uint32_t largest = 0;
+    int width;
+
+    for (size_t i = 0; i < ledger.used; i++)
+        if (record_at(ledger, i).run > largest)
+            largest = record_at(ledger, i).run;
+    width = snprintf(NULL, 0, "%" PRIu32, largest);
+    return width < 3 ? 3 : width;
+}
+
+void show_record(size_t number, const struct record *record, int run_width)
 {
     unsigned actual = record->actual, errors = record->status;
 
-    printf("    %6zu  %3" PRIu32 "  %*s0x%04" PRIX32 "  %5u    0x%02X  %s", number,
-           record->run, record->descriptor > 0xFFFF ? 0 : 4, "", record->descriptor,
+    printf("    %6zu  %*" PRIu32 "  %*s0x%04" PRIX32 "  %5u    0x%02X  %s", number,
+           run_width, record->run, record->descriptor > 0xFFFF ? 0 : 4, "", record->descriptor,
            actual, errors, record->eop ? "yes" : "no");
 }
 
-void show_ledger_heading(void)
+void show_ledger_heading(int run_width)
 {
-    printf("    ledger  run  descriptor  bytes  errors  EOP");
+    printf("    ledger  %*s  descriptor  bytes  errors  EOP", run_width, "run");
 }
 
 void show_records(struct ledger ledger)
 {
-    show_ledger_heading();
+    int width = run_width(ledger);
+
+    show_ledger_heading(width);
     printf("\n");
     for (size_t i = 0; i < ledger.used; i++) {
         struct record record = record_at(ledger, i);
 
-        show_record(i + 1, &record);
+        show_record(i + 1, &record, width);
         printf("\n");
     }
 }
@@ -195,6 +214,6 @@ void show_records(struct ledger ledger)
 void show_ledger(struct ledger ledger, uint32_t taken)
 {
     show_records(ledger);
-    printf("       sum                   %5" PRIu32 "  of %" PRIu32 " beats taken\n",
+    printf("       sum%*s%5" PRIu32 "  of %" PRIu32 " beats taken\n", 16 + run_width(ledger), "",
            ledger_bytes(ledger), taken);
 }

@@ -25,9 +25,11 @@ void show_checked(const struct checked *checked);
 /* What a mend has changed, or that it has changed nothing. */
 void show_mended(const struct mended *mended);
 
-/* The heading of a ledger and the row of a record, each without the line's end. */
-void show_ledger_heading(void);
-void show_record(size_t number, const struct record *record);
+/* The heading of a ledger and the row of a record, each without the line's end; and how
+   wide the column of the run is, which its largest run tells. */
+int run_width(struct ledger ledger);
+void show_ledger_heading(int run_width);
+void show_record(size_t number, const struct record *record, int run_width);
 
 /* A row for each record used; and with the sum of their bytes beside the beats taken. */
 void show_records(struct ledger ledger);

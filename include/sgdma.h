@@ -3,7 +3,8 @@
  *
  * The core is that of Altera's Embedded Peripherals handbook, chapter 23,
  * Scatter-Gather DMA Controller Core, with a data width of 8 bits and a sink
- * error width of 7, without bursts, FIFOs and bus timing. Link libsgdma.a.
+ * error width of 7, without bursts, FIFOs and bus timing. Link libsgdma.a, or as
+ * pkg-config tells.
  *
  *   sgdma_create              a fresh core, for one mode and one window of memory
  *   sgdma_build_descriptor    a chain of descriptors in that memory
@@ -129,7 +130,11 @@ extern "C" {
 #define SGDMA_OUTPUT_EOP              SGDMA_BIT(8)
 #define SGDMA_OUTPUT_DATA_MASK        UINT32_C(0x00FF)
 
-/* Registers: the offsets. All three are 0 in a fresh core. */
+/*
+ * Registers: the offsets, which count words of 32 bits (table 23-6). On a bus that
+ * counts bytes, control is 16 bytes from the core's base. All three registers are 0
+ * in a fresh core.
+ */
 #define SGDMA_REGISTER_STATUS                   UINT32_C(0)
 #define SGDMA_REGISTER_CONTROL                  UINT32_C(4)
 #define SGDMA_REGISTER_NEXT_DESCRIPTOR_POINTER  UINT32_C(8)
@@ -484,19 +489,19 @@ extern "C" {
 /*
  * The image, 85 bytes, edition 2. Firmware keeps it, copies it and lends it; the
  * bytes moved, the fault, the slot and the run number are what it may want to read
- * there. An image of edition 1 had 44 bytes, which are fields 1 to 22 of this table, with 1 in the
- * first: there was no slot and no run number. Every call but sgdma_move_image
- * refuses it as one of another size. For the reader of a dump, the 27 fields in
- * order: the byte in which each begins, its width in bits, the most significant
- * first, and the rule by which a call knows that it is wrong. The phases are
- * numbered from Rest, 0, to Faulted, 6, in the order above, and the kinds of the
+ * there. An image of edition 1 had 44 bytes, which are fields 1 to 22 of this table,
+ * with 1 in the first: there was no slot and no run number. Every call but
+ * sgdma_move_image refuses it as one of another size. For the reader of a dump, the
+ * 27 fields in order: the byte in which each begins, its width in bits, the most
+ * significant first, and the rule by which a call knows that it is wrong. The phases
+ * are numbered from Rest, 0, to Faulted, 6, in the order above, and the kinds of the
  * slot as SGDMA_SLOT_EMPTY and so on are.
  *
  *       field               byte  bits  rule
  *    1  edition                0     4  2; in the 44 bytes of edition 1, 1
  *    2  mode                   0     2  0, 1 or 2
  *    3  phase                  0     3  0 to 6; Halted, 5, in mode 2 only
- *    4  armed                  1     1  none of its own: see 9
+ *    4  armed                  1     1  none of its own: it is SW_RESET, see 9
  *    5  interrupt pending      1     1  none
  *    6  fault code             1     5  0, but in Faulted 10 to 14: 12 and 13 not
  *                                       in mode 2, 14 not in mode 1
@@ -747,7 +752,7 @@ extern "C" {
 #define SGDMA_OTHER_WINDOW  UINT32_C(4)  /* the lent window has not the length of the core's */
 #define SGDMA_MISALIGNED    UINT32_C(5)  /* the descriptor's address is not a multiple of 4 */
 #define SGDMA_OUTSIDE       UINT32_C(6)  /* its 32 bytes are not in the window */
-#define SGDMA_BAD_SIZE      UINT32_C(7)  /* an image, value, report or answer of wrong size */
+#define SGDMA_BAD_SIZE      UINT32_C(7)  /* image, vic, timer, value, report or answer of wrong size */
 #define SGDMA_BAD_IMAGE     UINT32_C(8)  /* a field of what is lent is wrong: + 256 x field */
 #define SGDMA_ODD_STREAM    UINT32_C(9)  /* an odd number of beat bytes, in or out */
 #define SGDMA_SLOT_HELD     UINT32_C(15) /* the edition moved to has no slot, and one is held */
@@ -866,6 +871,10 @@ uint32_t sgdma_run(uint8_t *image, size_t image_len,
  * next, length and control are next_desc_ptr, bytes_to_transfer and
  * desc_control.
  *
+ * length is 16 bits wide and control 8: C cuts a larger number before the call
+ * sees it. A length of 65,536 comes as 0, which in mode 2 means 65,535. Compile
+ * with -Wconversion.
+ *
  * Reads    nothing
  * Writes   window: all 32 bytes of the descriptor, with the reserved ones,
  *          actual_bytes_transferred and desc_status zero
@@ -943,7 +952,8 @@ uint32_t sgdma_mend_chain(uint8_t *window, size_t window_len,
  *          SGDMA_DONE
  *
  * That there is no record is an answer, and no refusal. A count of 0 with found 1
- * is one that a record tells. The run number stays at 4,294,967,295 once it is
+ * is one that a record tells. The run that is on now is told by the image at
+ * SGDMA_IMAGE_RUN_NUMBER_AT. The run number stays at 4,294,967,295 once it is
  * there, so that records with this number may be of several runs. The records are
  * looked at from the last used one back, up to the first that is asked for.
  */
@@ -991,7 +1001,7 @@ uint32_t sgdma_vic_create(uint8_t *vic, size_t vic_len,
  * Configures a port: its level and its register set, of which the lowest 6 bits
  * are kept, and its non-maskable flag.
  *
- * The next four calls are alike. Each reads the controller, writes what it says
+ * This call and the next three are alike. Each reads the controller, writes what it says
  * of its one port and leaves every other port, and the rest of this one, as it
  * was. A flag is given as a number: 0 is 0, and any other number is 1.
  *
@@ -1058,7 +1068,8 @@ uint32_t sgdma_timer_read(const uint8_t *timer, size_t timer_len,
 
 /*
  * Writes a register of the timer, as is said of each register above. No tick
- * passes by it.
+ * passes by it. value is 16 bits wide: C cuts a larger number before the call sees
+ * it, so that a period is written in its two halves.
  *
  * Reads    timer
  * Writes   timer

@@ -25,8 +25,13 @@ static struct ledger ledger_in(const char *path)
     struct file file = read_file(path);
     struct ledger ledger = {file.bytes, file.length / SGDMA_RECORD_SIZE, 0};
 
-    if (file.length % SGDMA_RECORD_SIZE || ledger.room > UINT32_MAX)
-        give_up(path, "SGDMA_BAD_LEDGER: it does not hold whole records");
+    char why[128];
+
+    if (file.length % SGDMA_RECORD_SIZE || ledger.room > UINT32_MAX) {
+        snprintf(why, sizeof why, "SGDMA_BAD_LEDGER: it has %zu bytes, which are no whole records of %d",
+                 file.length, SGDMA_RECORD_SIZE);
+        give_up(path, why);
+    }
     ledger.used = (uint32_t)ledger.room;
     return ledger;
 }
@@ -40,18 +45,27 @@ static size_t count_marked(struct ledger ledger, const enum verdict *verdicts)
     return marked;
 }
 
-/* The rows of all records, or of the marked ones alone. */
-static void show_rows(struct ledger ledger, const enum verdict *verdicts, bool all)
+static void show_row(size_t number, const struct record *record, int run_width, enum verdict verdict)
 {
-    show_ledger_heading();
-    printf("  memory\n");
+    show_record(number, record, run_width);
+    if (verdict != NOT_ASKED)
+        printf("%s%s", record->eop ? "  " : "   ", verdict_name(verdict));
+    printf("\n");
+}
+
+/* The rows of all records, or of the marked ones alone. Where they are not held against
+   memory there is no column of it: an empty one would read as if nothing were wrong. */
+static void show_rows(struct ledger ledger, const enum verdict *verdicts, bool held, bool all)
+{
+    int width = run_width(ledger);
+
+    show_ledger_heading(width);
+    printf("%s\n", held ? "  memory" : "");
     for (size_t i = 0; i < ledger.used; i++) {
         struct record record = record_at(ledger, i);
 
-        if (!all && !is_marked(verdicts[i]))
-            continue;
-        show_record(i + 1, &record);
-        printf("%s%s\n", record.eop ? "  " : "   ", verdict_name(verdicts[i]));
+        if (all || is_marked(verdicts[i]))
+            show_row(i + 1, &record, width, verdicts[i]);
     }
 }
 
@@ -73,6 +87,15 @@ static void show_runs(struct ledger ledger)
     printf("\n");
 }
 
+static void show_count(uint32_t records, bool held, size_t marked)
+{
+    printf("    %" PRIu32 " %s, ", records, records == 1 ? "record" : "records");
+    if (held)
+        printf("%zu marked\n", marked);
+    else
+        printf("not held against memory\n");
+}
+
 static void draw(const char *path, struct ledger ledger, const enum verdict *verdicts)
 {
     FILE *file = fopen(path, "w");
@@ -82,7 +105,7 @@ static void draw(const char *path, struct ledger ledger, const enum verdict *ver
     write_timeline(file, ledger, verdicts);
     if (fclose(file))
         give_up(path, "it cannot be written");
-    printf("    the timeline is %s\n", path);
+    printf("    the timeline, with every record, is %s\n", path);
 }
 
 int main(int count, char **arguments)
@@ -91,12 +114,12 @@ int main(int count, char **arguments)
     struct ledger ledger;
     enum verdict *verdicts;
     size_t marked;
-    bool many;
+    bool many, held = count == 5;
 
     if (count != 3 && count != 5)
         give_up("usage", "ledger FILE SVG [MEMORY BASE]");
     ledger = ledger_in(arguments[1]);
-    if (count == 5)
+    if (held)
         dump = dump_in(arguments[3], arguments[4]);
     verdicts = malloc((ledger.used + (size_t)1) * sizeof *verdicts);
     if (!verdicts)
@@ -107,8 +130,8 @@ int main(int count, char **arguments)
     if (many)
         show_runs(ledger);
     if (!many || marked)
-        show_rows(ledger, verdicts, !many);
-    printf("    %" PRIu32 " records, %zu marked\n", ledger.used, marked);
+        show_rows(ledger, verdicts, held, !many);
+    show_count(ledger.used, held, marked);
     if (many)
         draw(arguments[2], ledger, verdicts);
     free(verdicts);

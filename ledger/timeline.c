@@ -64,10 +64,10 @@ void write_timeline(FILE *file, struct ledger ledger, const enum verdict *verdic
                     row * ROW + BOX, record.run);
         }
         fprintf(file, "<rect class=\"%s\" x=\"%.2f\" y=\"%zu\" width=\"%.2f\" height=\"%d\">"
-                "<title>record %zu: 0x%08" PRIX32 ", %u bytes, errors 0x%02X %s</title></rect>\n",
+                "<title>record %zu: 0x%04" PRIX32 ", %u bytes, errors 0x%02X%s%s</title></rect>\n",
                 class_of(&record, verdicts[i]), x, row * ROW + 2, width, BOX, i + 1,
                 record.descriptor, (unsigned)record.actual, record.status,
-                verdict_name(verdicts[i]));
+                verdicts[i] == NOT_ASKED ? "" : ", ", verdict_name(verdicts[i]));
         x += width;
     }
     fprintf(file, "</svg>\n");

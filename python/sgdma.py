@@ -40,6 +40,13 @@ sgdma.Refused: SGDMA_NO_REGISTER (1): offset is not 0, 4 or 8
 ... except Refused as refused:
 ...     print(refused.number, refused.name, refused.field, refused.field_name)
 8 SGDMA_BAD_IMAGE 9 SGDMA_FIELD_CONTROL
+>>> vic = bytearray(SGDMA_VIC_SIZE)
+>>> sgdma_vic_create(vic, 4, 0, 0)
+>>> vic[24 + 2 * 9] = 1  # of port 9, which it lacks
+>>> sgdma_vic_choose(vic, bytearray(SGDMA_VIC_ANSWER_SIZE))
+Traceback (most recent call last):
+    ...
+sgdma.Refused: SGDMA_BAD_IMAGE (8): field 17 SGDMA_VIC_FIELD_FIRST_CONFIG + 9
 >>> sgdma_timer_create(bytearray(SGDMA_TIMER_SIZE), 1 << 32)
 Traceback (most recent call last):
     ...
@@ -60,12 +67,20 @@ import os
 import re
 import sys
 from pathlib import Path
-from typing import Any, Callable, Dict, Iterator, List, NamedTuple, Optional, Set, Tuple, Union
+from typing import Any, Callable, Dict, Iterator, List, NamedTuple, NoReturn, Optional, Set, Tuple, Union
 
 Readable = Union[bytes, bytearray, memoryview]
 Writable = Union[bytearray, memoryview]
 
 _HERE = Path(__file__).resolve().parent
+
+
+def _stop(why: str) -> NoReturn:
+    """What this module stands on is missing: a command says so and ends, and an import fails."""
+    if __name__ == "__main__":
+        print(f"sgdma: {why}", file=sys.stderr)
+        sys.exit(2)
+    raise ImportError(why)
 
 
 def _first_of(variable: str, places: List[Path]) -> Optional[Path]:
@@ -80,16 +95,22 @@ def _header() -> str:
     beside = [_HERE.parent / "include/sgdma.h", Path("/usr/local/include/sgdma.h"), Path("/usr/include/sgdma.h")]
     path = _first_of("SGDMA_HEADER", beside)
     if path is None:
-        raise ImportError("no sgdma.h: name it in SGDMA_HEADER")
-    return path.read_text(encoding="ascii")
+        _stop("no sgdma.h: name it in SGDMA_HEADER")
+    try:
+        return path.read_text(encoding="ascii")
+    except OSError as why:
+        _stop(f"no sgdma.h: {why}")
 
 
 def _library(edition: int) -> ctypes.CDLL:
     path = _first_of("SGDMA_LIBRARY", [_HERE.parent / f"target/c/libsgdma.so.{edition}"])
     name = str(path) if path else ctypes.util.find_library("sgdma")
     if name is None:
-        raise ImportError("no libsgdma.so: 'make shared' makes it, or name it in SGDMA_LIBRARY")
-    return ctypes.CDLL(name)
+        _stop("no libsgdma.so: 'make shared' makes it, or name it in SGDMA_LIBRARY")
+    try:
+        return ctypes.CDLL(name)
+    except OSError as why:
+        _stop(f"no libsgdma.so: {why}")
 
 
 def _constants(text: str) -> Dict[str, int]:
@@ -131,7 +152,10 @@ def _field_name(call: str, field: int) -> str:
     """The field's name in the table of what the call is lent: a core, a controller or a timer."""
     kind = next((kind for kind in ("VIC", "TIMER") if call.startswith(f"sgdma_{kind.lower()}_")), "")
     start = f"SGDMA_{kind}_FIELD_" if kind else "SGDMA_FIELD_"
-    return next((name for name, value in _CONSTANTS.items() if name.startswith(start) and value == field), "")
+    named = {value: name for name, value in _CONSTANTS.items() if name.startswith(start)}
+    if kind == "VIC" and field > max(named):  # those of the ports, of which the first alone has a name
+        return f"{named[max(named)]} + {field - max(named)}"
+    return named.get(field, "")
 
 
 class _Parameter(NamedTuple):
@@ -210,6 +234,10 @@ globals().update(_CONSTANTS)
 globals().update(_CALLS)
 
 
+class _Unfit(Exception):
+    """What a command was given will not do: why."""
+
+
 def number_at(lent: Readable, at: int, size: int) -> int:
     """A number of so many bytes in lent bytes, the most significant first."""
     return int.from_bytes(memoryview(lent)[at : at + size], "big")
@@ -239,9 +267,7 @@ def _verdict(record: Record, memory: Readable, base: int, later: Set[int]) -> Tu
     answer = bytearray(_CONSTANTS["SGDMA_DESCRIPTOR_ANSWER_SIZE"])
     try:
         _CALLS["sgdma_read_descriptor"](memory, base, record.descriptor, answer)
-    except Refused as refused:
-        if refused.name == "SGDMA_BAD_WINDOW":
-            raise
+    except Refused:
         return "NO DESCRIPTOR there", True
     if record.descriptor in later:
         return "a later one is there", False
@@ -255,28 +281,47 @@ def _verdict(record: Record, memory: Readable, base: int, later: Set[int]) -> Tu
 
 
 def _records_in(path: Path) -> List[Record]:
-    """All records of a file, which holds nothing else: a question to it is not refused."""
-    ledger = path.read_bytes()
-    used = len(ledger) // _CONSTANTS["SGDMA_RECORD_SIZE"]
-    _CALLS["sgdma_find_record"](ledger, used, 0, 0, bytearray(_CONSTANTS["SGDMA_FINDING_SIZE"]))
-    return [Record.at(ledger, place) for place in range(used)]
+    """All records of a file, which holds nothing else."""
+    ledger, size = path.read_bytes(), _CONSTANTS["SGDMA_RECORD_SIZE"]
+    if len(ledger) % size:
+        raise _Unfit(f"{path}: SGDMA_BAD_LEDGER: it has {len(ledger)} bytes, which are no whole records of {size}")
+    return [Record.at(ledger, place) for place in range(len(ledger) // size)]
+
+
+def _dump_in(path: Path, base: int) -> bytearray:
+    """The dump of a window that begins at this bus address."""
+    dump = bytearray(path.read_bytes())
+    if len(dump) > min(_CONSTANTS["SGDMA_WINDOW_LENGTH_MAX"], (1 << 32) - base):
+        raise _Unfit(
+            f"{path}: SGDMA_BAD_WINDOW: it has {len(dump)} bytes at 0x{base:04X}; a window has at most 65,536 and ends "
+            "at 4,294,967,296: cut out the part with the descriptors, and give its address as the base"
+        )
+    return dump
 
 
 def _show_ledger(options: argparse.Namespace) -> int:
     """The sub-command ledger; 1 where a record is marked."""
+    if options.memory is not None and options.base is None:
+        raise _Unfit("--memory needs --base, the bus address at which the dump begins")
+    if options.base is not None and options.memory is None:
+        raise _Unfit("--base needs --memory, the dump that begins there")
     records = _records_in(options.file)
     verdicts = [("", False)] * len(records)
-    if options.memory:
-        memory: bytes = options.memory.read_bytes()
+    held = options.memory is not None
+    if held:
+        memory = _dump_in(options.memory, options.base)
         later: Set[int] = set()
         verdicts = [_verdict(record, memory, options.base, later) for record in reversed(records)][::-1]
-    print("    ledger  run  descriptor  bytes  errors  EOP  memory")
+    width = max([3] + [len(str(record.run)) for record in records])
+    print(f"    ledger  {'run':>{width}}  descriptor  bytes  errors  EOP" + ("  memory" if held else ""))
     for place, (record, (verdict, _)) in enumerate(zip(records, verdicts), 1):
         address = f"0x{record.descriptor:04X}"
         eop = "yes" if record.eop else "no"
-        print(f"    {place:6}  {record.run:3}  {address:>10}  {record.actual:5}    0x{record.status:02X}  {eop:3}  {verdict}")
+        row = f"    {place:6}  {record.run:{width}}  {address:>10}  {record.actual:5}    0x{record.status:02X}  {eop:3}  {verdict}"
+        print(row.rstrip())
     marked = sum(marked for _, marked in verdicts)
-    print(f"    {len(records)} records, {marked} marked")
+    counted = "1 record" if len(records) == 1 else f"{len(records)} records"
+    print(f"    {counted}, {marked} marked" if held else f"    {counted}, not held against memory")
     return 1 if marked else 0
 
 
@@ -298,7 +343,7 @@ class Checked(NamedTuple):
     >>> print(Checked.of(ram, 0x1000, 0x1000))
     sound: 1 owned, and the end at 0x1040
     >>> print(Checked.of(ram, 0x1000, 0x1044))
-    not sound: at position 0 0x1044 has not its 32 bytes in the window
+    not sound: at position 0, 0x1044: its 32 bytes are not in the window
     """
 
     verdict: int
@@ -316,35 +361,56 @@ class Checked(NamedTuple):
         return self.verdict == _CONSTANTS["SGDMA_CHAIN_SOUND"]
 
     def __str__(self) -> str:
+        if self.sound() and not self.position:
+            return f"sound: none owned, 0x{self.address:04X} is the end; what lies behind it is not looked at"
         if self.sound():
             return f"sound: {self.position} owned, and the end at 0x{self.address:04X}"
         causes = {
-            _CONSTANTS["SGDMA_CHAIN_MISALIGNED"]: "is not a multiple of 4",
-            _CONSTANTS["SGDMA_CHAIN_OUTSIDE"]: "has not its 32 bytes in the window",
-            _CONSTANTS["SGDMA_CHAIN_OVERLAPS"]: "overlaps an earlier descriptor",
+            _CONSTANTS["SGDMA_CHAIN_MISALIGNED"]: "it is not a multiple of 4",
+            _CONSTANTS["SGDMA_CHAIN_OUTSIDE"]: "its 32 bytes are not in the window",
+            _CONSTANTS["SGDMA_CHAIN_OVERLAPS"]: "it overlaps an earlier descriptor",
         }
-        return f"not sound: at position {self.position} 0x{self.address:04X} {causes[self.verdict]}"
+        return f"not sound: at position {self.position}, 0x{self.address:04X}: {causes[self.verdict]}"
+
+
+def _dump_of(options: argparse.Namespace) -> bytearray:
+    """The dump, once it is said where it and its chain are taken to be: an address meant as another is seen."""
+    dump = _dump_in(options.dump, options.base)
+    to = f" to 0x{options.base + len(dump) - 1:04X}" if dump else ""
+    print(f"{len(dump)} bytes at 0x{options.base:04X}{to}, the chain from 0x{options.pointer:04X}")
+    return dump
 
 
 def _check(options: argparse.Namespace) -> int:
     """The sub-command check; 1 where the chain is not sound."""
-    checked = Checked.of(options.dump.read_bytes(), options.base, options.pointer)
+    checked = Checked.of(_dump_of(options), options.base, options.pointer)
     print(checked)
     return 0 if checked.sound() else 1
 
 
 def _mend(options: argparse.Namespace) -> int:
-    """The sub-command mend; where the chain is sound, or there is nothing to keep, no file is written."""
-    memory = bytearray(options.dump.read_bytes())
+    """The sub-command mend; where the chain is sound, or there is nothing to keep, no file is written, and none from before stays."""
+    if options.mended.exists() and options.mended.samefile(options.dump):
+        raise _Unfit(f"{options.mended}: it is the dump itself, which stays as it is")
+    memory = _dump_of(options)
     answer = bytearray(_CONSTANTS["SGDMA_MEND_SIZE"])
+    if options.mended.is_file():
+        options.mended.unlink()
     print(Checked.of(memory, options.base, options.pointer))
-    _CALLS["sgdma_mend_chain"](memory, options.base, options.pointer, answer)
+    try:
+        _CALLS["sgdma_mend_chain"](memory, options.base, options.pointer, answer)
+    except Refused as refused:
+        if refused.name != "SGDMA_NOTHING_TO_KEEP":
+            raise
+        print(f"refused: {refused.number}, nothing to keep: no file is written")
+        return 1
     if not number_at(answer, _CONSTANTS["SGDMA_MEND_MENDED_AT"], 2):
-        print("nothing to mend")
+        print("nothing to mend: no file is written")
         return 0
     address = number_at(answer, _CONSTANTS["SGDMA_MEND_ADDRESS_AT"], 4)
     old, new = (answer[_CONSTANTS[f"SGDMA_MEND_{name}_AT"]] for name in ("OLD", "NEW"))
-    print(f"mended: 0x{address:04X} is the end now, control 0x{new:02X}, before it was 0x{old:02X}")
+    control = address + _CONSTANTS["SGDMA_DESCRIPTOR_DESC_CONTROL_AT"]
+    print(f"mended: 0x{address:04X} is the end now: its control, at 0x{control:04X}, is 0x{new:02X} and was 0x{old:02X}")
     options.mended.write_bytes(memory)
     print(f"the mended dump is {options.mended}")
     print(Checked.of(memory, options.base, options.pointer))
@@ -353,22 +419,23 @@ def _mend(options: argparse.Namespace) -> int:
 
 def _move_image(options: argparse.Namespace) -> int:
     """The sub-command move-image; where it is refused no file is written."""
-    moved = bytearray(editions()[options.edition])
-    _CALLS["sgdma_move_image"](options.image.read_bytes(), moved)
+    image, moved = options.image.read_bytes(), bytearray(editions()[options.edition])
+    try:
+        _CALLS["sgdma_move_image"](image, moved)
+    except Refused as refused:
+        raise _Unfit(f"{options.image}: {refused}; it has {len(image)} bytes") from refused
     options.moved.write_bytes(moved)
     print(f"    {options.moved}: edition {options.edition}, {len(moved)} bytes")
     return 0
 
 
 def _address(text: str) -> int:
-    """A number of 32 bits, decimal or with 0x before it."""
-    number = int(text, 0)
-    if not 0 <= number < 1 << 32:
-        raise ValueError(text)
+    """A number of 32 bits, decimal or with 0x before it; a 0 before a decimal one means nothing."""
+    hexadecimal = re.fullmatch("0[xX][0-9A-Fa-f]+", text)
+    number = int(text, 16 if hexadecimal else 10) if hexadecimal or re.fullmatch("[0-9]+", text) else None
+    if number is None or number >= 1 << 32:
+        raise argparse.ArgumentTypeError(f"must be an address of the bus, decimal or with 0x: '{text}'")
     return number
-
-
-_address.__name__ = "bus address"  # as argparse names what it does not take
 
 
 def _add_chain(command: argparse.ArgumentParser) -> None:
@@ -388,7 +455,7 @@ def _parser() -> argparse.ArgumentParser:
     ledger = commands.add_parser("ledger", help="a saved ledger as a table")
     ledger.add_argument("file", type=Path, help="records of a ledger, and nothing else")
     ledger.add_argument("--memory", type=Path, help="a dump of the window: a record that its descriptor contradicts is marked")
-    ledger.add_argument("--base", type=_address, default=0, help="the bus address at which the dump begins")
+    ledger.add_argument("--base", type=_address, help="the bus address at which the dump begins")
     ledger.set_defaults(run=_show_ledger)
     check = commands.add_parser("check", help="a chain in a dump of the memory, whether it is sound")
     _add_chain(check)
@@ -409,7 +476,7 @@ def main() -> int:
     options = _parser().parse_args()
     try:
         return options.run(options)
-    except (Refused, OSError) as why:
+    except (Refused, OSError, _Unfit) as why:
         print(f"{options.command}: {why}", file=sys.stderr)
         return 2
 
