@@ -1,11 +1,12 @@
 // Bus addresses and places in the window, kept apart: the window check alone turns one into the other. With them the paper's
 // refusal numbers, of which the check gives the first.
+#![tactic(auto)]
 ghost use Rattle.words.specs.Promise.{Gives};
 ghost use Rattle.bus.specs.Refusal.{refusal_number};
 ghost use Rattle.bus.specs.Window.{in_window, Checked, Sought};
 
 // Why a call is refused, in the order of the paper's table. BadImage carries the lowest field that breaks a rule, counted from 1.
-#[derive(Drop)]
+#[derive(Clone, Copy)]
 pub enum Refusal {
     NoRegister,
     BadMode,
@@ -54,11 +55,11 @@ impl Refusal {
 }
 
 // An address on the bus, or a sum of addresses: wide enough that a sum never wraps.
-#[derive(Drop)]
+#[derive(Clone, Copy)]
 pub struct BusAddress(pub u64);
 
 // A place in the window. Its number is private, so that nothing but the window check makes one.
-#[derive(Drop)]
+#[derive(Clone, Copy)]
 pub struct Place(usize);
 
 impl Place {
@@ -71,7 +72,7 @@ impl Place {
 }
 
 // Where bytes lie in the window.
-#[derive(Drop)]
+#[derive(Clone, Copy)]
 pub enum Located {
     At(Place),
     Outside,
@@ -79,14 +80,14 @@ pub enum Located {
 
 // The lent bytes' place on the bus: `length` of them, the first at `base`. Both are private, so that nothing but the check of the
 // limits makes one.
-#[derive(Drop)]
+#[derive(Clone, Copy)]
 pub struct Window {
     base: u32,
     length: u32,
 }
 
 // A window within the limits, or BadWindow.
-#[derive(Drop)]
+#[derive(Clone, Copy)]
 pub enum CheckedWindow {
     Good(Window),
     Refused(Refusal),

@@ -1,5 +1,6 @@
 // A descriptor: 32 bytes, little-endian, at an address that is a multiple of 4. The one look at such an address, the builder, the
 // reader, and what the core does with a descriptor: read it where the look finds it, and write its last four bytes back.
+#![tactic(auto)]
 ghost use Rattle.std.specs.Prelude.{◌≡◌, ◌+◌, ◌≤◌, length};
 ghost use Rattle.words.specs.Bits.{has_bit};
 ghost use Rattle.words.specs.Promise.{Gives, Leaves};
@@ -13,7 +14,7 @@ use bus::{BusAddress, CheckedWindow, Located, Place, Refusal, Window};
 use words::{Order, get_u32, has, put_u32, put_words};
 
 // The byte desc_control. Bits 3 to 6 have no effect and are kept as given.
-#[derive(Drop)]
+#[derive(Clone, Copy)]
 pub struct DescControl(pub u8);
 
 impl DescControl {
@@ -34,7 +35,7 @@ impl DescControl {
 }
 
 // What a descriptor asks for: the fields that its builder gives.
-#[derive(Drop)]
+#[derive(Clone, Copy)]
 pub struct Job {
     pub source: u32,
     pub destination: u32,
@@ -44,7 +45,7 @@ pub struct Job {
 }
 
 // Every named field.
-#[derive(Drop)]
+#[derive(Clone, Copy)]
 pub struct Descriptor {
     pub source: u32,
     pub destination: u32,
@@ -56,7 +57,7 @@ pub struct Descriptor {
 }
 
 // Where the 32 bytes of a descriptor stand.
-#[derive(Drop)]
+#[derive(Clone, Copy)]
 pub enum Spot {
     Misaligned,
     Outside,
@@ -78,7 +79,7 @@ pub fn spot_of(window: Window, address: BusAddress) -> Spot
 }
 
 // The 32 bytes of a descriptor as they stand in memory: four words of eight bytes, the least significant byte of each first.
-#[derive(Drop)]
+#[derive(Clone, Copy)]
 pub struct Raw {
     q0: u64,
     q1: u64,
@@ -178,7 +179,7 @@ fn raw_at(window: &[u8], place: Place) -> Raw
 }
 
 // What stands at a descriptor's address.
-#[derive(Drop)]
+#[derive(Clone, Copy)]
 pub enum Look {
     Misaligned,
     Outside,
@@ -198,7 +199,7 @@ pub fn look_at(place: Window, window: &[u8], address: BusAddress) -> Look
 }
 
 // Where a descriptor stands in a lent window, or why it cannot.
-#[derive(Drop)]
+#[derive(Clone, Copy)]
 enum Seat {
     At(Place),
     Refused(Refusal),
@@ -223,7 +224,7 @@ fn seat_of(length: usize, base: u64, address: BusAddress) -> Seat
 }
 
 // What the reader answers.
-#[derive(Drop)]
+#[derive(Clone, Copy)]
 pub enum ReadDescriptor {
     Good(Descriptor),
     Refused(Refusal),
@@ -261,7 +262,7 @@ fn put(window: &mut [u8], at: usize, job: Job)
 }
 
 // What the builder answers.
-#[derive(Drop)]
+#[derive(Clone, Copy)]
 pub enum BuiltDescriptor {
     Done,
     Refused(Refusal),

@@ -1,5 +1,6 @@
 // The saved image of a machine: 85 bytes, its fields as numbers, and the rule that each field keeps. The images of an earlier edition, and
 // the way from one to the other, stand in `moves`.
+#![tactic(auto)]
 pub mod moves;
 
 ghost use Rattle.std.specs.Prelude.{true, false, ◌≡◌, length};
@@ -25,7 +26,7 @@ use words::packer::Packer;
 use words::{Order, has, put_u32};
 
 // The fields of the table's first part, in layout order. A field of one bit is a bool, so that it fits by its type.
-#[derive(Drop)]
+#[derive(Clone, Copy)]
 pub struct Fields {
     pub edition: u8,
     pub mode: u8,
@@ -52,7 +53,7 @@ pub struct Fields {
 }
 
 // What edition 2 adds, in layout order: the slot, with its 32 bytes as they stand in memory, and the run number.
-#[derive(Drop)]
+#[derive(Clone, Copy)]
 pub struct Tail {
     pub kind: u8,
     pub zero6: u8,
@@ -62,14 +63,14 @@ pub struct Tail {
 }
 
 // The fields of an image that keeps the rules, or why it is refused. What edition 2 adds is read by itself: `tail_in`.
-#[derive(Drop)]
+#[derive(Clone, Copy)]
 pub enum ReadImage {
     Good(Fields),
     Refused(Refusal),
 }
 
 // Whether an image was written, or why not.
-#[derive(Drop)]
+#[derive(Clone, Copy)]
 pub enum WroteImage {
     Done,
     Refused(Refusal),

@@ -1,4 +1,5 @@
 // The dated ledger: records of 12 bytes, one for each write-back, each put behind those used; and what they tell of a run.
+#![tactic(auto)]
 ghost use Rattle.std.specs.Prelude.{◌≡◌, ◌+◌, ◌*◌, ◌≤◌, length};
 ghost use Rattle.words.specs.Bits.{flag as flag_of};
 ghost use Rattle.words.specs.Promise.{Gives};
@@ -10,7 +11,7 @@ use bus::Refusal;
 use words::{Order, flag, get_u16, get_u32, put_words};
 
 // What is kept of a write-back: the run and the descriptor's address; actual, status and EOP as written back.
-#[derive(Drop)]
+#[derive(Clone, Copy)]
 pub struct Entry {
     pub run: u32,
     pub at: u32,
@@ -20,7 +21,7 @@ pub struct Entry {
 }
 
 // What is told of a descriptor in a run: its latest byte count there, or that it was not written back.
-#[derive(Drop)]
+#[derive(Clone, Copy)]
 pub enum Finding {
     Found(u16),
     NotFound,

@@ -1,4 +1,5 @@
 // The chain in memory: whether it has demand 3's form, and mending one that has not.
+#![tactic(auto)]
 pub mod calls;
 pub mod mending;
 
@@ -12,14 +13,14 @@ use bus::{BusAddress, CheckedWindow, Refusal, Window};
 use descriptor::{DescControl, Spot, raw_in, spot_of};
 
 // Where a walk along a chain stops: the position of that descriptor, from 0, and its address.
-#[derive(Drop)]
+#[derive(Clone, Copy)]
 pub struct Stop {
     pub position: u32,
     pub address: u32,
 }
 
 // What the check says of a chain: sound, with its end; or its first defect.
-#[derive(Drop)]
+#[derive(Clone, Copy)]
 pub enum Verdict {
     Sound(Stop),
     Misaligned(Stop),
@@ -29,7 +30,7 @@ pub enum Verdict {
 }
 
 // A walk's verdict, and the address of the descriptor just before the one that it tells of; the pointer where there is none.
-#[derive(Drop)]
+#[derive(Clone, Copy)]
 struct Walked {
     verdict: Verdict,
     last: u32,

@@ -8,7 +8,7 @@ use crate::{Verdict, on_bus, walk};
 use bus::{CheckedWindow, Located, Refusal, Window};
 
 // The byte that was changed: desc_control of the descriptor at an address, before and after.
-#[derive(Drop)]
+#[derive(Clone, Copy)]
 pub struct Change {
     pub address: u32,
     pub before: u8,
@@ -16,7 +16,7 @@ pub struct Change {
 }
 
 // What mending answers: nothing was to be done; one byte was changed; or why nothing was.
-#[derive(Drop)]
+#[derive(Clone, Copy)]
 pub enum Mended {
     Sound,
     Changed(Change),

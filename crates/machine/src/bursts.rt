@@ -11,7 +11,7 @@ use descriptor::DescControl;
 use flow::{Absorbed, absorb, copy, send};
 
 // How many bytes of the window are in reach, from which place on, and whether all at that one.
-#[derive(Drop)]
+#[derive(Clone, Copy)]
 struct Reach {
     fixed: bool,
     at: usize,

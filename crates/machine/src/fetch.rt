@@ -14,7 +14,7 @@ use regs::{Control, Mode, Pointer};
 use words::has;
 
 // The core after a step of Rest or Fetch, and what it then has read ahead.
-#[derive(Drop)]
+#[derive(Clone, Copy)]
 pub(crate) struct Fetched {
     pub core: Core,
     pub slot: Slot,

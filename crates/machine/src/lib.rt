@@ -1,5 +1,6 @@
 // The SG-DMA core: what it keeps, its registers, its saved image, its steps and runs. The machine goes into each call by value and
 // comes back from it. (Altera, Embedded Peripherals, chapter 23, as the paper states it.)
+#![tactic(auto)]
 pub mod back;
 pub mod bursts;
 pub mod fetch;
@@ -20,7 +21,7 @@ use regs::{Control, Mode, Pointer, Status};
 
 // The descriptor in hand: its fields as fetched, and what was done of it. In a phase its address and control share the places of a
 // fault's address and code, each of the same width, so that `load` writes none of them in pieces. Of six orders this was the fastest.
-#[derive(Drop)]
+#[derive(Clone, Copy)]
 pub struct Work {
     pub at: u32,
     pub control: DescControl,
@@ -33,7 +34,7 @@ pub struct Work {
 }
 
 // Why the machine stands still until a reset: the address, and the paper's code, 10 to 14.
-#[derive(Drop)]
+#[derive(Clone, Copy)]
 pub struct Fault {
     pub address: u32,
     pub code: u8,
@@ -52,7 +53,7 @@ impl Fault {
 }
 
 // What a phase keeps stands in the phase; numbered 0 to 6.
-#[derive(Drop)]
+#[derive(Clone, Copy)]
 pub enum Phase {
     Rest,
     Fetch,
@@ -81,7 +82,7 @@ impl Phase {
 }
 
 // What every step sees of the machine. The small fields fill eight bytes: beside a gap the compiler takes them apart and together again.
-#[derive(Drop)]
+#[derive(Clone, Copy)]
 pub struct Core {
     mode: Mode,
     pending: bool,
@@ -94,7 +95,7 @@ pub struct Core {
 }
 
 // The descriptor read ahead, or what the look at its address found in its place. Its address is the pointer.
-#[derive(Drop)]
+#[derive(Clone, Copy)]
 pub enum Slot {
     Empty,
     Ahead(Look),
@@ -102,7 +103,7 @@ pub enum Slot {
 
 // The core, and beside it what it has read ahead, which Fetch alone sees, and the run number. Its parts are private, so that each machine
 // comes from `fresh`, `load` or a call on a machine, and keeps the image rules.
-#[derive(Drop)]
+#[derive(Clone, Copy)]
 pub struct Machine {
     core: Core,
     slot: Slot,
@@ -110,7 +111,7 @@ pub struct Machine {
 }
 
 // Why a run ends; numbered 0 to 7.
-#[derive(Drop)]
+#[derive(Clone, Copy)]
 pub enum Reason {
     Rest,
     Ended,
@@ -141,7 +142,7 @@ impl Reason {
 }
 
 // The machine after a step, with the beats that the step took and made, and the records used then.
-#[derive(Drop)]
+#[derive(Clone, Copy)]
 pub struct Progress {
     pub machine: Machine,
     pub taken: usize,
@@ -150,7 +151,7 @@ pub struct Progress {
 }
 
 // What one step answers.
-#[derive(Drop)]
+#[derive(Clone, Copy)]
 pub enum StepAnswer {
     Taken(Progress),
     Stopped(Reason),
@@ -158,7 +159,7 @@ pub enum StepAnswer {
 }
 
 // The machine after a run, the reason found there, the steps, beats taken and beats made, and the records used then.
-#[derive(Drop)]
+#[derive(Clone, Copy)]
 pub struct Ran {
     pub machine: Machine,
     pub reason: Reason,
@@ -169,14 +170,14 @@ pub struct Ran {
 }
 
 // What a run answers.
-#[derive(Drop)]
+#[derive(Clone, Copy)]
 pub enum RunAnswer {
     Done(Ran),
     Refused(Refusal),
 }
 
 // The machine of an image, or why it is refused.
-#[derive(Drop)]
+#[derive(Clone, Copy)]
 pub enum LoadedMachine {
     Good(Machine),
     Refused(Refusal),
@@ -195,7 +196,7 @@ impl LoadedMachine {
 }
 
 // Whether a machine was saved, or why not.
-#[derive(Drop)]
+#[derive(Clone, Copy)]
 pub enum SavedMachine {
     Done,
     Refused(Refusal),

@@ -13,14 +13,14 @@ use regs::{Control, Mode, Pointer, ReadRegister, Status, is_register, read};
 use words::has;
 
 // What a register write answers.
-#[derive(Drop)]
+#[derive(Clone, Copy)]
 pub enum WroteRegister {
     Done(Machine),
     Refused(Refusal),
 }
 
 // The interrupt line.
-#[derive(Drop)]
+#[derive(Clone, Copy)]
 pub enum Line {
     Up,
     Down,

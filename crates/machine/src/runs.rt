@@ -18,7 +18,7 @@ use ledger::{append, has_room};
 use regs::Mode;
 
 // Where some steps led, and how many they were.
-#[derive(Drop)]
+#[derive(Clone, Copy)]
 struct Advanced {
     core: Core,
     taken: usize,

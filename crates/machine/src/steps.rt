@@ -18,14 +18,14 @@ use regs::Control;
 use words::has;
 
 // Whether a step can be taken, or why not.
-#[derive(Drop)]
+#[derive(Clone, Copy)]
 pub(crate) enum Wait {
     Go,
     Stop(Reason),
 }
 
 // The machine after a step, with the beats taken and made then.
-#[derive(Drop)]
+#[derive(Clone, Copy)]
 pub(crate) struct Reached {
     pub core: Core,
     pub taken: usize,
@@ -33,7 +33,7 @@ pub(crate) struct Reached {
 }
 
 // Whether what is lent serves the machine, or the first refusal that applies.
-#[derive(Drop)]
+#[derive(Clone, Copy)]
 pub(crate) enum Served {
     Serves,
     Refused(Refusal),

@@ -1,5 +1,6 @@
 // The mode that a core is made in, and its three registers: their numbers and bits, and what becomes of each when it is written, when a
 // descriptor is written back and when the chain ends. (Altera, Embedded Peripherals, chapter 23, as the paper states it.)
+#![tactic(auto)]
 ghost use Rattle.words.specs.Promise.{Gives};
 ghost use Rattle.regs.specs.Modes.{mode_number, ModeChecked};
 ghost use Rattle.regs.specs.Status.{status_number, status_of, cleared_by, chain_ended, status_back};
@@ -10,7 +11,7 @@ use bus::Refusal;
 use words::{flag, has};
 
 // What moves where; numbered 0, 1, 2.
-#[derive(Drop)]
+#[derive(Clone, Copy)]
 pub enum Mode {
     MemoryToMemory,
     MemoryToStream,
@@ -18,7 +19,7 @@ pub enum Mode {
 }
 
 // A mode, or BadMode.
-#[derive(Drop)]
+#[derive(Clone, Copy)]
 pub enum CheckedMode {
     Good(Mode),
     Refused(Refusal),
@@ -49,7 +50,7 @@ impl Mode {
 }
 
 // The status register.
-#[derive(Drop)]
+#[derive(Clone, Copy)]
 pub struct Status {
     pub error: bool,
     pub eop: bool,
@@ -146,7 +147,7 @@ fn raised(number: u32) -> u32
 }
 
 // The control register. Bits without effect are kept as given, so it is kept as its number.
-#[derive(Drop)]
+#[derive(Clone, Copy)]
 pub struct Control(pub u32);
 
 impl Control {
@@ -228,7 +229,7 @@ impl Control {
 }
 
 // The register next_descriptor_pointer.
-#[derive(Drop)]
+#[derive(Clone, Copy)]
 pub struct Pointer(pub u32);
 
 impl Pointer {
@@ -246,7 +247,7 @@ pub fn is_register(offset: u32) -> bool
 }
 
 // What a register read answers.
-#[derive(Drop)]
+#[derive(Clone, Copy)]
 pub enum ReadRegister {
     Value(u32),
     Refused(Refusal),
@@ -269,7 +270,7 @@ pub fn read(status: Status, control: Control, pointer: Pointer, offset: u32) -> 
 }
 
 // The count of descriptors after one more, and whether it reached MAX_DESC_PROCESSED.
-#[derive(Drop)]
+#[derive(Clone, Copy)]
 pub struct Count {
     pub count: u8,
     pub full: bool,

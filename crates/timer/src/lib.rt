@@ -1,4 +1,5 @@
 // The interval timer beside the core (Altera, Embedded Peripherals, chapter 26, the 32-bit form): how it counts, its registers, its line.
+#![tactic(auto)]
 pub mod calls;
 pub mod saved;
 
@@ -13,7 +14,7 @@ use std::num::wrapping_sub_u32;
 use words::{flag, has};
 
 // The timer. It counts down from the period; CONT: again and again; ITO: with an interrupt; RUN: it counts; TO: it reached zero.
-#[derive(Drop)]
+#[derive(Clone, Copy)]
 pub struct Timer {
     pub counter: u32,
     pub period: u32,
@@ -25,42 +26,42 @@ pub struct Timer {
 }
 
 // A timer after ticks, and how many times its counter reached zero in them.
-#[derive(Drop)]
+#[derive(Clone, Copy)]
 pub struct Ran {
     pub timer: Timer,
     pub zeros: u32,
 }
 
 // What a register read answers.
-#[derive(Drop)]
+#[derive(Clone, Copy)]
 pub enum ReadTimer {
     Value(u16),
     Refused(Refusal),
 }
 
 // The timer after a register write, or why it is refused.
-#[derive(Drop)]
+#[derive(Clone, Copy)]
 pub enum WroteTimer {
     Done(Timer),
     Refused(Refusal),
 }
 
 // The ticks between two snapshots, or why they cannot be told.
-#[derive(Drop)]
+#[derive(Clone, Copy)]
 pub enum Between {
     Ticks(u32),
     Refused(Refusal),
 }
 
 // The timer of 14 bytes, or why they are refused.
-#[derive(Drop)]
+#[derive(Clone, Copy)]
 pub enum LoadedTimer {
     Good(Timer),
     Refused(Refusal),
 }
 
 // Whether a timer was saved, or why not.
-#[derive(Drop)]
+#[derive(Clone, Copy)]
 pub enum SavedTimer {
     Done,
     Refused(Refusal),

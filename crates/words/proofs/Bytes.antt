@@ -21,6 +21,8 @@ bytes_fit (x ∷ xs) g = (g.0, bytes_fit xs g.1)
 pub fit-bytes : (n : ℕ) (xs : List ℕ) → Fit (bytes n) xs → AllBytes xs
 fit-bytes zero [] p = tt
 fit-bytes (suc n) (x ∷ xs) p = (p.0, fit-bytes n xs p.1)
+fit-bytes zero (x ∷ xs) p = elim p [ ]
+fit-bytes (suc n) [] p = elim p [ ]
 
 pub take-bytes : (n : ℕ) (xs : List ℕ) → AllBytes xs → AllBytes (take n xs)
 take-bytes zero xs g = tt

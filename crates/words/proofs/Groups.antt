@@ -49,10 +49,14 @@ pub even-total : (fs ts : List (List ℕ)) → Even fs ts → total (concat ts) 
 even-total [] [] e = refl
 even-total (f ∷ fs) (t ∷ ts) e =
     rw (total-append f (concat fs), total-append t (concat ts), e.0, even-total fs ts e.1)
+even-total [] (t ∷ ts) e = elim e [ ]
+even-total (f ∷ fs) [] e = elim e [ ]
 
 pub fit_append : (ws us vs xs : List ℕ) → Fit ws vs → Fit us xs → Fit (ws ++ us) (vs ++ xs)
 fit_append [] us [] xs p q = q
 fit_append (w ∷ ws) us (v ∷ vs) xs p q = (p.0, fit_append ws us vs xs p.1 q)
+fit_append [] us (v ∷ vs) xs p q = elim p [ ]
+fit_append (w ∷ ws) us [] xs p q = elim p [ ]
 
 -- and back
 pub fit-both : (ws us vs xs : List ℕ) → length vs ≡ length ws → Fit (ws ++ us) (vs ++ xs) → Fit ws vs × Fit us xs
@@ -66,6 +70,8 @@ fit-both (w ∷ ws) us (v ∷ vs) xs e p =
 pub fits-concat : (fs vss : List (List ℕ)) → Fits fs vss → Fit (concat fs) (concat vss)
 fits-concat [] [] p = tt
 fits-concat (f ∷ fs) (v ∷ vs) p = fit_append f (concat fs) v (concat vs) p.0 (fits-concat fs vs p.1)
+fits-concat [] (v ∷ vs) p = elim p [ ]
+fits-concat (f ∷ fs) [] p = elim p [ ]
 
 -- the whole is recoded group by group
 pub recode-groups : (fs ts vss : List (List ℕ)) → Even fs ts → Fits fs vss
@@ -74,6 +80,10 @@ recode-groups [] [] [] e p = refl
 recode-groups (f ∷ fs) (t ∷ ts) (v ∷ vs) e p =
     recode-append f (concat fs) t (concat ts) v (concat vs) (even-total fs ts e.1) p.0 (fits-concat fs vs p.1)
     ∙ ap (λ (r : List ℕ). recode f t v ++ r) (recode-groups fs ts vs e.1 p.1)
+recode-groups [] [] (v ∷ vs) e p = elim p [ ]
+recode-groups [] (t ∷ ts) vss e p = elim e [ ]
+recode-groups (f ∷ fs) [] vss e p = elim e [ ]
+recode-groups (f ∷ fs) (t ∷ ts) [] e p = elim p [ ]
 
 -- the parts of a list of bytes fit the widths of so many bytes
 pub parts-fit : (xs : List ℕ) (ns : List ℕ) → total ns ≤ length xs → AllBytes xs → Fits (map bytes ns) (parts xs ns)

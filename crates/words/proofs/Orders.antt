@@ -1,7 +1,7 @@
 -- The laws of numbers in bytes, in either order and over any list of widths: a number comes back from its bytes, bytes come
 -- back from their number, and so for a row of numbers.
 -- Assumes nothing.
-use Prim.Native.Nat.{ℕ, zero, suc, ◌+◌, ◌*◌, ◌%◌, ◌^◌}
+use Prim.Native.Nat.{ℕ, zero, suc, ◌*◌, ◌%◌, ◌^◌}
 use mathlib.Core.Path.{◌≡◌, refl, sym, ap, subst, ◌∙◌}
 use mathlib.Core.List.{List, [], ◌∷◌, ◌++◌, append_assoc, reverse, reverse-reverse}
 use native.Mathlib.Nat.{mod-lt, mod-eq_of_lt, suc-ne-zero}
@@ -72,6 +72,8 @@ row_back order [] [] p = refl
 row_back order (n ∷ ns) (v ∷ vs) p =
     let l : length (bytes_of order n v) ≡ n = length-bytes order n v in
     rw (take_at (bytes_of order n v) (row_bytes order ns vs) n l, drop_at (bytes_of order n v) (row_bytes order ns vs) n l, row_back order ns vs p.1, number-bytes order n v, mod-eq_of_lt p.0)
+row_back order [] (v ∷ vs) p = elim p [ ]
+row_back order (n ∷ ns) [] p = elim p [ ]
 
 -- the bytes of a row come back from its numbers
 pub row-there : RowThere

@@ -183,6 +183,8 @@ fields-hold (w ∷ ws) (v ∷ vs) {n} {s} p f m room h =
     moved_up n v w (join ws vs) (total ws) in
     subst (λ (k : ℕ). Holds k (s + (w + total ws)) (fields_put ws vs (field_put w v p))) number
     (subst (λ (k : ℕ). Holds ((n * 2 ^ w + v) * 2 ^ total ws + join ws vs) k (fields_put ws vs (field_put w v p))) (add_assoc s w (total ws)) rest)
+fields-hold [] (v ∷ vs) {n = n} {s = s} p f m room h = elim f [ ]
+fields-hold (w ∷ ws) [] {n = n} {s = s} p f m room h = elim f [ ]
 
 -- the bytes of what a packer holds
 held_bytes : {n s : ℕ} (k : ℕ) (p : Packer) → s ≡ 8 * k → Holds n s p → packed_bytes p ≡ split (bytes k) n

@@ -14,12 +14,16 @@ use Rattle.words.specs.Theorems.{RecodeBack}
 pub fit_length : (ws vs : List ℕ) → Fit ws vs → length vs ≡ length ws
 fit_length [] [] f = refl
 fit_length (w ∷ ws) (v ∷ vs) f = ap suc (fit_length ws vs f.1)
+fit_length [] (v ∷ vs) f = elim f [ ]
+fit_length (w ∷ ws) [] f = elim f [ ]
 
 pub join-lt : (ws vs : List ℕ) → Fit ws vs → join ws vs < 2 ^ total ws
 join-lt [] [] f = omega arith
 join-lt (w ∷ ws) (v ∷ vs) f =
     let j : join ws vs < 2 ^ total ws = join-lt ws vs f.1 in
     rw (pow-add 2 w (total ws)) (omega (arith, simp suc-mul at (mul-le-mul_right (2 ^ total ws) f.0)))
+join-lt [] (v ∷ vs) f = elim f [ ]
+join-lt (w ∷ ws) [] f = elim f [ ]
 
 -- what stands before the bits does not show in them
 pub split-high : (ws : List ℕ) (a b : ℕ) → split ws (a * 2 ^ total ws + b) ≡ split ws b
@@ -35,6 +39,8 @@ split-join [] [] f = refl
 split-join (w ∷ ws) (v ∷ vs) f =
     let j : join ws vs < 2 ^ total ws = join-lt ws vs f.1 in
     rw (high v (total ws) j, mod-eq_of_lt f.0, split-high ws v (join ws vs), split-join ws vs f.1)
+split-join [] (v ∷ vs) f = elim f [ ]
+split-join (w ∷ ws) [] f = elim f [ ]
 
 pub join-split : (ws : List ℕ) (n : ℕ) → join ws (split ws n) ≡ n % 2 ^ total ws
 join-split [] n = sym (mod-one n)

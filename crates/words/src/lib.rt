@@ -2,6 +2,8 @@
 //
 // Every call is total: a number that would not stand wholly in the slice is read as 0 and not written. The end `at + n` is
 // never summed, so that it cannot wrap.
+#![tactic(auto)]
+
 pub mod packer;
 
 ghost use Rattle.std.specs.Prelude.{[], ◌∷◌, ◌≡◌, ◌/◌, ◌%◌, ◌<◌};
@@ -13,7 +15,7 @@ ghost use Rattle.words.specs.Promise.{Gives, Leaves};
 ghost use Rattle.words.specs.declared.Order.TheVariants.{LeastFirst};
 
 // Which byte of a number stands first.
-#[derive(Drop)]
+#[derive(Clone, Copy)]
 pub enum Order {
     MostFirst,
     LeastFirst,

@@ -14,7 +14,7 @@ use crate::{Order, flag, put_words};
 const ROOM: usize = 24;
 
 // Words of 32 bits, the first foremost, of which so many are whole; and the rest, so many bits that do not fill a word yet.
-#[derive(Drop)]
+#[derive(Clone, Copy)]
 pub struct Packer {
     words: [u32; 24],
     whole: usize,
