@@ -1,6 +1,7 @@
 // Bus addresses and places in the window, kept apart: the window check alone turns one into the other. With them the paper's
 // refusal numbers, of which the check gives the first.
 #![tactic(auto)]
+
 ghost use Rattle.words.specs.Promise.{Gives};
 ghost use Rattle.bus.specs.Refusal.{refusal_number};
 ghost use Rattle.bus.specs.Window.{in_window, Checked, Sought};
