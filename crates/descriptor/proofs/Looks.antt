@@ -27,7 +27,7 @@ use Rattle.bus.specs.Window.{in_window, place_of, located_of}
 use Rattle.bus.proofs.Limits.{located-is}
 use Rattle.descriptor.specs.declared.Descriptor.{Descriptor}
 use Rattle.descriptor.specs.declared.Spot.{Spot}
-use Rattle.descriptor.specs.declared.Spot.TheVariants.{Misaligned, Outside, At}
+use Rattle.descriptor.specs.declared.Spot.TheVariants.{Misaligned, At}
 use Rattle.descriptor.specs.declared.Raw.{Raw}
 use Rattle.descriptor.specs.declared.Look.{Look}
 use Rattle.descriptor.specs.declared.Look.TheVariants as look

@@ -1,6 +1,7 @@
 // A descriptor: 32 bytes, little-endian, at an address that is a multiple of 4. The one look at such an address, the builder, the
 // reader, and what the core does with a descriptor: read it where the look finds it, and write its last four bytes back.
 #![tactic(auto)]
+
 ghost use Rattle.std.specs.Prelude.{◌≡◌, ◌+◌, ◌≤◌, length};
 ghost use Rattle.words.specs.Bits.{has_bit};
 ghost use Rattle.words.specs.Promise.{Gives, Leaves};

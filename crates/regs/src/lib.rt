@@ -1,6 +1,7 @@
 // The mode that a core is made in, and its three registers: their numbers and bits, and what becomes of each when it is written, when a
 // descriptor is written back and when the chain ends. (Altera, Embedded Peripherals, chapter 23, as the paper states it.)
 #![tactic(auto)]
+
 ghost use Rattle.words.specs.Promise.{Gives};
 ghost use Rattle.regs.specs.Modes.{mode_number, ModeChecked};
 ghost use Rattle.regs.specs.Status.{status_number, status_of, cleared_by, chain_ended, status_back};

@@ -22,7 +22,7 @@ use Rattle.timer.specs.declared.LoadedTimer.{LoadedTimer}
 use Rattle.timer.specs.declared.LoadedTimer.TheVariants as loaded
 use Rattle.timer.specs.declared.SavedTimer.{SavedTimer}
 use Rattle.timer.specs.declared.SavedTimer.TheVariants as saved
-use Rattle.timer.specs.Saved.{field, timer_of, values, widths, bytes_of_timer, numbers, rules, lowest_broken, sized, judged, load_of, save_of, saved_over, load_number, save_number, TimerWasLoaded, TimerWasSaved, Typed}
+use Rattle.timer.specs.Saved.{field, timer_of, values, widths, bytes_of_timer, numbers, rules as rules_of, lowest_broken, sized, judged, load_of, save_of, saved_over, load_number, save_number, TimerWasLoaded, TimerWasSaved, Typed}
 use Rattle.timer.specs.Helpers.Parts.{flag_widths}
 use Rattle.timer.specs.Theorems.{TimerSavesLoaded, TimerFieldTold}
 
@@ -81,7 +81,7 @@ broken-is vs = broken-by (leb (field 1 vs) (field 2 vs)) (eqb (field 4 vs) 0)
 
 -- The field told breaks its rule, and every field before it keeps its own.
 pub timer-field-told : TimerFieldTold
-timer-field-told vs h = told-first (rules vs) h
+timer-field-told vs h = told-first (rules_of vs) h
 
 -- ---- what loading answers
 

@@ -11,7 +11,7 @@ wrapping-sub-u32-requires : tie.Need-wrapping-sub-u32-requires
 wrapping-sub-u32-requires c κs = search rules
 
 returns-2 : tie.Need-returns-2
-returns-2 c = was-elapsed _ _ _ (ap Ticks (wraps _ _ _ (search rules) (search rules) c.«wrapping-sub-u32».ensures) ∙ sym (between-full _ _ _ c.before.if1.false))
+returns-2 c = was-elapsed _ _ _ (ap Ticks (wraps _ _ _ (search rules) (search rules) c.wrapping_sub_u32.ensures) ∙ sym (between-full _ _ _ c.before.if1.false))
 
 pub elapsed-spec : {M : Type 1} → statement M
 elapsed-spec = tie.close (tie.spec returns wrapping-sub-u32-requires returns-2)
