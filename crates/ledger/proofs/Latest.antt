@@ -33,7 +33,7 @@ module _ (run address : ℕ) where
   pub latest-last : (before : Finding) (es : List Entry) (e : Entry)
       → latest run address before (es ++ (e ∷ [])) ≡ (if is_of run address e then Found e.actual else latest run address before es)
   latest-last before [] e = refl
-  latest-last before (x ∷ es) e = latest-last _ es e
+  latest-last before (x ∷ es) e = latest-last (if is_of run address x then Found x.actual else before) es e
 
   module _ (ledger : List ℕ) where
     abbrev pub told : ℕ → Finding

@@ -11,7 +11,7 @@ use Rattle.words.specs.declared.Order.TheVariants.{MostFirst}
 use Rattle.words.specs.Bits.{bit, flag}
 use Rattle.words.specs.Guards.{if◌then◌else◌}
 use Rattle.words.specs.Orders.{row_numbers}
-use Rattle.words.specs.Slices.{put, number_at}
+use Rattle.words.specs.Slices.{put}
 use Rattle.words.proofs.Orders.{row_back}
 use Rattle.words.proofs.Slices.{number_in, put-none, put-put, part-put, length-put}
 use Rattle.words.proofs.Beside.{part-before}
@@ -90,7 +90,7 @@ last_of : (run address : ℕ) (before : Finding) (front : List Entry) (e : Entry
     → latest run address before (front ++ (e ∷ back)) ≡ Found e.actual
 last_of run address before [] e back t n =
     ap (λ (b : Bool). latest run address (if b then Found e.actual else before) back) t ∙ none-later run address (Found e.actual) back n
-last_of run address before (f ∷ front) e back t n = last_of run address _ front e back t n
+last_of run address before (f ∷ front) e back t n = last_of run address (if is_of run address f then Found f.actual else before) front e back t n
 
 pub appended-found : AppendedFound
 appended-found ledger used front e back f s h n =

@@ -7,11 +7,9 @@ use mathlib.Core.List.{List}
 use native.Mathlib.Omega.{arith}
 use lib.Dec.{eqb, ltb}
 use borrow.Author.Tests.{eq-eqb, eqb-true, ltb-true, ltb-false}
-use Rattle.words.specs.Guards.{if◌then◌else◌}
 use Rattle.ledger.specs.declared.Entry.{Entry}
-use Rattle.ledger.specs.declared.Finding.{Finding}
 use Rattle.ledger.specs.declared.Finding.TheVariants.{Found, NotFound}
-use Rattle.ledger.specs.Finding.{entry_at, entries_in, is_of, latest, finding_in}
+use Rattle.ledger.specs.Finding.{entry_at, entries_in, is_of}
 use Rattle.ledger.specs.Theorems.{WrittenBack, LatestCount, FoundExactly, NotFoundExactly}
 use Rattle.ledger.proofs.Latest.{told, latest-last, asked_of}
 

@@ -1,5 +1,6 @@
 // The dated ledger: records of 12 bytes, one for each write-back, each put behind those used; and what they tell of a run.
 #![tactic(auto)]
+
 ghost use Rattle.std.specs.Prelude.{◌≡◌, ◌+◌, ◌*◌, ◌≤◌, length};
 ghost use Rattle.words.specs.Bits.{flag as flag_of};
 ghost use Rattle.words.specs.Promise.{Gives};

@@ -1,5 +1,6 @@
 // The interval timer beside the core (Altera, Embedded Peripherals, chapter 26, the 32-bit form): how it counts, its registers, its line.
 #![tactic(auto)]
+
 pub mod calls;
 pub mod saved;
 

@@ -1,12 +1,12 @@
 -- The theorems of specs/Theorems.
 -- Assumes nothing.
-use Prim.Native.Nat.{ℕ, suc, ◌+◌, ◌*◌, ◌-◌, ◌/◌, ◌%◌, ◌^◌, ◌≤◌, ◌<◌}
+use Prim.Native.Nat.{ℕ, ◌+◌, ◌/◌, ◌%◌, ◌^◌, ◌≤◌, ◌<◌}
 use mathlib.Core.Path.{◌≡◌, refl, sym, ap, ◌∙◌}
 use mathlib.Core.Bool.{Bool, true, false, cond, ◌&&◌}
 use mathlib.Core.List.{List}
 use native.Mathlib.Nat.{mod-lt}
 use native.Mathlib.Omega.{arith}
-use lib.Dec.{eqb, leb, ltb}
+use lib.Dec.{leb, ltb}
 use lib.ListN.{length}
 use borrow.Author.Tests.{ltb-true, ltb-false, leb-true, leb-false}
 use Rattle.words.specs.declared.Order.TheVariants.{MostFirst}
@@ -15,7 +15,7 @@ use Rattle.words.specs.Orders.{bytes_of, row_numbers}
 use Rattle.words.proofs.Beside.{number-before, number-after, number-own}
 use Rattle.words.proofs.Bits.{kept-bit}
 use Rattle.words.proofs.Orders.{length-bytes, row_back}
-use Rattle.vic.specs.Layout.{word, place, ports, lines, software, enabled, config, set_of, mask_of, config_of, with_bit, bit_made, configured}
+use Rattle.vic.specs.Layout.{word, place, lines, software, enabled, config, set_of, mask_of, config_of, with_bit, bit_made, configured}
 use Rattle.vic.specs.Choice.{level, chosen_port, chosen_level, handler, Asks}
 use Rattle.vic.specs.Calls.{port_number, chosen, answer_widths, told}
 use Rattle.vic.specs.Theorems.{ChosenIs, ChosenOne, NothingChosen, TooLargeExactly, ToldWhole, SameCommon, OnlyPort, ConfiguredOne, MarkedOne, Configures, Drives, Triggers, Enables}

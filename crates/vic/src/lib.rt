@@ -1,6 +1,7 @@
 // The vectored interrupt controller. All there is of one are its 88 bytes, which the caller keeps: each call works in them, looks at
 // their size and their rules first, and where it is refused has changed nothing.
 #![tactic(auto)]
+
 ghost use Rattle.std.specs.Prelude.{cond, ◌≡◌, ◌+◌, ◌*◌, ◌%◌, ◌/◌, ◌^◌, ◌≤◌, ◌<◌, length, [], ◌∷◌};
 ghost use Rattle.words.specs.Bits.{flag as flag_of};
 ghost use Rattle.words.specs.Orders.{row_bytes};
