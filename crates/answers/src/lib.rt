@@ -2,6 +2,7 @@
 //
 // Every call is total: where the lent slice is not of the answer's size nothing is written.
 #![tactic(auto)]
+
 ghost use Rattle.words.specs.Promise.{Leaves};
 ghost use Rattle.answers.specs.Answers.{value_bytes, report_bytes, descriptor_bytes, finding_bytes, answer_put};
 
