@@ -193,7 +193,7 @@ completed-ready : (n : ℕ) (m : Core) (k : Work) → m.window.length ≡ n → 
 unfolding completed
 completed-ready n m k s =
     let halts : Bool = not (eqb k.errors 0) && stop_dma_er m.control in
-    record { size = s; left = after-left _ (run m.control) halts; placed = after-placed _ (run m.control) halts }
+    record { size = s; left = after-left (completed m k) (run m.control) halts; placed = after-placed (completed m k) (run m.control) halts }
 
 after-seated : (m : Core) (runs halts : Bool) (slot : Slot) → Seated m slot → Seated m (settled (after_back runs halts) slot)
 after-seated m true true slot h = tt
