@@ -1,6 +1,7 @@
 // The calls of the C host. A slice passes as pointer and length; each call returns 0, or the number of its refusal, and then has
 // changed nothing.
 #![tactic(auto)]
+
 pub mod chains;
 pub mod controller;
 pub mod editions;
