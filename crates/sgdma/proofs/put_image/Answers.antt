@@ -1,7 +1,6 @@
 use Rattle.machine.specs.Saved.{fields_of, tail_of}
 use Rattle.image.proofs.Answers.{kept-none, keeps-fits, image-good}
 use mathlib.Core.Path.{◌∙◌}
-use borrow.Author.Rules.{rules}
 use Rattle.sgdma.proofs.put_image.Goals as goal
 
 pub returns : goal.returns

@@ -1,5 +1,4 @@
 use Rattle.sgdma.proofs.Answered.{report-told}
-use borrow.Author.Rules.{rules}
 use Rattle.sgdma.proofs.put_run.Goals as goal
 
 pub put_image-requires : goal.put_image-requires

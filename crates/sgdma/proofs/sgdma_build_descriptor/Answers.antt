@@ -1,6 +1,5 @@
 use Rattle.descriptor.specs.Calls.{built_number}
 use mathlib.Core.Path.{sym, ap, ◌∙◌}
-use borrow.Author.Rules.{rules}
 use Rattle.sgdma.proofs.sgdma_build_descriptor.Goals as goal
 
 pub returns-in-Done : goal.returns-in-Done

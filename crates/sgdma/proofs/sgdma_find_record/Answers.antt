@@ -1,7 +1,6 @@
 use mathlib.Core.Path.{refl, ◌∙◌}
 use Rattle.answers.proofs.Filled.{is-put}
 use Rattle.sgdma.proofs.Answered.{finding-short, finding-answers}
-use borrow.Author.Rules.{rules}
 use Rattle.sgdma.proofs.sgdma_find_record.Goals as goal
 
 pub returns-then-answer-ne-FINDING : goal.returns-then-answer-ne-FINDING

@@ -3,7 +3,6 @@ use mathlib.Core.Bool.{Bool, cond}
 use Rattle.machine.specs.declared.registers.Line.TheVariants.{Up, Down}
 use Rattle.sgdma.proofs.Answered.{line-short, line-value-short, line-spoiled, line-answers}
 use Rattle.machine.specs.Saved.{load_number}
-use borrow.Author.Rules.{rules}
 use Rattle.sgdma.proofs.sgdma_line.Goals as goal
 
 pub returns-then-image-ne-IMAGE : goal.returns-then-image-ne-IMAGE

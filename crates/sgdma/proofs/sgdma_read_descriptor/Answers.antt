@@ -1,7 +1,6 @@
 use Rattle.sgdma.proofs.Answered.{answer-short, descriptor-answers}
 use Rattle.answers.proofs.Filled.{is-put}
 use mathlib.Core.Path.{refl, ◌∙◌}
-use borrow.Author.Rules.{rules}
 use Rattle.sgdma.proofs.sgdma_read_descriptor.Goals as goal
 
 pub returns-then-answer-ne-DESCRIPTOR : goal.returns-then-answer-ne-DESCRIPTOR

@@ -2,7 +2,6 @@ use Rattle.sgdma.proofs.Answered.{register-short, value-short, register-spoiled,
 use Rattle.answers.proofs.Filled.{is-put}
 use mathlib.Core.Path.{refl, sym, ap, ◌∙◌}
 use Rattle.machine.specs.Saved.{load_number}
-use borrow.Author.Rules.{rules}
 use Rattle.sgdma.proofs.sgdma_read_register.Goals as goal
 
 pub returns-then-image-ne-IMAGE : goal.returns-then-image-ne-IMAGE
