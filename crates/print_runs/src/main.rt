@@ -1,6 +1,7 @@
 // Makes the paper's eleven known runs through the C calls and prints a line for each: the reason, the steps, the beats taken, the
 // status, the pointer, the descriptor's last four bytes, the fault, and the beats made.
 #![tactic(auto)]
+
 use libc::STDOUT_FILENO;
 
 // What differs from run to run. The descriptor stands at 4096 of a window of 256 bytes at 4096, and two bytes are held at 4224.
