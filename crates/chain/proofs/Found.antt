@@ -1,5 +1,6 @@
 -- After the run each of the chain's descriptors is found in the ledger.
 -- Assumes nothing.
+use Rattle.std.specs.Prelude.{if◌then◌else◌}
 use Prim.Native.Nat.{ℕ, zero, suc, ◌+◌, ◌*◌, ◌/◌, ◌%◌, ◌^◌, ◌≤◌, ◌<◌}
 use mathlib.Core.Path.{◌≡◌, refl, sym, ap, subst, subst⁻¹, ◌∙◌}
 use mathlib.Core.Logic.{◌≢◌}
@@ -11,7 +12,6 @@ use lib.Dec.{eqb, leb}
 use lib.ListN.{length, drop}
 use borrow.Author.Tests.{eq-eqb, ne_eqb, leb-true, le-leb}
 use Rattle.words.specs.Slices.{put, AllBytes}
-use Rattle.words.specs.Guards.{if◌then◌else◌}
 use Rattle.words.proofs.Slices.{length-put}
 use Rattle.bus.specs.declared.Window.{Window}
 use Rattle.bus.specs.Window.{keeps_limits, in_window}
