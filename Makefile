@@ -10,7 +10,7 @@
 # make install   the header, both libraries, the pkg-config file and the manual page: make install PREFIX=..; make uninstall
 # make test    the gate: every proof, every edit that must fail, every test
 #
-# SGDMA_LIB_DIR is the directory of libsgdma.a, where it is not the one to which 'rt staticlib sgdma' writes it.
+# SGDMA_LIB_DIR is the directory of libsgdma.a, where it is not the one to which tools/archive writes it.
 
 .PHONY: bench board wave picture ledger check mend examples shared install uninstall speed test bridge-command target-syntax running compiler anew
 
@@ -60,8 +60,7 @@ test:
 
 # Built anew where the code is newer: an old archive would be tested in silence.
 target/staticlib/libsgdma.a: $(wildcard crates/*/src/*.rt)
-	rt staticlib sgdma
-	@touch $@
+	bash tools/archive
 
 # The C programs.
 LENT = $(INCLUDE)/sgdma.h $(LIBRARY)

@@ -51,8 +51,9 @@ module _ {w : Window} {ls : List Link} where
 
   pub alike-bytes : {a b : List ℕ} → Alike w ls a b → (ss : List Sent) → All (λ s. in_window w s.to 1 ≡ true) ss
       → Alike w ls (writes w ss a) (writes w ss b)
-  alike-bytes h [] i = h
-  alike-bytes h (s ∷ ss) i = alike-bytes (alike-byte h s (placed _ _ _ i.0)) ss i.1
+  alike-bytes {a = a} {b = b} h [] i = h
+  alike-bytes {a = a} {b = b} h (s ∷ ss) i =
+      alike-bytes {a = set a (place_of w s.to) s.byte} {b = set b (place_of w s.to) s.byte} (alike-byte h s (placed _ _ _ i.0)) ss i.1
 
 -- and when a descriptor of the chain is done in one of them, and its bytes are sent in the other
 pub alike_next : (w : World) (s : Share) (ls : List Link) (m : List ℕ) → Placed (window_of w) s.link.at 32

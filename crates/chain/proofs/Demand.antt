@@ -13,14 +13,14 @@ use Rattle.machine.specs.declared.Ran.{Ran}
 use Rattle.machine.specs.Run.{run}
 use Rattle.links.specs.Form.{All, Link, Off}
 use Rattle.chain.specs.Chain.{Given, world_for, links, every_link, Share, share_of, shares_of, shares, given, cost, records_of, sent_by_all, Premises, EveryStep, Outcome}
-use Rattle.chain.specs.Modes.{shares_from, shares_in, made_by_all, moved_by_all, PremisesIn, OutcomeOf, EndsIn}
+use Rattle.chain.specs.Modes.{writes, share_in, shares_from, shares_in, made_by_all, moved_by_all, PremisesIn, OutcomeOf, EndsIn}
 use Rattle.chain.specs.Theorems.{ChainTheorem, ChainRecords, ChainAtEveryStep}
 use Rattle.chain.proofs.Theorem.{in-each-mode, in-each-mode-at-every-step}
 
 -- memory has no part in what the stream gives
 from-stream : (w : Window) (m : List ℕ) (ls : List Link) (bs : List ℕ) → shares_from StreamToMemory w m ls bs ≡ shares_of ls bs
 from-stream w m [] bs = refl
-from-stream w m (l ∷ ls) bs = ap (λ (x : List Share). share_of l bs ∷ x) (from-stream w _ ls _)
+from-stream w m (l ∷ ls) bs = ap (λ (x : List Share). share_of l bs ∷ x) (from-stream w (writes w (share_in StreamToMemory w m l bs).sent m) ls _)
 
 pub same-shares : (g : Given) → shares_in StreamToMemory g ≡ shares g
 same-shares g = from-stream g.window g.memory (links g) g.beats

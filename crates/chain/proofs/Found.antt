@@ -1,17 +1,17 @@
 -- After the run each of the chain's descriptors is found in the ledger.
 -- Assumes nothing.
+use Rattle.std.specs.Prelude.{if◌then◌else◌}
 use Prim.Native.Nat.{ℕ, zero, suc, ◌+◌, ◌*◌, ◌/◌, ◌%◌, ◌^◌, ◌≤◌, ◌<◌}
 use mathlib.Core.Path.{◌≡◌, refl, sym, ap, subst, subst⁻¹, ◌∙◌}
 use mathlib.Core.Logic.{◌≢◌}
 use mathlib.Core.Bool.{Bool, true, false, cond, ◌&&◌}
 use mathlib.Core.List.{List, [], ◌∷◌, ◌++◌}
 use native.Mathlib.Omega.{arith}
-use lib.Bits.{or_lt}
+use lib.Bits.{bit_or, or_lt}
 use lib.Dec.{eqb, leb}
 use lib.ListN.{length, drop}
 use borrow.Author.Tests.{eq-eqb, ne_eqb, leb-true, le-leb}
 use Rattle.words.specs.Slices.{put, AllBytes}
-use Rattle.words.specs.Guards.{if◌then◌else◌}
 use Rattle.words.proofs.Slices.{length-put}
 use Rattle.bus.specs.declared.Window.{Window}
 use Rattle.bus.specs.Window.{keeps_limits, in_window}
@@ -32,7 +32,7 @@ use Rattle.image.proofs.Tests.{and_left, and_right}
 use Rattle.machine.specs.Run.{Lent}
 use Rattle.links.specs.Form.{All, Pairwise, Link, Apart}
 use Rattle.chain.specs.Chain.{Given, links, last, Share, record_of, records_of, wants, takes}
-use Rattle.chain.specs.Modes.{share_in, shares_from, shares_in, PremisesIn}
+use Rattle.chain.specs.Modes.{share_in, writes, shares_from, shares_in, PremisesIn}
 use Rattle.chain.specs.Calls.{given_by}
 use Rattle.chain.specs.Theorems.{EachFound, EachFoundIn}
 use Rattle.chain.proofs.Lists.{all_map, all_left, links_of}
@@ -69,7 +69,7 @@ takes-beats (suc n) (b ∷ bs) a = (a.0, by (beat_eop b) (takes-beats n bs a.1))
 
 errors-fit : (e : ℕ) (bs : List ℕ) → e < 2 ^ 7 → Beats bs → gathered e bs < 2 ^ 7
 errors-fit e [] h a = h
-errors-fit e (b ∷ bs) h a = errors-fit _ bs (or_lt 7 e (beat_error b) h (let k = a.0 in omega arith)) a.1
+errors-fit e (b ∷ bs) h a = errors-fit (bit_or e (beat_error b)) bs (or_lt 7 e (beat_error b) h (let k = a.0 in omega arith)) a.1
 
 module _ (mode : Mode) (w : Window) where
   share-errors : (x : Mode) (m : List ℕ) (l : Link) (bs : List ℕ) → Beats bs → (share_in x w m l bs).errors < 2 ^ 7
@@ -80,7 +80,7 @@ module _ (mode : Mode) (w : Window) where
   shares-errors : (m : List ℕ) (ls : List Link) (bs : List ℕ) → Beats bs → All (λ (s : Share). s.errors < 2 ^ 7) (shares_from mode w m ls bs)
   shares-errors m [] bs a = tt
   shares-errors m (l ∷ ls) bs a =
-      (share-errors mode m l bs a, shares-errors _ ls _ (drop-beats (share_in mode w m l bs).taken bs a))
+      (share-errors mode m l bs a, shares-errors (writes w (share_in mode w m l bs).sent m) ls _ (drop-beats (share_in mode w m l bs).taken bs a))
 
 records-fit : (ss : List Share) → All (λ (s : Share). s.count < 65536) ss → All (λ (s : Share). s.errors < 2 ^ 7) ss
     → All (λ l. l.at < 2 ^ 32) (links_of ss) → AllFit (records_of 1 ss)
@@ -97,7 +97,7 @@ module _ (address : ℕ) where
 
   latest-append : (before : Finding) (es fs : List Entry) → latest 1 address before (es ++ fs) ≡ latest 1 address (latest 1 address before es) fs
   latest-append before [] fs = refl
-  latest-append before (e ∷ es) fs = latest-append _ es fs
+  latest-append before (e ∷ es) fs = latest-append (if is_of 1 address e then Found e.actual else before) es fs
 
 both : (x y : Bool) → x ≡ true → y ≡ true → (x && y) ≡ true
 both x y p q = rw (p, q)
@@ -121,7 +121,7 @@ latest-each before (s ∷ ss) a =
 -- ---- in a ledger that has them behind those used
 
 module _ (mode : Mode) (window : Window) (pointer control : ℕ) (l : Lent) (k : ℕ) (h : PremisesIn mode (given_by window pointer control k l))
-    (limits : keeps_limits window.base window.length ≡ true) (is_ledger : is_ledger (length l.ledger) l.used ≡ true)
+    (limits : keeps_limits window.base window.length ≡ true) (whole : is_ledger (length l.ledger) l.used ≡ true)
     (beats : AllBytes l.beats) where
   abbrev g : Given
   g = given_by window pointer control k l
@@ -141,7 +141,7 @@ module _ (mode : Mode) (window : Window) (pointer control : ℕ) (l : Lent) (k :
         arith,
         h.ledger,
         (capacity-le (length l.ledger)).0,
-        records-within l.ledger l.used (record { value = refl }) is_ledger,
+        records-within l.ledger l.used (record { value = refl }) whole,
         k-records,
       )
 
@@ -164,7 +164,7 @@ module _ (mode : Mode) (window : Window) (pointer control : ℕ) (l : Lent) (k :
 
   still-ledger : is_ledger (length left) (l.used + length rs) ≡ true
   still-ledger =
-      both _ _ (ap (λ (i : ℕ). eqb (i % 12) 0) same_length ∙ and_left _ _ is_ledger)
+      both _ _ (ap (λ (i : ℕ). eqb (i % 12) 0) same_length ∙ and_left _ _ whole)
       (le-leb (l.used + length rs) (length left / 12) (omega (arith, room, same_length)))
 
   module _ {after : List ℕ} (e : after ≡ left) where

@@ -58,7 +58,7 @@ chain-owned w m a (l ∷ ls) e c = (
 pub chain-is : (w : Window) (m : List ℕ) (a k : ℕ) → All (λ l. owned l.says.control.0 ≡ true) (links_from w m a k)
     → owned (link_after w m a k).says.control.0 ≡ false → Chain w m a (links_from w m a k) (link_after w m a k)
 chain-is w m a zero o u = (refl, u)
-chain-is w m a (suc k) o u = (refl, o.0, chain-is w m _ k o.1 u)
+chain-is w m a (suc k) o u = (refl, o.0, chain-is w m ((link_at w m a).says.next) k o.1 u)
 
 -- ---- lengths
 
@@ -104,5 +104,5 @@ pub links-short : (w : Window) (m : List ℕ) (a k : ℕ) → AllBytes m → len
 links-short w m a zero b e i = tt
 links-short w m a (suc k) b e i = (
   length-short m (place_of w a) b (let p : Placed w a 32 = placed w a 32 i.0 in omega (arith, p.fits)),
-  links-short w m _ k b e i.1,
+  links-short w m ((link_at w m a).says.next) k b e i.1,
 )

@@ -33,11 +33,11 @@ link-of StreamToMemory w m l bs = refl
 
 pub links-of : (mode : Mode) (w : Window) (m : List ℕ) (ls : List Link) (bs : List ℕ) → links_of (shares_from mode w m ls bs) ≡ ls
 links-of mode w m [] bs = refl
-links-of mode w m (l ∷ ls) bs = ap₂ (λ (x : Link) (xs : List Link). x ∷ xs) (link-of mode w m l bs) (links-of mode w _ ls _)
+links-of mode w m (l ∷ ls) bs = ap₂ (λ (x : Link) (xs : List Link). x ∷ xs) (link-of mode w m l bs) (links-of mode w (writes w (share_in mode w m l bs).sent m) ls _)
 
 pub length-shares : (mode : Mode) (w : Window) (m : List ℕ) (ls : List Link) (bs : List ℕ) → length (shares_from mode w m ls bs) ≡ length ls
 length-shares mode w m [] bs = refl
-length-shares mode w m (l ∷ ls) bs = ap suc (length-shares mode w _ ls _)
+length-shares mode w m (l ∷ ls) bs = ap suc (length-shares mode w (writes w (share_in mode w m l bs).sent m) ls _)
 
 -- ---- what a mode asks for
 

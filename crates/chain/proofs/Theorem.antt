@@ -16,7 +16,7 @@ use Rattle.machine.specs.Step.{World}
 use Rattle.machine.specs.Run.{Report, run, taken_since, ran_as}
 use Rattle.machine.specs.Laws.{Along, more}
 use Rattle.machine.proofs.RunLaws.{along-first, along-map, run-to-end, run_short, run-on-way}
-use Rattle.links.specs.Form.{All, Link, links_from, Off}
+use Rattle.links.specs.Form.{All, Link, link_at, links_from, Off}
 use Rattle.chain.specs.Chain.{Given, links, last, every_link, Share, given, cost, records_of, sent_by_all, Done, FirstFew, counts}
 use Rattle.chain.specs.Modes.{sources_of, shares_in, moved_by_all, ReadsMemory, Asks, PremisesIn, OutcomeOf, EndsIn}
 use Rattle.chain.specs.Theorems.{InEachMode, InEachModeAtEveryStep}
@@ -38,7 +38,7 @@ counts-moved w m (s ∷ ss) a = ap₂ ◌+◌ a.0.count (counts-moved w m ss a.1
 
 pub length-links : (w : Window) (m : List ℕ) (a n : ℕ) → length (links_from w m a n) ≡ n
 length-links w m a zero = refl
-length-links w m a (suc n) = ap suc (length-links w m _ n)
+length-links w m a (suc n) = ap suc (length-links w m ((link_at w m a).says.next) n)
 
 pub length-records : (ss : List Share) → length (records_of 1 ss) ≡ length ss
 length-records [] = refl

@@ -6,7 +6,7 @@ use mathlib.Core.Bool.{true}
 use mathlib.Core.List.{List, [], ◌∷◌, ◌++◌, append-nil}
 use native.Mathlib.Nat.{add-zero}
 use native.Mathlib.Omega.{arith}
-use lib.ListN.{length, get_or, drop, length-drop}
+use lib.ListN.{get_or, drop, length-drop}
 use lib.Seq.{drop-drop, take-add}
 use Rattle.words.specs.declared.Order.TheVariants.{LeastFirst}
 use Rattle.words.specs.Slices.{part, AllBytes}

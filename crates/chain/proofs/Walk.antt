@@ -17,7 +17,7 @@ use Rattle.descriptor.proofs.Looks.{look-there}
 use Rattle.machine.specs.declared.Phase.TheVariants.{Fetch}
 use Rattle.machine.specs.declared.Slot.TheVariants.{Empty}
 use Rattle.machine.specs.declared.Reason.TheVariants.{Ended}
-use Rattle.machine.specs.Step.{World, taken, stopped, became, holding, seen, ended, step}
+use Rattle.machine.specs.Step.{World, stopped, became, holding, seen, ended, step}
 use Rattle.machine.specs.Laws.{Along, here, more}
 use Rattle.machine.proofs.RunLaws.{join, along-map, along-last}
 use Rattle.links.specs.Form.{All, Pairwise, Link, link_at, Off, Apart}

@@ -1,6 +1,6 @@
 -- What is proved of chains, demand 3: each theorem's whole statement, under its name. A term of each stands in proofs/.
 -- Assumes nothing.
-use Rattle.std.specs.Prelude.{ℕ, ◌+◌, ◌≤◌, ◌≡◌, true, [], ◌∷◌, length}
+use Rattle.std.specs.Prelude.{ℕ, ◌+◌, ◌≤◌, ◌≡◌, true, [], ◌∷◌}
 use Rattle.words.specs.Slices.{AllBytes}
 use Rattle.bus.specs.declared.Window.{Window}
 use Rattle.bus.specs.Window.{keeps_limits}

@@ -5,11 +5,11 @@ use mathlib.Core.Path.{◌≡◌, refl, ap, ◌∙◌}
 use mathlib.Core.Bool.{Bool, true, false, not, cond, ◌&&◌}
 use mathlib.Core.List.{List, [], ◌∷◌, ◌++◌, append_assoc}
 use lib.Dec.{eqb}
-use Rattle.bus.specs.Window.{in_window, place_of}
+use Rattle.bus.specs.Window.{in_window}
 use Rattle.descriptor.specs.declared.Look.{Look}
 use Rattle.descriptor.specs.declared.Look.TheVariants.{Misaligned, Outside, There}
 use Rattle.descriptor.specs.Layout.{owned}
-use Rattle.descriptor.specs.Looking.{named_in, look_at}
+use Rattle.descriptor.specs.Looking.{named_in}
 use Rattle.regs.specs.declared.Mode.{Mode}
 use Rattle.regs.specs.declared.Mode.TheVariants.{MemoryToMemory, MemoryToStream, StreamToMemory}
 use Rattle.regs.specs.Control as register

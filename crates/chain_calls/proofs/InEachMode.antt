@@ -19,7 +19,6 @@ use Rattle.machine.specs.Step.{World}
 use Rattle.machine.specs.Run.{Served, run, reason_number, served_of, ran_as, run_answer, run_number, HasRun}
 use Rattle.machine.proofs.Answers.{was-written}
 use Rattle.met.specs.Met as met
-use Rattle.met.proofs.RoundTrip.{loads}
 use Rattle.chain.specs.Chain.{Given, started_in, world_in, Share, cost, given}
 use Rattle.chain.specs.Modes.{shares_in, made_by_all, PremisesIn, OutcomeOf}
 use Rattle.chain.specs.Calls.{in_front, FinishedIn}
@@ -29,7 +28,7 @@ use Rattle.chain.proofs.Users.{copied-as-held, beats-made, only-marks}
 use Rattle.chain.proofs.OfRun.{served, ends_as, finishes, few-done}
 use Rattle.answers.specs.Answers.{report_widths, report_bytes}
 use Rattle.sgdma.specs.Calls.{image_of, run_call, ran_over, report_over}
-use Rattle.chain_calls.specs.InC.{RunLeft, Promised, Lends, WellLent, given_in, run_lent, CalledIn, FoundIn, FoundAtEveryStepIn}
+use Rattle.chain_calls.specs.InC.{RunLeft, Promised, Lends, WellLent, given_in, run_lent, FoundIn, FoundAtEveryStepIn}
 use Rattle.chain_calls.specs.Theorems.{NoneRefusedInEachMode, OfCallsInEachMode, OfCallsInEachModeAtEveryStep, CopiesWhatWasHeldInC, SendsTheseBeatsInC}
 use Rattle.chain_calls.proofs.OfCalls.{are-all-bytes, loads-as, runs_as, has-run, m0, m1, m2, pointed-as, started-as, met2, creates, x2-is, x3-is, run_is}
 

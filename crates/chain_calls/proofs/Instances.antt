@@ -47,9 +47,9 @@ zero-bytes : (n : ℕ) → AllBytes (replicate n 0)
 zero-bytes zero = tt
 zero-bytes (suc n) = (omega arith, zero-bytes n)
 
-beat_bytes : (bs : List ℕ) → AllBytes (beat_bytes bs)
-beat_bytes [] = tt
-beat_bytes (b ∷ bs) = (mod-lt _ (omega arith), (mod-lt _ (omega arith), beat_bytes bs))
+are-beat_bytes : (bs : List ℕ) → AllBytes (beat_bytes bs)
+are-beat_bytes [] = tt
+are-beat_bytes (b ∷ bs) = (mod-lt _ (omega arith), (mod-lt _ (omega arith), are-beat_bytes bs))
 
 whole : (xs : List ℕ) (n : ℕ) → length xs ≡ 2 * n → even xs ≡ true
 whole xs n l = eq-eqb (length xs % 2) 0 (omega arith)
@@ -68,7 +68,7 @@ well-lent g limits pointer control =
       even_out = whole (replicate (2 * g.room) 0) g.room (length-replicate (2 * g.room) 0);
       is_ledger = whole-records (replicate (12 * (g.used + g.left)) 0) (g.used + g.left) g.used (length-replicate (12 * (g.used + g.left)) 0) (omega arith);
       limits = limits;
-      beat_bytes = beat_bytes g.beats;
+      beat_bytes = are-beat_bytes g.beats;
       pointer_bits = pointer;
       control_bits = control;
     }
@@ -79,7 +79,7 @@ in_bytes g h u =
     record {
       image = image-bytes (fields_of (machine_for g).core) (tail_of (machine_for g));
       window = are-all-bytes g.memory h.bytes;
-      beats = beat_bytes g.beats;
+      beats = are-beat_bytes g.beats;
       out = zero-bytes (2 * g.room);
       ledger = zero-bytes (12 * (g.used + g.left));
       used = u;

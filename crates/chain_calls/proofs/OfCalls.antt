@@ -21,7 +21,7 @@ use Rattle.machine.specs.declared.registers.WroteRegister.TheVariants as wrote
 use Rattle.machine.specs.State.{fresh}
 use Rattle.machine.specs.Saved.{load_of}
 use Rattle.machine.specs.Registers.{written_to, write_of, register_wrote_number}
-use Rattle.machine.specs.Run.{run, served_of, world_of, run_answer, HasRun}
+use Rattle.machine.specs.Run.{served_of, world_of, run_answer, HasRun}
 use Rattle.machine.proofs.Answers.{was-written, run-number}
 use Rattle.met.specs.Met.{Met}
 use Rattle.met.specs.Met as met

@@ -182,7 +182,7 @@ descriptor-in-order window base a answer r answer' p =
 -- what is found is no refusal
 latest-number : (run address : ℕ) (before : Finding) (es : List Entry) → finding_number before ≡ 0 → finding_number (latest run address before es) ≡ 0
 latest-number run address before [] z = z
-latest-number run address before (e ∷ es) z = latest-number run address _ es (by (is_of run address e))
+latest-number run address before (e ∷ es) z = latest-number run address (cond (is_of run address e) (Found e.actual) before) es (by (is_of run address e))
   where
     by : (b : Bool) → finding_number (cond b (Found e.actual) before) ≡ 0
     by true = refl

@@ -24,7 +24,7 @@ use Rattle.flow.proofs.Streams.{length-beats, length-beat-bytes}
 use Rattle.machine.specs.declared.Machine.{Machine}
 use Rattle.machine.specs.Saved.{fields_of, tail_of, keeps}
 use Rattle.machine.specs.Step.{World, laid, noted, machine_in, holding}
-use Rattle.machine.specs.Run.{Report, run, reason_number, Lent, back, serves, even, served_of, taken_since, output_over, ledger_over}
+use Rattle.machine.specs.Run.{Report, run, reason_number, Lent, serves, even, served_of, taken_since, output_over, ledger_over}
 use Rattle.machine.specs.Laws.{Passed, on_top}
 use Rattle.machine.proofs.Streams.{beat-bytes-append}
 use Rattle.machine.proofs.RunLaws.{run-add, run-tells, run-input}
@@ -155,8 +155,8 @@ module _ {x : RunLent} (s : Accepted x) (g : InBytes x) (first : RunLeft) (p : P
   length-next : length next.lent.ledger ≡ length x.lent.ledger
   length-next = length-put x.lent.ledger (12 * x.lent.used) (ledger_bytes v.records) records-fit
 
-  is_ledger : is_ledger (length next.lent.ledger) next.lent.used ≡ is_ledger (length x.lent.ledger) x.lent.used
-  is_ledger =
+  same-ledger : is_ledger (length next.lent.ledger) next.lent.used ≡ is_ledger (length x.lent.ledger) x.lent.used
+  same-ledger =
       let fits : next.lent.used ≤ length x.lent.ledger / 12 = omega (arith, length-ledger v.records, records-fit) in
       rw (length-next, le-leb next.lent.used (length x.lent.ledger / 12) fits, le-leb x.lent.used (length x.lent.ledger / 12) good.2)
 
@@ -166,7 +166,7 @@ module _ {x : RunLent} (s : Accepted x) (g : InBytes x) (first : RunLeft) (p : P
   serves-next : served_by next (machine_in v) ≡ serves
   serves-next =
       serves-as x.lent next.lent s.machine (machine_in v) (met-keeps _ met_next) good.0 (even-from took x.lent.beats took-le)
-      (even-from (length v.output) x.lent.out (omega (arith, room-left s))) is_ledger passed.memory (ap (λ (w : Window). w.length) passed.window)
+      (even-from (length v.output) x.lent.out (omega (arith, room-left s))) same-ledger passed.memory (ap (λ (w : Window). w.length) passed.window)
       ∙ s.served
 
   abbrev accepted-next : Accepted next

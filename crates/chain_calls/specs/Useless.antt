@@ -87,7 +87,7 @@ pub record NotRefused (x : RunLent) : Type 0 where
 abbrev pub run_of : (x : RunLent) → Machine → Report
 run_of x m = run x.budget (world_of m x.lent)
 
--- "A made_up step count": of some run it tells another number than that of the applications of the step rule
+-- "A made-up step count": of some run it tells another number than that of the applications of the step rule
 pub record MakesUpSteps (f : Model) : Type 0 where
   pub given : RunLent
   pub done : NotRefused given

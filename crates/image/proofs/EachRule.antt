@@ -4,7 +4,7 @@ use Prim.Native.Nat.{ℕ, zero, suc}
 use mathlib.Core.Path.{◌≡◌, refl}
 use mathlib.Core.Bool.{true}
 use lib.Dec.{eqb}
-use Rattle.words.proofs.Firsts.{each, none, told-first}
+use Rattle.words.proofs.Firsts.{each, told-first}
 use Rattle.bus.specs.Window.{keeps_limits}
 use Rattle.descriptor.specs.Looking.{is_zero}
 use Rattle.image.specs.declared.Fields.{Fields}

@@ -1,6 +1,6 @@
 -- Forward and back again, and to the same edition: what an image is after the move, in bytes and in fields.
 -- Assumes nothing.
-use Prim.Native.Nat.{ℕ, zero, suc, ◌+◌, ◌*◌, ◌%◌, ◌≤◌, ◌<◌}
+use Prim.Native.Nat.{ℕ, zero, suc, ◌+◌, ◌*◌, ◌%◌, ◌≤◌}
 use mathlib.Core.Path.{◌≡◌, refl, sym, ap, subst, ◌∙◌}
 use mathlib.Core.Bool.{Bool, true, false, not, cond, ◌&&◌}
 use mathlib.Core.List.{List, [], ◌∷◌}
@@ -8,7 +8,7 @@ use mathlib.Core.Logic.{◌≢◌}
 use native.Mathlib.Omega.{arith}
 use borrow.Author.Tests.{eq-eqb, eqb-true, eqb-false}
 use lib.Dec.{eqb, ltb}
-use lib.ListN.{length, drop, get_or}
+use lib.ListN.{length, drop}
 use Rattle.words.specs.Fields.{first_false}
 use Rattle.words.specs.Numbers.{recode, bytes, Fit}
 use Rattle.words.specs.Slices.{AllBytes}
@@ -19,9 +19,9 @@ use Rattle.image.specs.declared.Tail.{Tail}
 use Rattle.image.specs.declared.ReadImage.TheVariants as read
 use Rattle.image.specs.Slot.{tail_from, slot_widths, slot_values}
 use Rattle.image.specs.Layout.{from_numbers, values_of, widths_of, image_of, fields_in, tail_in, values, widths, image, fields, tail, Typed}
-use Rattle.image.specs.Rules.{core_rules, rules, lowest_broken, keeps_rules}
+use Rattle.image.specs.Rules.{core_rules, rules, lowest_broken}
 use Rattle.image.specs.Promise.{read_of}
-use Rattle.image.specs.Editions.{edition_sized, edition_of, broken_in, slot_held, moved_to, move_number, ImageMoved}
+use Rattle.image.specs.Editions.{edition_sized, edition_of, broken_in, slot_held, moved_to, ImageMoved}
 use Rattle.image.specs.Helpers.InBytes.{resized, moved_bytes}
 use Rattle.image.specs.Helpers.ByPhase.{core_kept, slot_kept_of}
 use Rattle.image.specs.Theorems.{ForwardThenBack, MovedAsItIs}

@@ -1,7 +1,7 @@
 -- An image in another edition, as the code makes it: its bytes, as many as the other has, with the other's number; and the rules of its
 -- edition as the code looks at them, those of the latest.
 -- Assumes nothing.
-use Prim.Native.Nat.{ℕ, zero, suc, ◌+◌, ◌*◌, ◌/◌, ◌%◌, ◌^◌, ◌≤◌, ◌<◌}
+use Prim.Native.Nat.{ℕ, zero, suc, ◌+◌, ◌*◌, ◌%◌, ◌^◌, ◌≤◌, ◌<◌}
 use mathlib.Core.Path.{◌≡◌, refl, sym, ap, subst, ◌∙◌}
 use mathlib.Core.Bool.{Bool, true, false, not, cond, ◌&&◌}
 use mathlib.Core.List.{List, [], ◌∷◌, ◌++◌}
@@ -24,7 +24,7 @@ use Rattle.descriptor.specs.Looking.{is_zero}
 use Rattle.image.specs.declared.Fields.{Fields}
 use Rattle.image.specs.declared.Tail.{Tail}
 use Rattle.image.specs.Slot.{slot_raw, tail_from, slot_widths, slot_values, tail_bytes, slot_rules}
-use Rattle.image.specs.Layout.{from_numbers, values_of, widths_of, image_of, fields_in, tail_in, latest, fields, tail}
+use Rattle.image.specs.Layout.{from_numbers, values_of, widths_of, image_of, fields_in, tail_in, fields, tail}
 use Rattle.image.specs.Rules.{core_rules, rules_of, rules, lowest_broken}
 use Rattle.image.specs.Editions.{edition_sized, edition_of, broken_in, slot_held, moved_to, move_number, ImageMoved}
 use Rattle.image.specs.Helpers.InBytes.{resized, moved_bytes}

@@ -17,7 +17,7 @@ use Rattle.words.proofs.Recode.{recode-back, recode-fit, recode-append}
 use Rattle.words.proofs.Groups.{fit-both, recode-groups}
 use Rattle.words.proofs.Orders.{length-split, split-bytes}
 use Rattle.words.proofs.Bits.{flag-back, flag-bit}
-use Rattle.words.proofs.Bytes.{bytes_fit, fit-bytes}
+use Rattle.words.proofs.Bytes.{bytes_fit}
 use Rattle.words.proofs.Slices.{put_in, put-put, length-put}
 use Rattle.words.proofs.Packing.{fields-packed}
 use Rattle.descriptor.specs.Looking.{raw_bytes, WordsFit}

@@ -1,9 +1,8 @@
 -- Order 5: "Old images forward, new ones back." An image of one edition is moved to another, in one call for any pair of them; each is
 -- told by its size.
 -- Assumes nothing.
-use Rattle.std.specs.Prelude.{ℕ, Bool, not, ◌&&◌, List, ◌∷◌, eqb, ltb, length, drop}
+use Rattle.std.specs.Prelude.{ℕ, Bool, not, ◌&&◌, List, ◌∷◌, eqb, ltb, length, drop, if◌then◌else◌}
 use Rattle.words.specs.Fields.{first_false}
-use Rattle.words.specs.Guards.{if◌then◌else◌}
 use Rattle.words.specs.Numbers.{recode, bytes}
 use Rattle.words.specs.Promise.{Answers}
 use Rattle.bus.specs.declared.Refusal.TheVariants.{BadSize, BadImage, SlotHeld}

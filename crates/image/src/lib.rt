@@ -1,6 +1,7 @@
 // The saved image of a machine: 85 bytes, its fields as numbers, and the rule that each field keeps. The images of an earlier edition, and
 // the way from one to the other, stand in `moves`.
 #![tactic(auto)]
+
 pub mod moves;
 
 ghost use Rattle.std.specs.Prelude.{true, false, ◌≡◌, length};

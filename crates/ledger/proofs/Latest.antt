@@ -1,5 +1,6 @@
 -- What is found among the records, one by one.
 -- Assumes nothing.
+use Rattle.std.specs.Prelude.{if◌then◌else◌}
 use Prim.Native.Nat.{ℕ, zero, suc, ◌*◌, ◌-◌, ◌/◌, ◌%◌, ◌≤◌, ◌<◌}
 use mathlib.Core.Path.{◌≡◌, refl, sym, ap, ◌∙◌}
 use mathlib.Core.Bool.{Bool, true, false, true≢false, ◌&&◌}
@@ -10,7 +11,6 @@ use lib.Dec.{eqb, leb}
 use lib.ListN.{length}
 use borrow.Author.Tests.{eq-eqb, ne_eqb, leb-true}
 use Rattle.words.specs.declared.Order.TheVariants.{MostFirst}
-use Rattle.words.specs.Guards.{if◌then◌else◌}
 use Rattle.words.specs.Promise.{Gives}
 use Rattle.words.specs.Slices.{part, number_at}
 use Rattle.bus.specs.declared.Refusal.TheVariants.{BadLedger, RunUnknown}

@@ -1,5 +1,6 @@
 -- Records that are put behind those used are read back behind them, and found.
 -- Assumes nothing.
+use Rattle.std.specs.Prelude.{if◌then◌else◌}
 use Prim.Native.Nat.{ℕ, zero, suc, ◌+◌, ◌*◌, ◌≤◌}
 use mathlib.Core.Path.{◌≡◌, refl, sym, ap, ◌∙◌}
 use mathlib.Core.Bool.{Bool, true, false}
@@ -9,7 +10,6 @@ use native.Mathlib.Omega.{arith}
 use lib.ListN.{length, get_or}
 use Rattle.words.specs.declared.Order.TheVariants.{MostFirst}
 use Rattle.words.specs.Bits.{bit, flag}
-use Rattle.words.specs.Guards.{if◌then◌else◌}
 use Rattle.words.specs.Orders.{row_numbers}
 use Rattle.words.specs.Slices.{put}
 use Rattle.words.proofs.Orders.{row_back}

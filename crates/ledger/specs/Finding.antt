@@ -1,9 +1,8 @@
 -- What the ledger tells. Order 6: "Answer whether a descriptor was written back in a given run, and its latest byte count there."
 -- Assumes nothing.
-use Rattle.std.specs.Prelude.{ℕ, zero, suc, ◌*◌, Bool, not, ◌&&◌, List, [], ◌∷◌, ◌++◌, eqb, length}
+use Rattle.std.specs.Prelude.{ℕ, zero, suc, ◌*◌, Bool, not, ◌&&◌, List, [], ◌∷◌, ◌++◌, eqb, length, if◌then◌else◌}
 use Rattle.words.specs.declared.Order.TheVariants.{MostFirst}
 use Rattle.words.specs.Bits.{bit}
-use Rattle.words.specs.Guards.{if◌then◌else◌}
 use Rattle.words.specs.Slices.{part, number_at}
 use Rattle.bus.specs.declared.Refusal.TheVariants.{BadLedger, RunUnknown}
 use Rattle.bus.specs.Refusal.{refusal_number}

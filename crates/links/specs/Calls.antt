@@ -1,9 +1,8 @@
 -- What the check promises, and the C calls of the check and of mending.
 -- Assumes nothing.
-use Rattle.std.specs.Prelude.{ℕ, ◌≡◌, cond, not, List, [], ◌∷◌, eqb, length}
+use Rattle.std.specs.Prelude.{ℕ, ◌≡◌, cond, not, List, [], ◌∷◌, eqb, length, if◌then◌else◌}
 use Rattle.std.proofs.Common.{sym, ◌∙◌}
 use Rattle.words.specs.declared.Order.TheVariants.{MostFirst}
-use Rattle.words.specs.Guards.{if◌then◌else◌}
 use Rattle.words.specs.Orders.{row_bytes}
 use Rattle.words.specs.Promise.{Answers, answers-unique}
 use Rattle.bus.specs.declared.Refusal.TheVariants.{BadSize, BadWindow}

@@ -1,7 +1,6 @@
 -- Order 8: "Check the chain before the bench starts." What is said of a chain, and what it means.
 -- Assumes nothing.
-use Rattle.std.specs.Prelude.{ℕ, zero, suc, ◌+◌, ◌%◌, ◌<◌, ◌≡◌, ◌≢◌, Bool, true, false, ◌&&◌, ◌||◌, List, [], ◌∷◌, ltb, length}
-use Rattle.words.specs.Guards.{if◌then◌else◌}
+use Rattle.std.specs.Prelude.{ℕ, zero, suc, ◌+◌, ◌%◌, ◌<◌, ◌≡◌, ◌≢◌, Bool, true, false, ◌&&◌, ◌||◌, List, [], ◌∷◌, ltb, length, if◌then◌else◌}
 use Rattle.bus.specs.declared.Window.{Window}
 use Rattle.bus.specs.Window.{in_window}
 use Rattle.descriptor.specs.declared.Spot.{Spot}

@@ -1,5 +1,6 @@
 // The chain in memory: whether it has demand 3's form, and mending one that has not.
 #![tactic(auto)]
+
 pub mod calls;
 pub mod mending;
 

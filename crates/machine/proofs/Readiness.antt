@@ -42,7 +42,7 @@ use Rattle.machine.specs.State.{phase_number, home, with_pointer, with_phase, wi
 use Rattle.machine.specs.Saved.{in_hand, fields_of, tail_with, tail_of, keeps}
 use Rattle.machine.specs.Step.{World, Answer, home_bytes, taken, stopped, laid, settle, step, step_in, rest_step, seen_in, seen, begun, meets, fetch_step, fetched, wants_length, move_step, copy_step, send_step, send_to, receive_from, back_to, write_back_step, completed, after_back, onward, with_byte, whole, source_of, destination_of}
 use Rattle.machine.specs.Helpers.Turns.{steps_on, steps}
-use Rattle.machine.specs.Helpers.Resume.{ready_in, core_ready, seated_as, seated_in, ready_of, Left, Placed, SeatedAs, Seated, Ready}
+use Rattle.machine.specs.Helpers.Resume.{ready_in, core_ready, seated_in, ready_of, Left, Placed, SeatedAs, Seated, Ready}
 use Rattle.machine.proofs.InRows.{kept-onward}
 
 -- what a rule leads to is ready, with the slot as the phase leaves it
@@ -193,7 +193,7 @@ completed-ready : (n : ℕ) (m : Core) (k : Work) → m.window.length ≡ n → 
 unfolding completed
 completed-ready n m k s =
     let halts : Bool = not (eqb k.errors 0) && stop_dma_er m.control in
-    record { size = s; left = after-left _ (run m.control) halts; placed = after-placed _ (run m.control) halts }
+    record { size = s; left = after-left (completed m k) (run m.control) halts; placed = after-placed (completed m k) (run m.control) halts }
 
 after-seated : (m : Core) (runs halts : Bool) (slot : Slot) → Seated m slot → Seated m (settled (after_back runs halts) slot)
 after-seated m true true slot h = tt

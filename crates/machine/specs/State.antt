@@ -9,7 +9,7 @@ use Rattle.regs.specs.declared.Control.{Control}
 use Rattle.regs.specs.declared.Pointer.{Pointer}
 use Rattle.machine.specs.declared.Core.{Core}
 use Rattle.machine.specs.declared.Slot.{Slot}
-use Rattle.machine.specs.declared.Slot.TheVariants.{Empty, Ahead}
+use Rattle.machine.specs.declared.Slot.TheVariants.{Empty}
 use Rattle.machine.specs.declared.Machine.{Machine}
 use Rattle.machine.specs.declared.Phase.{Phase}
 use Rattle.machine.specs.declared.Phase.TheVariants.{Rest, Fetch, Move, WriteBack, Ended, Halted, Faulted}

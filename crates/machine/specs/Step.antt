@@ -6,9 +6,8 @@
 --   "Saved image"                       Saved.antt
 -- The machine and its parts are named in State.antt.
 -- Assumes nothing.
-use Rattle.std.specs.Prelude.{ℕ, zero, suc, ◌+◌, ◌%◌, ◌^◌, Bool, true, false, not, cond, ◌&&◌, ◌||◌, List, [], ◌∷◌, ◌++◌, eqb, get_or, set}
+use Rattle.std.specs.Prelude.{ℕ, zero, suc, ◌+◌, ◌%◌, ◌^◌, Bool, true, false, not, cond, ◌&&◌, ◌||◌, List, [], ◌∷◌, ◌++◌, eqb, get_or, set, if◌then◌else◌}
 use Rattle.std.specs.Int.Bits.{bit_or}
-use Rattle.words.specs.Guards.{if◌then◌else◌}
 use Rattle.words.specs.Slices.{put_at}
 use Rattle.bus.specs.Window.{in_window, place_of}
 use Rattle.descriptor.specs.declared.Descriptor.{Descriptor}

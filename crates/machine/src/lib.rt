@@ -1,6 +1,7 @@
 // The SG-DMA core: what it keeps, its registers, its saved image, its steps and runs. The machine goes into each call by value and
 // comes back from it. (Altera, Embedded Peripherals, chapter 23, as the paper states it.)
 #![tactic(auto)]
+
 pub mod back;
 pub mod bursts;
 pub mod fetch;

@@ -8,7 +8,7 @@ use native.Mathlib.Nat.{mod-lt}
 use native.Mathlib.Omega.{arith}
 use lib.Bits.{or_lt}
 use lib.Dec.{eqb}
-use lib.ListN.{length, length-set}
+use lib.ListN.{length-set}
 use borrow.Author.Tests.{eqb-true, eqb-false}
 use Rattle.bus.specs.Window.{in_window, place_of}
 use Rattle.regs.specs.declared.Mode.{Mode}

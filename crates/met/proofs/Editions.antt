@@ -23,7 +23,6 @@ use Rattle.image.proofs.Answers.{keeps, good_length, good-fields, good-keeps, re
 use Rattle.image.proofs.Moved.{Known, first, second, known, number-kept}
 use Rattle.image.proofs.Editions.{edition-first, edition-second, told-first, told-second, none-held, held-second, broken-second, moved-as-it-is, done, forward-bytes, forward-read, forward-tail, back-length, back_fields, back-kept}
 use Rattle.machine.specs.declared.Core.{Core}
-use Rattle.machine.specs.declared.Slot.{Slot}
 use Rattle.machine.specs.declared.Slot.TheVariants.{Empty, Ahead}
 use Rattle.machine.specs.declared.Machine.{Machine}
 use Rattle.machine.specs.declared.LoadedMachine.TheVariants.{Good}

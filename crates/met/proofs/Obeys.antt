@@ -1,6 +1,6 @@
 -- How long until the core obeys: with RUN clear every step pays one of those that the phase owes.
 -- Assumes nothing.
-use Prim.Native.Nat.{ℕ, zero, suc, ◌+◌, ◌-◌, ◌/◌, ◌%◌, ◌^◌, ◌≤◌, ◌<◌}
+use Prim.Native.Nat.{ℕ, zero, suc, ◌+◌, ◌-◌, ◌/◌, ◌%◌, ◌≤◌, ◌<◌}
 use mathlib.Core.Path.{◌≡◌, refl, sym, ap, subst, ◌∙◌}
 use mathlib.Core.Bool.{Bool, true, false, cond, not, ◌&&◌, ◌||◌, true≢false}
 use mathlib.Core.List.{List, [], ◌∷◌, ◌++◌}
@@ -235,6 +235,8 @@ obeyed-there w (Move k) r h u (no_room e i) =
     let some : whole w.core k - k.moved ≤ w.room = subst (λ (o : Mode). supplied_move o w k) e u.0 in
     absurd (omega (arith, some, h.2.less, i))
 obeyed-there w (WriteBack k) r h u (no_record i) = absurd (omega (arith, u, i))
+obeyed-there w (Move k) r h u (obeyed o) = elim o [ ]
+obeyed-there w (WriteBack k) r h u (obeyed o) = elim o [ ]
 
 pub obeys : Obeys
 obeys n w s c u h =

@@ -7,7 +7,6 @@ use mathlib.Core.Bool.{Bool, true, false, not, cond, ◌&&◌}
 use mathlib.Core.List.{List, [], ◌∷◌}
 use native.Mathlib.Omega.{arith}
 use lib.Dec.{eqb}
-use Rattle.bus.specs.declared.Window.{Window}
 use Rattle.bus.specs.Window.{in_window}
 use Rattle.descriptor.specs.declared.Descriptor.{Descriptor}
 use Rattle.descriptor.specs.declared.Look.{Look}
@@ -27,7 +26,6 @@ use Rattle.machine.specs.State.{phase_number, home, settled}
 use Rattle.machine.specs.Step.{World, Answer, home_bytes, taken, stopped, wants_length, rest_step, fetched, seen_in, seen, meets, fetch_step, source_of, destination_of, onward, copy_step, send_to, send_step, receive_from, move_step, completed, back_to, write_back_step, settle, step_in, step}
 use Rattle.met.specs.Reading.{over, ReadsSame, Alike, both, neither, ToFetch, there, moves, marks}
 use Rattle.met.specs.Theorems.{ReadInFetchAlone, UsedAsRead}
-use Rattle.met.proofs.Kept.{on}
 use Rattle.met.proofs.Fetches.{rests_at, ends_at, empty_at, begins_at}
 
 choice : (b : Bool) {x y u v : Answer} → Alike x u → Alike y v → Alike (cond b x y) (cond b u v)

@@ -2,7 +2,7 @@
 -- never more than 65,536. The theorems are `owes-at-most`, `owes-steps`, `stands-then`, `obeys`, `runs-obey`, `cleared-by-write`,
 -- `obeys-in-run` and `bound-is-met`.
 -- Assumes nothing.
-use Rattle.std.specs.Prelude.{ℕ, ◌+◌, ◌-◌, ◌≤◌, ◌≡◌, true, false, List, [], length, replicate}
+use Rattle.std.specs.Prelude.{ℕ, ◌+◌, ◌-◌, ◌≤◌, ◌≡◌, true, false, [], length, replicate}
 use Rattle.words.specs.Slices.{AllBytes}
 use Rattle.regs.specs.declared.Mode.{Mode}
 use Rattle.regs.specs.declared.Mode.TheVariants.{MemoryToMemory, MemoryToStream, StreamToMemory}

@@ -1,7 +1,8 @@
 // Makes the paper's eleven known runs through the C calls and prints a line for each: the reason, the steps, the beats taken, the
-// status, the pointer, the descriptor's last four bytes, the fault, and the beats made.
+// status, the pointer, the descriptor's last four bytes, the fault, and the beats made. It ends with the error of a write that failed.
 #![tactic(auto)]
-use libc::STDOUT_FILENO;
+
+use std::io;
 
 // What differs from run to run. The descriptor stands at 4096 of a window of 256 bytes at 4096, and two bytes are held at 4224.
 #[derive(Clone, Copy)]
@@ -42,18 +43,16 @@ const EIGHT: [u8; 16] = [
     0, 0x11, 0, 0x22, 0, 0x33, 0, 0x44, 0, 0x11, 0, 0x22, 0, 0x33, 0, 0x44,
 ];
 
-fn say(text: &[u8]) {
-    io::write_all(STDOUT_FILENO, text);
+fn say(rt: &impl Print, text: &str) -> io::Result<()> {
+    print!(rt; "{text}")
 }
 
-fn number(name: &[u8], n: u64) {
-    say(name);
-    io::print_decimal(STDOUT_FILENO, n);
+fn number(rt: &impl Print, name: &str, n: u64) -> io::Result<()> {
+    print!(rt; "{name}{n}")
 }
 
-fn hex(name: &[u8], n: u64) {
-    say(name);
-    io::print_hex(STDOUT_FILENO, n, 8);
+fn hex(rt: &impl Print, name: &str, n: u64) -> io::Result<()> {
+    print!(rt; "{name}{n:08x}")
 }
 
 fn wide(x: u8) -> u64 {
@@ -76,22 +75,22 @@ fn register(image: &[u8], offset: u32) -> u64 {
 }
 
 // What is found after a run. The fault's code and address stand in the image.
-fn told(image: &[u8], window: &[u8], out: &[u8], report: &[u8]) {
-    number(b" reason ", byte(report, 1));
-    number(b" steps ", word(report, 2));
-    number(b" taken ", word(report, 6));
-    number(b" made ", word(report, 10));
-    number(b" status ", register(image, 0));
-    number(b" pointer ", register(image, 8));
-    number(b" fault ", byte(image, 1) % 32);
-    number(b" at ", word(image, 40));
-    hex(b" last ", word(window, 28));
-    hex(b" out ", word(out, 0));
-    say(b"\n");
+fn told(rt: &impl Print, image: &[u8], window: &[u8], out: &[u8], report: &[u8]) -> io::Result<()> {
+    number(rt, " reason ", byte(report, 1))?;
+    number(rt, " steps ", word(report, 2))?;
+    number(rt, " taken ", word(report, 6))?;
+    number(rt, " made ", word(report, 10))?;
+    number(rt, " status ", register(image, 0))?;
+    number(rt, " pointer ", register(image, 8))?;
+    number(rt, " fault ", byte(image, 1) % 32)?;
+    number(rt, " at ", word(image, 40))?;
+    hex(rt, " last ", word(window, 28))?;
+    hex(rt, " out ", word(out, 0))?;
+    say(rt, "\n")
 }
 
 // One run, over a fresh core, with room for two beats.
-fn made(name: &[u8], row: Row, beats: &[u8]) {
+fn made(rt: &impl Print, name: &str, row: Row, beats: &[u8]) -> io::Result<()> {
     let mut image = [0u8; 85];
     let mut window = [0u8; 256];
     let mut out = [0u8; 4];
@@ -122,42 +121,44 @@ fn made(name: &[u8], row: Row, beats: &[u8]) {
         row.budget,
         &mut report,
     );
-    say(name);
-    told(&image, &window, &out, &report);
+    say(rt, name)?;
+    told(rt, &image, &window, &out, &report)
 }
 
 // Runs whose pointer or descriptor is at fault, or just not.
-fn placed() {
+fn placed(rt: &impl Print) -> io::Result<()> {
     let destination = 4350;
     made(
-        b"7.",
+        rt,
+        "7.",
         Row {
             destination,
             ..FIRST
         },
         &FOUR,
-    );
+    )?;
     let pointer = 4098;
-    made(b"8. 4098", Row { pointer, ..FIRST }, &FOUR);
+    made(rt, "8. 4098", Row { pointer, ..FIRST }, &FOUR)?;
     let pointer = 4324;
-    made(b"8. 4324", Row { pointer, ..FIRST }, &FOUR);
+    made(rt, "8. 4324", Row { pointer, ..FIRST }, &FOUR)?;
     let pointer = 4320;
-    made(b"8. 4320", Row { pointer, ..FIRST }, &FOUR);
+    made(rt, "8. 4320", Row { pointer, ..FIRST }, &FOUR)
 }
 
 // Runs in the modes that read memory.
-fn reading() {
+fn reading(rt: &impl Print) -> io::Result<()> {
     let mode = 0;
     let length = 0;
     made(
-        b"9.",
+        rt,
+        "9.",
         Row {
             mode,
             length,
             ..FIRST
         },
         &FOUR,
-    );
+    )?;
     let sent = Row {
         mode: 1,
         source: 4224,
@@ -167,38 +168,40 @@ fn reading() {
         also: 0xBB,
         ..FIRST
     };
-    made(b"10. length 2", sent, &FOUR);
+    made(rt, "10. length 2", sent, &FOUR)?;
     let length = 1;
-    made(b"10. length 1", Row { length, ..sent }, &FOUR);
+    made(rt, "10. length 1", Row { length, ..sent }, &FOUR)
 }
 
-fn main() {
-    made(b"1.", FIRST, &FOUR);
-    made(b"2.", FIRST, &[0, 0x11, 1, 0x22, 0, 0x33, 0, 0x44]);
+fn main(rt: HostRuntime) -> io::Result<()> {
+    made(&rt, "1.", FIRST, &FOUR)?;
+    made(&rt, "2.", FIRST, &[0, 0x11, 1, 0x22, 0, 0x33, 0, 0x44])?;
     let pointer = 4128;
-    made(b"3.", Row { pointer, ..FIRST }, &FOUR);
-    made(b"4.", FIRST, &[0, 0x11, 0, 0x22, 0, 0x33]);
+    made(&rt, "3.", Row { pointer, ..FIRST }, &FOUR)?;
+    made(&rt, "4.", FIRST, &[0, 0x11, 0, 0x22, 0, 0x33])?;
     let control = 0x60;
     made(
-        b"5.",
+        &rt,
+        "5.",
         Row { control, ..FIRST },
         &[0, 0x11, 0, 0x22, 6, 0x33, 0, 0x44],
-    );
+    )?;
     let control = 0x2_0020;
     let next = 4096;
     made(
-        b"6.",
+        &rt,
+        "6.",
         Row {
             control,
             next,
             ..FIRST
         },
         &EIGHT,
-    );
-    placed();
-    reading();
+    )?;
+    placed(&rt)?;
+    reading(&rt)?;
     let budget = 8;
-    made(b"11. budget 8", Row { budget, ..FIRST }, &FOUR);
+    made(&rt, "11. budget 8", Row { budget, ..FIRST }, &FOUR)?;
     let budget = 7;
-    made(b"11. budget 7", Row { budget, ..FIRST }, &FOUR);
+    made(&rt, "11. budget 7", Row { budget, ..FIRST }, &FOUR)
 }

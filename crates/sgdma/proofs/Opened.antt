@@ -1,27 +1,21 @@
 -- The sizes of what is lent, and the registers of an image that loads.
 -- Assumes nothing.
 use Prim.Native.Nat.{ℕ}
-use mathlib.Core.Path.{◌≡◌, sym, ap, ◌∙◌}
-use mathlib.Core.Bool.{Bool, true, false, cond, ◌&&◌}
+use mathlib.Core.Path.{◌≡◌, sym, ◌∙◌}
+use mathlib.Core.Bool.{Bool, true, cond, ◌&&◌}
 use mathlib.Core.List.{List}
-use native.Mathlib.Omega.{arith}
 use lib.ListN.{length}
 use borrow.Author.Tests.{eq-eqb, ne_eqb}
 use Rattle.words.specs.Promise.{Gives}
 use Rattle.regs.specs.declared.ReadRegister.{ReadRegister}
 use Rattle.regs.specs.Control.{line_up}
 use Rattle.regs.specs.Offsets.{register_at}
-use Rattle.image.specs.declared.Fields.{Fields}
-use Rattle.image.specs.declared.ReadImage.TheVariants as read
-use Rattle.image.specs.Layout.{fields}
-use Rattle.image.specs.Rules.{keeps_rules}
 use Rattle.image.specs.Promise.{sized}
-use Rattle.image.specs.Promise as image
 use Rattle.machine.specs.declared.Machine.{Machine}
-use Rattle.machine.specs.declared.LoadedMachine.TheVariants.{Good, Refused}
+use Rattle.machine.specs.declared.LoadedMachine.TheVariants.{Good}
 use Rattle.machine.specs.declared.registers.WroteRegister.{WroteRegister}
 use Rattle.machine.specs.declared.registers.Line.TheVariants as line
-use Rattle.machine.specs.Saved.{keeps, loaded_as, load_of}
+use Rattle.machine.specs.Saved.{keeps, load_of}
 use Rattle.machine.specs.Registers.{reading_of, wrote_to, line_of, RegisterWasRead, WasWritten}
 use Rattle.machine.proofs.Answers.{was-loaded, was-register, was-written}
 use Rattle.machine.proofs.Writes.{write_kept}

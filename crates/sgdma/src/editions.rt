@@ -4,8 +4,7 @@ ghost use Rattle.image.specs.Editions.{ImageMoved};
 use image::moves;
 
 // Moves the image `from` to the edition that the size of `to` tells.
-#[unsafe(no_mangle)]
-pub extern "C" fn sgdma_move_image(from: &[u8], to: &mut [u8]) -> u32
+pub fn sgdma_move_image(from: &[u8], to: &mut [u8]) -> u32
     ensures { ImageMoved from.now to.old result to.new }
 {
     moves::move_image(from, to)

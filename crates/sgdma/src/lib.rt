@@ -1,6 +1,6 @@
-// The calls of the C host. A slice passes as pointer and length; each call returns 0, or the number of its refusal, and then has
-// changed nothing.
+// The calls of the C host, which crate sgdma_c gives to C. Each returns 0, or the number of its refusal, and then has changed nothing.
 #![tactic(auto)]
+
 pub mod chains;
 pub mod controller;
 pub mod editions;
@@ -37,8 +37,7 @@ fn put_image(m: Machine, image: &mut [u8])
 }
 
 // Makes the image of a fresh core.
-#[unsafe(no_mangle)]
-pub extern "C" fn sgdma_create(image: &mut [u8], mode: u32, base: u64, length: u64) -> u32
+pub fn sgdma_create(image: &mut [u8], mode: u32, base: u64, length: u64) -> u32
     ensures { Created image.old mode base length result image.new }
 {
     if image.len() != IMAGE {
@@ -55,8 +54,7 @@ pub extern "C" fn sgdma_create(image: &mut [u8], mode: u32, base: u64, length: u
 }
 
 // Writes the register at `offset`.
-#[unsafe(no_mangle)]
-pub extern "C" fn sgdma_write_register(image: &mut [u8], offset: u32, value: u32) -> u32
+pub fn sgdma_write_register(image: &mut [u8], offset: u32, value: u32) -> u32
     ensures { RegisterWritten image.old offset value result image.new }
 {
     if image.len() != IMAGE {
@@ -77,8 +75,7 @@ pub extern "C" fn sgdma_write_register(image: &mut [u8], offset: u32, value: u32
 }
 
 // Reads the register at `offset` into the four bytes of `value`.
-#[unsafe(no_mangle)]
-pub extern "C" fn sgdma_read_register(image: &[u8], offset: u32, value: &mut [u8]) -> u32
+pub fn sgdma_read_register(image: &[u8], offset: u32, value: &mut [u8]) -> u32
     ensures { RegisterRead image.now offset value.old result value.new }
 {
     if image.len() != IMAGE {
@@ -102,8 +99,7 @@ pub extern "C" fn sgdma_read_register(image: &[u8], offset: u32, value: &mut [u8
 }
 
 // Writes 1 into the four bytes of `value` where the interrupt line is up, else 0.
-#[unsafe(no_mangle)]
-pub extern "C" fn sgdma_line(image: &[u8], value: &mut [u8]) -> u32
+pub fn sgdma_line(image: &[u8], value: &mut [u8]) -> u32
     ensures { LineRead image.now value.old result value.new }
 {
     if image.len() != IMAGE {
@@ -146,8 +142,7 @@ fn put_run(r: Ran, image: &mut [u8], report: &mut [u8])
 
 // Runs the core over the lent window, beats, output and ledger, of which `used` records are used, and writes its image and the 18
 // bytes of `report`.
-#[unsafe(no_mangle)]
-pub extern "C" fn sgdma_run(
+pub fn sgdma_run(
     image: &mut [u8],
     window: &mut [u8],
     beats: &[u8],
@@ -182,8 +177,7 @@ pub extern "C" fn sgdma_run(
 }
 
 // Builds a descriptor in the lent window that stands at `base`.
-#[unsafe(no_mangle)]
-pub extern "C" fn sgdma_build_descriptor(
+pub fn sgdma_build_descriptor(
     window: &mut [u8],
     base: u64,
     address: u32,
@@ -212,13 +206,7 @@ pub extern "C" fn sgdma_build_descriptor(
 }
 
 // Reads a descriptor of the lent window that stands at `base` into the 18 bytes of `answer`.
-#[unsafe(no_mangle)]
-pub extern "C" fn sgdma_read_descriptor(
-    window: &[u8],
-    base: u64,
-    address: u32,
-    answer: &mut [u8],
-) -> u32
+pub fn sgdma_read_descriptor(window: &[u8], base: u64, address: u32, answer: &mut [u8]) -> u32
     ensures { DescriptorRead window.now base address answer.old result answer.new }
 {
     if answer.len() != DESCRIPTOR {
@@ -235,14 +223,7 @@ pub extern "C" fn sgdma_read_descriptor(
 }
 
 // Tells in the 4 bytes of `answer` whether the descriptor at `address` was written back in this run, and its latest byte count there.
-#[unsafe(no_mangle)]
-pub extern "C" fn sgdma_find_record(
-    ledger: &[u8],
-    used: u32,
-    run: u32,
-    address: u32,
-    answer: &mut [u8],
-) -> u32
+pub fn sgdma_find_record(ledger: &[u8], used: u32, run: u32, address: u32, answer: &mut [u8]) -> u32
     ensures { RecordFound ledger.now used run address answer.old result answer.new }
 {
     if answer.len() != FINDING {

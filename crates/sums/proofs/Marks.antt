@@ -2,7 +2,6 @@
 -- Assumes nothing.
 use Prim.Native.Nat.{ℕ, zero, suc, ◌+◌, ◌*◌}
 use mathlib.Core.Path.{◌≡◌, refl, sym, ap, subst, ◌∙◌}
-use mathlib.Core.Logic.{◌≢◌}
 use mathlib.Core.Bool.{Bool, true, false, cond}
 use mathlib.Core.List.{List, [], ◌∷◌, ◌++◌, append_assoc, append-nil}
 use native.Mathlib.Omega.{arith}
@@ -19,12 +18,12 @@ use Rattle.machine.specs.declared.Ran.{Ran}
 use Rattle.machine.specs.declared.Reason.{Reason}
 use Rattle.machine.specs.declared.Phase.{Phase}
 use Rattle.machine.specs.declared.Phase.TheVariants.{Rest, Fetch, Move, WriteBack, Ended, Halted, Faulted}
-use Rattle.machine.specs.Step.{World, Answer, taken, stopped, settle, entry_for, rest_step, fetch_step, source_of, destination_of, copy_step, send_to, send_step, receive_from, move_step, written_back, back_to, write_back_step, step_in, step}
+use Rattle.machine.specs.Step.{World, Answer, taken, stopped, settle, entry_for, rest_step, source_of, destination_of, copy_step, send_to, send_step, receive_from, move_step, written_back, back_to, write_back_step, step_in, step}
 use Rattle.machine.specs.Run as runs
 use Rattle.machine.specs.Run.{Returned, Served, served_of, world_of, returned}
 use Rattle.machine.proofs.StepLaws.{fetch-turns, step-passed}
 use Rattle.machine.proofs.Outcomes.{ran-serves}
-use Rattle.sums.specs.Records.{Recorded, Records, none, one, other, OneEach}
+use Rattle.sums.specs.Records.{Recorded, Records, none, one, other}
 use Rattle.sums.specs.Theorems.{OneRecordEach}
 
 -- ---- a step

@@ -28,7 +28,7 @@ use Rattle.machine.specs.Saved.{in_hand, keeps}
 use Rattle.machine.specs.State.{with_pointer, fresh_core}
 use Rattle.machine.specs.Registers.{status_written, control_stored, released, control_written, core_written, write_of}
 use Rattle.machine.specs.Step.{World, machine_in}
-use Rattle.machine.specs.Run.{Lent, Returned, Served, serves, refused, served_of, world_of, taken_since, run, returned, ran_as, run_answer, HasRun}
+use Rattle.machine.specs.Run.{Lent, Returned, Served, serves, served_of, world_of, taken_since, run, returned, ran_as, HasRun}
 use Rattle.machine.proofs.Outcomes.{serves-good, ran-serves}
 use Rattle.machine.proofs.RunLaws.{run-tells}
 use Rattle.sums.specs.Sum.{held, abandoned, lost_in, Session, begins, written, ran, Adds}

@@ -1,7 +1,7 @@
 -- Order 6: what becomes of the beats that are taken in mode 2. Over runs from a fresh machine, the ledger empty at first and each
 -- number handed on, its bytes sum to the beats taken less those of descriptors not written back. The theorem is `session-adds`.
 -- Assumes nothing.
-use Rattle.std.specs.Prelude.{ℕ, zero, suc, ◌+◌, ◌-◌, ◌≡◌, cond, ◌&&◌, List, [], ◌∷◌, ◌++◌, eqb, length}
+use Rattle.std.specs.Prelude.{ℕ, zero, suc, ◌+◌, ◌≡◌, cond, ◌&&◌, List, [], ◌∷◌, ◌++◌, eqb, length}
 use Rattle.words.specs.Slices.{put}
 use Rattle.bus.specs.declared.Window.{Window}
 use Rattle.regs.specs.declared.Mode.TheVariants.{StreamToMemory}

@@ -1,9 +1,8 @@
 -- What the six calls promise over the 14 bytes: the number and every lent byte after the call. 0 is done; refused, nothing changes.
 -- Assumes nothing.
-use Rattle.std.specs.Prelude.{◌≡◌, ℕ, Bool, not, ◌&&◌, List, length, ◌==◌}
+use Rattle.std.specs.Prelude.{◌≡◌, ℕ, Bool, not, ◌&&◌, List, length, ◌==◌, if◌then◌else◌}
 use Rattle.words.specs.declared.Order.TheVariants.{MostFirst}
 use Rattle.words.specs.Bits.{flag}
-use Rattle.words.specs.Guards.{if◌then◌else◌}
 use Rattle.words.specs.Orders.{bytes_of}
 use Rattle.words.specs.Promise.{Answers, answers-unique}
 use Rattle.bus.specs.declared.Refusal.TheVariants.{BadSize, BadImage, NoTimerRegister, NotFullPeriod}

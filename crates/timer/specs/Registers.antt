@@ -1,9 +1,8 @@
 -- The six registers, of 16 bits each; the interrupt line; the time between two snapshots.
 -- Assumes nothing.
-use Rattle.std.specs.Prelude.{◌≡◌, ℕ, ◌+◌, ◌-◌, ◌*◌, ◌/◌, ◌%◌, ◌^◌, Bool, false, cond, not, ◌&&◌, ◌||◌, List, [], ◌∷◌, ◌==◌, nat_le, slice_index, slice_index_or}
+use Rattle.std.specs.Prelude.{◌≡◌, ℕ, ◌+◌, ◌-◌, ◌*◌, ◌/◌, ◌%◌, ◌^◌, Bool, false, cond, not, ◌&&◌, ◌||◌, List, [], ◌∷◌, ◌==◌, nat_le, slice_index, slice_index_or, if◌then◌else◌}
 use Rattle.std.proofs.Common.{sym, ◌∙◌}
 use Rattle.words.specs.Bits.{bit, flag}
-use Rattle.words.specs.Guards.{if◌then◌else◌}
 use Rattle.bus.specs.declared.Refusal.TheVariants.{NoTimerRegister, NotFullPeriod}
 use Rattle.bus.specs.Refusal.{refusal_number}
 use Rattle.timer.specs.declared.Timer.{Timer}

@@ -1,9 +1,8 @@
 -- The timer's 14 bytes: the fields side by side in this order, bits most significant first; their rules; reading and writing them.
 -- Assumes nothing.
-use Rattle.std.specs.Prelude.{◌≡◌, ℕ, ◌+◌, ◌*◌, ◌^◌, ◌<◌, Bool, true, cond, ◌&&◌, List, [], ◌∷◌, map, length, ◌==◌, nat_eq, nat_le, slice_index, slice_index_or}
+use Rattle.std.specs.Prelude.{◌≡◌, ℕ, ◌+◌, ◌*◌, ◌^◌, ◌<◌, Bool, true, cond, ◌&&◌, List, [], ◌∷◌, map, length, ◌==◌, nat_eq, nat_le, slice_index, slice_index_or, if◌then◌else◌}
 use Rattle.std.proofs.Common.{sym, ◌∙◌}
 use Rattle.words.specs.Bits.{flag}
-use Rattle.words.specs.Guards.{if◌then◌else◌}
 use Rattle.words.specs.Numbers.{recode, bytes}
 use Rattle.words.specs.Fields.{Field, ◌bits◌, first_false}
 use Rattle.bus.specs.declared.Refusal.TheVariants.{BadSize, BadImage}

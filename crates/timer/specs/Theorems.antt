@@ -1,7 +1,6 @@
 -- What is proved of the timer: each theorem's whole statement, under its name. A term of each stands in proofs/.
 -- Assumes nothing.
-use Rattle.std.specs.Prelude.{◌≡◌, ℕ, zero, suc, ◌+◌, ◌*◌, ◌%◌, ◌^◌, ◌<◌, ◌≤◌, Bool, true, false, ◌||◌, ◌≢◌, List, length, ◌==◌}
-use Rattle.words.specs.Guards.{if◌then◌else◌}
+use Rattle.std.specs.Prelude.{◌≡◌, ℕ, zero, suc, ◌+◌, ◌*◌, ◌%◌, ◌^◌, ◌<◌, ◌≤◌, Bool, true, false, ◌||◌, ◌≢◌, List, length, ◌==◌, if◌then◌else◌}
 use Rattle.words.specs.Slices.{AllBytes}
 use Rattle.timer.specs.declared.Timer.{Timer}
 use Rattle.timer.specs.declared.Between.TheVariants.{Ticks}

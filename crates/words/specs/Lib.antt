@@ -1,4 +1,3 @@
-pub mod Guards
 pub mod Promise
 pub mod Numbers
 pub mod Bits

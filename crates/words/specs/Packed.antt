@@ -1,10 +1,9 @@
 -- Fields of any widths put one behind the other, the first foremost: words of 32 bits, and behind the whole ones the rest, bits that do
 -- not fill a word yet.
 -- Assumes nothing.
-use Rattle.std.specs.Prelude.{ℕ, ◌+◌, ◌*◌, ◌-◌, ◌/◌, ◌%◌, ◌^◌, ◌≤◌, ◌&&◌, List, [], ◌∷◌, ◌++◌, length, take, replicate, set, eqb, leb, ltb}
+use Rattle.std.specs.Prelude.{ℕ, ◌+◌, ◌*◌, ◌-◌, ◌/◌, ◌%◌, ◌^◌, ◌≤◌, ◌&&◌, List, [], ◌∷◌, ◌++◌, length, take, replicate, set, eqb, leb, ltb, if◌then◌else◌}
 use Rattle.words.specs.declared.Order.TheVariants.{MostFirst}
 use Rattle.words.specs.declared.packer.Packer.{Packer}
-use Rattle.words.specs.Guards.{if◌then◌else◌}
 use Rattle.words.specs.Numbers.{split, bytes}
 use Rattle.words.specs.Orders.{word_bytes}
 

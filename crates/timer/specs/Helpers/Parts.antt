@@ -1,7 +1,6 @@
 -- What the private parts of the code meet: ticks at once, and the last half word of the 14 bytes.
 -- Assumes nothing.
-use Rattle.std.specs.Prelude.{ℕ, ◌+◌, ◌-◌, Bool, not, ◌||◌, List, [], ◌∷◌, ◌==◌}
-use Rattle.words.specs.Guards.{if◌then◌else◌}
+use Rattle.std.specs.Prelude.{ℕ, ◌+◌, ◌-◌, Bool, not, ◌||◌, List, [], ◌∷◌, ◌==◌, if◌then◌else◌}
 use Rattle.timer.specs.declared.Timer.{Timer}
 use Rattle.timer.specs.declared.Ran.{Ran}
 use Rattle.timer.specs.Counting.{stand}

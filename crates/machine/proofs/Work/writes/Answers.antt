@@ -1,0 +1,5 @@
+use Rattle.machine.proofs.Bulk.{reaches-as}
+use Rattle.machine.proofs.Work.writes.Goals as goal
+
+pub returns : goal.returns
+returns c = reaches-as c.has.ensures.value c.write_address.ensures c.in_reach.ensures
