@@ -28,7 +28,7 @@ pub fn put_value(value: &mut [u8], v: u32)
     put_u32(Order::MostFirst, value, 0, v);
 }
 
-// The 18 bytes of a run's report.
+// The 18 bytes of a run's report. The reason is its number: crate machine, which has the enum, stands above.
 pub fn put_report(report: &mut [u8], reason: u16, steps: u32, taken: u32, made: u32, used: u32)
     ensures { Leaves (answer_put (report_bytes reason steps taken made used) report.old) report.new }
 {
@@ -54,7 +54,8 @@ pub fn put_descriptor(answer: &mut [u8], d: Descriptor)
     put_u16(Order::MostFirst, answer, 16, last);
 }
 
-// The 4 bytes of what the ledger tells of a descriptor: whether it was found, and its latest byte count.
+// The 4 bytes of what the ledger tells of a descriptor: whether it was found, and its latest byte count. A flag beside the count, and no
+// `Option`: what is promised (`finding_bytes`) is told of a count that was not found too.
 pub fn put_finding(answer: &mut [u8], found: bool, count: u16)
     ensures { Leaves (answer_put (finding_bytes found count) answer.old) answer.new }
 {

@@ -3,11 +3,11 @@
 #![tactic(auto)]
 
 ghost use Rattle.words.specs.Promise.{Gives};
-ghost use Rattle.bus.specs.Refusal.{refusal_number};
+ghost use Rattle.bus.specs.Refusal.{refusal_number, answer_number};
 ghost use Rattle.bus.specs.Window.{in_window, Checked, Sought};
 
 // Why a call is refused, in the order of the paper's table. BadImage carries the lowest field that breaks a rule, counted from 1.
-#[derive(Clone, Copy)]
+#[derive(Clone, Copy, Debug, PartialEq, Eq)]
 pub enum Refusal {
     NoRegister,
     BadMode,
@@ -28,12 +28,12 @@ pub enum Refusal {
     NothingToKeep,
 }
 
-impl Refusal {
-    // The paper's number; 8 carries its field.
-    pub fn number(self) -> u32
-        ensures { Gives (refusal_number self) result }
-    {
-        match self {
+// The paper's number; 8 carries its field.
+impl From<Refusal> for u32 {
+    ghost from_gives = { λ why n. Gives (refusal_number why) n };
+
+    fn from(why: Refusal) -> u32 {
+        match why {
             Refusal::NoRegister => 1,
             Refusal::BadMode => 2,
             Refusal::BadWindow => 3,
@@ -55,6 +55,16 @@ impl Refusal {
     }
 }
 
+// What a C call returns for an answer: 0 where it is done, else the number of its refusal.
+pub fn number_of<T: Drop>(answer: Result<T, Refusal>) -> u32
+    ensures { Gives (answer_number answer) result }
+{
+    match answer {
+        Ok(_) => 0,
+        Err(why) => why.into(),
+    }
+}
+
 // An address on the bus, or a sum of addresses: wide enough that a sum never wraps.
 #[derive(Clone, Copy)]
 pub struct BusAddress(pub u64);
@@ -72,26 +82,12 @@ impl Place {
     }
 }
 
-// Where bytes lie in the window.
-#[derive(Clone, Copy)]
-pub enum Located {
-    At(Place),
-    Outside,
-}
-
 // The lent bytes' place on the bus: `length` of them, the first at `base`. Both are private, so that nothing but the check of the
 // limits makes one.
 #[derive(Clone, Copy)]
 pub struct Window {
     base: u32,
     length: u32,
-}
-
-// A window within the limits, or BadWindow.
-#[derive(Clone, Copy)]
-pub enum CheckedWindow {
-    Good(Window),
-    Refused(Refusal),
 }
 
 // Whether `n` bytes at an address lie among `length` bytes at `base`. No sum of addresses is taken, so none can wrap.
@@ -118,20 +114,20 @@ impl Window {
     // How many addresses the bus has.
     pub const ADDRESSES: u64 = 4_294_967_296;
 
-    // The window of `length` bytes at `base`, where both keep the limits.
-    pub fn checked(base: u64, length: u64) -> CheckedWindow
+    // The window of `length` bytes at `base`, where both keep the limits; else BadWindow.
+    pub fn checked(base: u64, length: u64) -> Result<Window, Refusal>
         ensures { Checked base length result }
     {
         if Window::LONGEST < length {
-            return CheckedWindow::Refused(Refusal::BadWindow);
+            return Err(Refusal::BadWindow);
         }
         if Window::ADDRESSES <= base {
-            return CheckedWindow::Refused(Refusal::BadWindow);
+            return Err(Refusal::BadWindow);
         }
         if Window::ADDRESSES - length < base {
-            return CheckedWindow::Refused(Refusal::BadWindow);
+            return Err(Refusal::BadWindow);
         }
-        CheckedWindow::Good(Window {
+        Ok(Window {
             base: base as u32,
             length: length as u32,
         })
@@ -151,16 +147,16 @@ impl Window {
         self.length
     }
 
-    // Where `n` bytes at an address lie.
-    pub fn locate(self, address: BusAddress, n: u64) -> Located
+    // Where `n` bytes at an address lie, if they are in the window.
+    pub fn locate(self, address: BusAddress, n: u64) -> Option<Place>
         ensures { Sought self address.0 n result }
     {
         if !lies_in(self.base, self.length, address, n) {
-            return Located::Outside;
+            return None;
         }
         let base = self.base as u64;
         let a = address.0;
         let offset = a - base;
-        Located::At(Place(offset as usize))
+        Some(Place(offset as usize))
     }
 }

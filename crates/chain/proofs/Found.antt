@@ -1,6 +1,6 @@
 -- After the run each of the chain's descriptors is found in the ledger.
 -- Assumes nothing.
-use Rattle.std.specs.Prelude.{if◌then◌else◌}
+use Rattle.std.specs.Prelude.{if◌then◌else◌, Option, Some, None, Ok}
 use Prim.Native.Nat.{ℕ, zero, suc, ◌+◌, ◌*◌, ◌/◌, ◌%◌, ◌^◌, ◌≤◌, ◌<◌}
 use mathlib.Core.Path.{◌≡◌, refl, sym, ap, subst, subst⁻¹, ◌∙◌}
 use mathlib.Core.Logic.{◌≢◌}
@@ -20,8 +20,6 @@ use Rattle.regs.specs.declared.Mode.TheVariants.{MemoryToMemory, MemoryToStream,
 use Rattle.flow.specs.Beats.{beat_error, beat_eop, beats_in}
 use Rattle.flow.specs.Rows.{gathered}
 use Rattle.ledger.specs.declared.Entry.{Entry}
-use Rattle.ledger.specs.declared.Finding.{Finding}
-use Rattle.ledger.specs.declared.Finding.TheVariants.{Found, NotFound}
 use Rattle.ledger.specs.Records.{ledger_bytes, is_ledger}
 use Rattle.ledger.specs.Finding.{entries_in, is_of, latest, finding_in}
 use Rattle.ledger.specs.Theorems.{AllFit}
@@ -91,13 +89,13 @@ records-fit (s ∷ ss) c e p = ((omega arith, p.0, c.0, omega (arith, e.0)), rec
 
 module _ (address : ℕ) where
   -- records of other descriptors leave what was found before them
-  latest-none : (before : Finding) (ss : List Share) → All (λ l. l.at ≢ address) (links_of ss) → latest 1 address before (records_of 1 ss) ≡ before
+  latest-none : (before : Option ℕ) (ss : List Share) → All (λ l. l.at ≢ address) (links_of ss) → latest 1 address before (records_of 1 ss) ≡ before
   latest-none before [] a = refl
   latest-none before (s ∷ ss) a = rw (latest, ne_eqb s.link.at address a.0) (latest-none before ss a.1)
 
-  latest-append : (before : Finding) (es fs : List Entry) → latest 1 address before (es ++ fs) ≡ latest 1 address (latest 1 address before es) fs
+  latest-append : (before : Option ℕ) (es fs : List Entry) → latest 1 address before (es ++ fs) ≡ latest 1 address (latest 1 address before es) fs
   latest-append before [] fs = refl
-  latest-append before (e ∷ es) fs = latest-append (if is_of 1 address e then Found e.actual else before) es fs
+  latest-append before (e ∷ es) fs = latest-append (if is_of 1 address e then Some e.actual else before) es fs
 
 both : (x y : Bool) → x ≡ true → y ≡ true → (x && y) ≡ true
 both x y p q = rw (p, q)
@@ -109,13 +107,13 @@ pairs-left (l ∷ ls) ms a = (all_left (Apart l) ls ms a.0, pairs-left ls ms a.1
 apart-others : (l m : Link) → Apart l m → m.at ≢ l.at
 apart-others l m h e = h 0 (omega arith) 0 (omega arith) (omega (arith, e))
 
-latest-each : (before : (address : ℕ) → Finding) (ss : List Share) → Pairwise Apart (links_of ss)
-    → All (λ s. latest 1 s.link.at (before s.link.at) (records_of 1 ss) ≡ Found s.count) ss
+latest-each : (before : (address : ℕ) → Option ℕ) (ss : List Share) → Pairwise Apart (links_of ss)
+    → All (λ s. latest 1 s.link.at (before s.link.at) (records_of 1 ss) ≡ Some s.count) ss
 latest-each before [] a = tt
 latest-each before (s ∷ ss) a =
     let l = s.link in (
-      rw (latest, eq-eqb l.at l.at refl) (latest-none l.at (Found s.count) ss (all_map (λ m h. apart-others l m h) (links_of ss) a.0)),
-      latest-each (λ (address : ℕ). if is_of 1 address (record_of 1 s) then Found s.count else before address) ss a.1,
+      rw (latest, eq-eqb l.at l.at refl) (latest-none l.at (Some s.count) ss (all_map (λ m h. apart-others l m h) (links_of ss) a.0)),
+      latest-each (λ (address : ℕ). if is_of 1 address (record_of 1 s) then Some s.count else before address) ss a.1,
     )
 
 -- ---- in a ledger that has them behind those used
@@ -141,7 +139,7 @@ module _ (mode : Mode) (window : Window) (pointer control : ℕ) (l : Lent) (k :
         arith,
         h.ledger,
         (capacity-le (length l.ledger)).0,
-        records-within l.ledger l.used (record { value = refl }) whole,
+        records-within l.ledger l.used whole,
         k-records,
       )
 
@@ -169,17 +167,17 @@ module _ (mode : Mode) (window : Window) (pointer control : ℕ) (l : Lent) (k :
 
   module _ {after : List ℕ} (e : after ≡ left) where
     found_in : (address : ℕ) → finding_in after (l.used + k) 1 address
-        ≡ latest 1 address (latest 1 address NotFound (entries_in l.ledger l.used)) rs
+        ≡ Ok (latest 1 address (latest 1 address None (entries_in l.ledger l.used)) rs)
     found_in address =
         (λ i. finding_in (e i) (l.used + sym k-records i) 1 address)
-        ∙ asked_of left (l.used + length rs) (record { value = refl }) 1 address still-ledger (λ e. omega arith)
-        ∙ ap (latest 1 address NotFound) (records-back l.ledger l.used rs fit room)
-        ∙ latest-append address NotFound (entries_in l.ledger l.used) rs
+        ∙ asked_of left (l.used + length rs) still-ledger 1 address (λ e. omega arith)
+        ∙ ap (λ (es : List Entry). Ok (latest 1 address None es)) (records-back l.ledger l.used rs fit room)
+        ∙ ap Ok (latest-append address None (entries_in l.ledger l.used) rs)
 
-    pub each_in : All (λ s. finding_in after (l.used + k) 1 s.link.at ≡ Found s.count) ss
+    pub each_in : All (λ s. finding_in after (l.used + k) 1 s.link.at ≡ Ok (Some s.count)) ss
     each_in =
-        all_map (λ s e. found_in s.link.at ∙ e) ss
-        (latest-each (λ (address : ℕ). latest 1 address NotFound (entries_in l.ledger l.used)) ss
+        all_map (λ s e. found_in s.link.at ∙ ap Ok e) ss
+        (latest-each (λ (address : ℕ). latest 1 address None (entries_in l.ledger l.used)) ss
         (subst⁻¹ (Pairwise Apart) (theirs mode g h) (pairs-left (links g) (last g ∷ []) h.form.placed.apart)))
 
 -- Each of the k is found in run 1, with its count.
@@ -190,5 +188,5 @@ each-found-in mode window pointer control l budget r b k c h n beats =
 pub each-found : EachFound
 each-found window pointer control l budget r b k c h n beats =
     let g : Given = given_by window pointer control k l in
-    subst (All (λ (s : Share). finding_in b.ledger (l.used + k) 1 s.link.at ≡ Found s.count)) (same-shares g)
+    subst (All (λ (s : Share). finding_in b.ledger (l.used + k) 1 s.link.at ≡ Ok (Some s.count))) (same-shares g)
     (each-found-in StreamToMemory window pointer control l budget r b k c (premises g h) (same-cost g n) beats)

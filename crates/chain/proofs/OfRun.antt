@@ -1,5 +1,6 @@
 -- The chain theorem of the calls that a user makes, in each mode; and of demand 3.
 -- Assumes nothing.
+use Rattle.std.specs.Prelude.{Result, Ok, None}
 use Prim.Native.Nat.{ℕ, ◌+◌, ◌%◌, ◌^◌, ◌≤◌, ◌<◌}
 use mathlib.Core.Path.{◌≡◌, refl, sym, ap, subst, subst⁻¹, ◌∙◌}
 use mathlib.Core.Bool.{Bool, true, false, cond, beq, and-false}
@@ -22,11 +23,9 @@ use Rattle.image.specs.Rules.{mode_kept, phase_kept, fault_kept, status_kept, si
 use Rattle.image.proofs.EachRule.{each-rule, each_keeps}
 use Rattle.regs.specs.Control.{run_from}
 use Rattle.machine.specs.declared.Core.{Core}
-use Rattle.machine.specs.declared.Slot.TheVariants.{Empty}
+use Rattle.bus.specs.declared.Refusal.{Refusal}
+use Rattle.machine.specs.declared.Ran.{Ran}
 use Rattle.machine.specs.declared.Machine.{Machine}
-use Rattle.machine.specs.declared.registers.WroteRegister.{WroteRegister}
-use Rattle.machine.specs.declared.registers.WroteRegister.TheVariants as wrote
-use Rattle.machine.specs.declared.RunAnswer.{RunAnswer}
 use Rattle.machine.specs.State.{with_pointer, with_control, fresh_core, machine_with, fresh}
 use Rattle.machine.specs.Saved.{fields_of, tail_of, keeps}
 use Rattle.machine.specs.Registers.{control_stored, written_to, write_of, WasWritten}
@@ -60,12 +59,12 @@ by_mode rule a b c StreamToMemory = c
 -- a machine at rest, with nothing in its status, keeps the rules
 module _ (mode : Mode) (window : Window) (h : keeps_limits window.base window.length ≡ true) where
   rest-keeps : (pointer control : ℕ) (pending : Bool) (count number : ℕ) → control < 2 ^ 18 → count ≤ 254
-      → keeps (machine_with (with_control control pending count (with_pointer pointer (fresh_core mode window))) Empty number) ≡ true
+      → keeps (machine_with (with_control control pending count (with_pointer pointer (fresh_core mode window))) None number) ≡ true
   unfolding keeps_rules
   rest-keeps pointer control pending count number l n =
       eq-eqb _ 0
       (each_keeps (fields_of (with_control control pending count (with_pointer pointer (fresh_core mode window))))
-      (tail_of (machine_with (with_control control pending count (with_pointer pointer (fresh_core mode window))) Empty number))
+      (tail_of (machine_with (with_control control pending count (with_pointer pointer (fresh_core mode window))) None number))
       (record {
         edition = refl;
         mode = by_mode mode_kept refl refl refl mode;
@@ -92,13 +91,13 @@ module _ (mode : Mode) (window : Window) (h : keeps_limits window.base window.le
       }))
 
   -- of a fresh machine of a window within its limits neither write is refused
-  pub pointer-done : {r : WroteRegister} (pointer : ℕ) → WasWritten (fresh mode window) 8 pointer r
-      → r ≡ wrote.Done (written_to (fresh mode window) 8 pointer)
+  pub pointer-done : {r : Result Machine Refusal} (pointer : ℕ) → WasWritten (fresh mode window) 8 pointer r
+      → r ≡ Ok (written_to (fresh mode window) 8 pointer)
   unfolding write_of
   pointer-done pointer p = p.answer ∙ rw (rest-keeps 0 0 false 0 0 (omega arith) (omega arith))
 
-  pub control-done : {r : WroteRegister} (pointer control : ℕ) → WasWritten (written_to (fresh mode window) 8 pointer) 4 control r
-      → r ≡ wrote.Done (written_to (written_to (fresh mode window) 8 pointer) 4 control)
+  pub control-done : {r : Result Machine Refusal} (pointer control : ℕ) → WasWritten (written_to (fresh mode window) 8 pointer) 4 control r
+      → r ≡ Ok (written_to (written_to (fresh mode window) 8 pointer) 4 control)
   unfolding write_of
   control-done pointer control p = p.answer ∙ rw (rest-keeps pointer 0 false 0 0 (omega arith) (omega arith))
 
@@ -108,7 +107,7 @@ serve : (m : Machine) (l : Lent) → keeps m ≡ true → even l.beats ≡ true 
 unfolding served_of
 serve m l k e f d n = rw (k, e, f, d, eq-eqb (length l.window) m.core.window.length n)
 
-module _ {mode : Mode} {window : Window} {pointer control : ℕ} {l : Lent} {budget : ℕ} {r : RunAnswer} {b : Returned} (k : ℕ)
+module _ {mode : Mode} {window : Window} {pointer control : ℕ} {l : Lent} {budget : ℕ} {r : Result Ran Refusal} {b : Returned} (k : ℕ)
     (c : CalledIn mode window pointer control l budget r b) (h : PremisesIn mode (given_by window pointer control k l)) where
   abbrev g : Given
   g = given_by window pointer control k l
@@ -124,10 +123,10 @@ module _ {mode : Mode} {window : Window} {pointer control : ℕ} {l : Lent} {bud
       limits-kept (fields_of (fresh_core mode window)) (tail_of (fresh mode window))
       (subst (λ (m : Machine). keeps m ≡ true) c.made.value (was-done c.m0 c.m1 8 pointer refl c.pointed.answer).0)
 
-  m2-stored : c.m2 ≡ machine_with (control_stored control (with_pointer pointer (fresh_core mode window))) Empty (run_from control (record { 0 = 0 }) 0)
+  m2-stored : c.m2 ≡ machine_with (control_stored control (with_pointer pointer (fresh_core mode window))) None (run_from control (record { 0 = 0 }) 0)
   m2-stored =
       m2-is
-      ∙ ap (λ (x : Core). machine_with x Empty (run_from control (record { 0 = 0 }) 0))
+      ∙ ap (λ (x : Core). machine_with x None (run_from control (record { 0 = 0 }) 0))
       (write-runs control (with_pointer pointer (fresh_core mode window)) (and-false (bit 16 control)) h.run_set)
 
   pub served : served_of c.m2 l ≡ serves

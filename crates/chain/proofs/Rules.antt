@@ -1,5 +1,6 @@
 -- The step rule where the chain meets it, phase by phase.
 -- Assumes nothing.
+use Rattle.std.specs.Prelude.{Ok, Some, None}
 use Prim.Native.Nat.{ℕ, zero, suc, ◌+◌, ◌-◌, ◌%◌, ◌<◌}
 use mathlib.Core.Path.{◌≡◌, refl, sym, ap, subst, ◌∙◌}
 use mathlib.Core.Logic.{◌≢◌}
@@ -14,9 +15,7 @@ use Rattle.bus.specs.Window.{in_window, place_of}
 use Rattle.descriptor.specs.declared.Descriptor.{Descriptor}
 use Rattle.descriptor.specs.Layout.{owned, last_four}
 use Rattle.descriptor.specs.declared.Raw.{Raw}
-use Rattle.descriptor.specs.declared.Look.{Look}
-use Rattle.descriptor.specs.declared.Look.TheVariants.{There}
-use Rattle.descriptor.specs.Looking.{named_in, raw_at, look_at}
+use Rattle.descriptor.specs.Looking.{named_in, raw_at, look_at, Look}
 use Rattle.descriptor.proofs.Looks.{look-there, named-at}
 use Rattle.regs.specs.declared.Mode.{Mode}
 use Rattle.regs.specs.declared.Mode.TheVariants.{MemoryToMemory, MemoryToStream, StreamToMemory}
@@ -27,9 +26,7 @@ use Rattle.machine.specs.declared.Core.{Core}
 use Rattle.machine.specs.declared.Work.{Work}
 use Rattle.machine.specs.declared.Phase.{Phase}
 use Rattle.machine.specs.declared.Phase.TheVariants.{Rest, Fetch, Move, WriteBack}
-use Rattle.machine.specs.declared.Slot.{Slot}
-use Rattle.machine.specs.declared.Slot.TheVariants.{Empty, Ahead}
-use Rattle.machine.specs.State.{remade, with_pointer, with_phase, with_busy, rested, settled}
+use Rattle.machine.specs.State.{remade, with_pointer, with_phase, with_busy, rested, settled, Slot}
 use Rattle.machine.specs.Step.{World, taken, became, stored, received, sent, noted, holding, settle, seen, entry_for, back_to, rest_step, ended, wants_length, begun, fetched, meets, fetch_step, whole, source_of, destination_of, with_byte, onward, copy_step, beat_for, send_to, send_step, receive_from, move_step, written_control, written_back, completed, write_back_step, step_in, step}
 use Rattle.links.specs.Form.{Link, link_at}
 
@@ -52,12 +49,12 @@ rest-step w p r = rw (p, r)
 abbrev pub fetched_world : World → Link → World
 fetched_world w l =
     holding (became w (with_phase (Move (begun l.at l.says)) (with_pointer l.says.next w.core)))
-    (Ahead (look_at w.core.window w.memory l.says.next))
+    (Some (look_at w.core.window w.memory l.says.next))
 
 -- a Fetch sees a descriptor that says d
 pub record Sees (w : World) (d : Descriptor) : Type 0 where
   pub raw : Raw
-  pub look : seen w ≡ There raw
+  pub look : seen w ≡ Ok raw
   pub names : named_in raw ≡ d
 
 -- as it does where it looks at a descriptor of the memory m, the present one or one that was
@@ -95,7 +92,7 @@ module _ (w : World) (l : Link) (p : w.core.phase ≡ Fetch) (c : Set w.core) (h
   fetch-step o long =
       looked ∙ rw (o, long) (ap (λ (a : ℕ). taken (fetched_world w (record { at = a; says = l.says }))) h)
 
-  pub end_step : owned l.says.control.0 ≡ false → step w ≡ taken (holding (became w (ended w.core)) Empty)
+  pub end_step : owned l.says.control.0 ≡ false → step w ≡ taken (holding (became w (ended w.core)) None)
   unfolding fetched
   end_step o = looked ∙ rw o
 

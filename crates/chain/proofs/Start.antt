@@ -1,5 +1,6 @@
 -- The machine after its two writes, and after the step out of Rest.
 -- Assumes nothing.
+use Rattle.std.specs.Prelude.{None}
 use Prim.Native.Nat.{ℕ, ◌/◌, ◌%◌}
 use mathlib.Core.Path.{◌≡◌, ap, ap₂}
 use mathlib.Core.Bool.{true, false, and-false}
@@ -8,7 +9,6 @@ use Rattle.words.specs.Bits.{bit}
 use Rattle.regs.specs.declared.Mode.{Mode}
 use Rattle.regs.specs.Control.{as_control, run, park, stop_dma_er, run_from}
 use Rattle.machine.specs.declared.Core.{Core}
-use Rattle.machine.specs.declared.Slot.TheVariants.{Empty}
 use Rattle.machine.specs.declared.Machine.{Machine}
 use Rattle.machine.specs.declared.Phase.TheVariants.{Fetch}
 use Rattle.machine.specs.State.{with_pointer, with_phase, with_busy, fresh_core, machine_with}
@@ -32,13 +32,13 @@ stored-17 c = omega arith
 first_run : (c : ℕ) → run (as_control c) ≡ true → run_from c (record { 0 = 0 }) 0 ≡ 1
 first_run c h = rw (and-false (bit 16 c), h)
 
-pub nothing-ahead : (w : World) → w.slot ≡ Empty → SeesMemory w
+pub nothing-ahead : (w : World) → w.slot ≡ None → SeesMemory w
 unfolding seen
 nothing-ahead w e = ap (seen_in w) e
 
 module _ (mode : Mode) (g : Given) where
   abbrev m0 : Machine
-  m0 = machine_with (control_stored g.control (with_pointer g.pointer (fresh_core mode g.window))) Empty 1
+  m0 = machine_with (control_stored g.control (with_pointer g.pointer (fresh_core mode g.window))) None 1
 
   abbrev pub resting : World
   resting = opened m0 g.memory g.beats g.room g.left
@@ -48,7 +48,7 @@ module _ (mode : Mode) (g : Given) where
 
   pub starts : run (as_control g.control) ≡ true → world_in mode g ≡ resting
   starts h =
-      ap₂ (λ (c : Core) (number : ℕ). opened (machine_with c Empty number) g.memory g.beats g.room g.left)
+      ap₂ (λ (c : Core) (number : ℕ). opened (machine_with c None number) g.memory g.beats g.room g.left)
       (write-runs g.control (with_pointer g.pointer (fresh_core mode g.window)) (and-false (bit 16 g.control)) h)
       (first_run g.control h)
 

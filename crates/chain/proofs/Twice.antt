@@ -1,5 +1,6 @@
 -- Order 4: a descriptor that links to itself and is not parked runs twice.
 -- Assumes nothing.
+use Rattle.std.specs.Prelude.{None}
 use Prim.Native.Nat.{ℕ, suc, ◌+◌, ◌%◌, ◌<◌}
 use mathlib.Core.Path.{◌≡◌, refl, sym, ap, subst, subst⁻¹, ◌∙◌}
 use mathlib.Core.Bool.{true}
@@ -15,7 +16,6 @@ use Rattle.words.proofs.Orders.{row-bytes}
 use Rattle.words.proofs.Slices.{part-part}
 use Rattle.bus.specs.Window.{in_window, place_of}
 use Rattle.regs.specs.declared.Mode.TheVariants.{StreamToMemory}
-use Rattle.machine.specs.declared.Slot.TheVariants.{Empty}
 use Rattle.machine.specs.declared.Reason.TheVariants.{Ended}
 use Rattle.machine.specs.Step.{World, taken, stopped, became, holding, ended, step}
 use Rattle.machine.specs.Run.{Report, run, taken_since, ran_as}
@@ -57,7 +57,7 @@ module _ (g : Given) (h : LinksToItself g) where
   w3 = after_mark w2 s2
 
   abbrev end : World
-  end = holding (became w3 (ended w3.core)) Empty
+  end = holding (became w3 (ended w3.core)) None
 
   abbrev p : ℕ
   p = place_of g.window g.pointer

@@ -1,5 +1,6 @@
 -- A chain, from its first Fetch to Ended.
 -- Assumes nothing.
+use Rattle.std.specs.Prelude.{Ok, None}
 use Prim.Native.Nat.{ℕ, suc, ◌+◌, ◌%◌, ◌≤◌}
 use mathlib.Core.Path.{◌≡◌, refl, sym, ap, subst, ◌∙◌}
 use mathlib.Core.Logic.{◌≢◌}
@@ -10,12 +11,10 @@ use lib.ListN.{length, get_or, drop, length-drop}
 use Rattle.words.specs.Slices.{part, AllBytes}
 use Rattle.bus.specs.Window.{in_window, place_of}
 use borrow.Author.Tests.{eq-eqb}
-use Rattle.descriptor.specs.declared.Look.TheVariants.{There}
 use Rattle.descriptor.specs.Layout.{owned}
 use Rattle.descriptor.specs.Looking.{look_at}
 use Rattle.descriptor.proofs.Looks.{look-there}
 use Rattle.machine.specs.declared.Phase.TheVariants.{Fetch}
-use Rattle.machine.specs.declared.Slot.TheVariants.{Empty}
 use Rattle.machine.specs.declared.Reason.TheVariants.{Ended}
 use Rattle.machine.specs.Step.{World, stopped, became, holding, seen, ended, step}
 use Rattle.machine.specs.Laws.{Along, here, more}
@@ -71,7 +70,7 @@ walk_none w e r =
     let inv : Inv w.core.window w.memory [] w.memory =
     record { size = refl; frame = λ p a b. refl; few = record { few = 0; within = omega arith; done = tt; waiting = tt } } in
     record {
-      last = holding (became w (ended w.core)) Empty;
+      last = holding (became w (ended w.core)) None;
       along = more inv
           (end_step w e r.fetching r.set (sym (ap (λ (l : Link). l.at) r.lies.chain.0))
           (sees-in w w.memory e r.lies.chain.0 r.lies.aligned.0 r.lies.inside.0 r.lies.bytes.0 r.sees) r.lies.chain.1)
@@ -177,7 +176,7 @@ module _ (w : World) (share : Share) (others : List Share) (e : Link) (r : AtCha
       same-look x f a i h =
           ap (look_at (window_of w) w.memory) (sym f)
           ∙ look-there (window_of w) w.memory x.at (eq-eqb _ _ a) i
-          ∙ ap There (sym (raw_same w2.memory w.memory (place_of (window_of w) x.at) (mark-size w share one) h))
+          ∙ ap Ok (sym (raw_same w2.memory w.memory (place_of (window_of w) x.at) (mark-size w share one) h))
           ∙ sym (look-there (window_of w) w2.memory x.at (eq-eqb _ _ a) i)
           ∙ ap (look_at (window_of w) w2.memory) f
 

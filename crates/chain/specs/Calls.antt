@@ -2,7 +2,7 @@
 -- theorems are `of-run-in-each-mode` and `of-run-in-each-mode-at-every-step`, and of demand 3 `chain-of-run` and
 -- `chain-of-run-at-every-step`.
 -- Assumes nothing.
-use Rattle.std.specs.Prelude.{ℕ, ◌-◌, ◌*◌, ◌/◌, ◌≡◌, true, List, ◌++◌, length, drop}
+use Rattle.std.specs.Prelude.{ℕ, ◌-◌, ◌*◌, ◌/◌, ◌≡◌, true, List, ◌++◌, length, drop, Result, Ok}
 use Rattle.words.specs.Promise.{Gives}
 use Rattle.words.specs.Slices.{put}
 use Rattle.bus.specs.declared.Window.{Window}
@@ -12,10 +12,8 @@ use Rattle.ledger.specs.declared.Entry.{Entry}
 use Rattle.ledger.specs.Records.{ledger_bytes, capacity, is_ledger}
 use Rattle.flow.specs.Beats.{beats_in, beat_bytes}
 use Rattle.machine.specs.declared.Machine.{Machine}
-use Rattle.machine.specs.declared.registers.WroteRegister.TheVariants as wrote
+use Rattle.bus.specs.declared.Refusal.{Refusal}
 use Rattle.machine.specs.declared.Ran.{Ran}
-use Rattle.machine.specs.declared.RunAnswer.{RunAnswer}
-use Rattle.machine.specs.declared.RunAnswer.TheVariants as many
 use Rattle.machine.specs.State.{fresh}
 use Rattle.machine.specs.Registers.{WasWritten}
 use Rattle.machine.specs.Run.{even, Lent, Returned, HasRun}
@@ -46,13 +44,13 @@ abbrev pub behind : List Entry → (ledger : List ℕ) (used : ℕ) → List ℕ
 behind records ledger used = put ledger (12 * used) (ledger_bytes records)
 
 -- the calls: next_descriptor_pointer is at 8, control at 4; neither write is refused
-pub record CalledIn (mode : Mode) (window : Window) (pointer control : ℕ) (l : Lent) (budget : ℕ) (r : RunAnswer) (b : Returned) : Type 0 where
+pub record CalledIn (mode : Mode) (window : Window) (pointer control : ℕ) (l : Lent) (budget : ℕ) (r : Result Ran Refusal) (b : Returned) : Type 0 where
   pub m0 : Machine
   pub m1 : Machine
   pub m2 : Machine
   pub made : Gives (fresh mode window) m0
-  pub pointed : WasWritten m0 8 pointer (wrote.Done m1)
-  pub started : WasWritten m1 4 control (wrote.Done m2)
+  pub pointed : WasWritten m0 8 pointer (Ok m1)
+  pub started : WasWritten m1 4 control (Ok m2)
   -- whole beats are lent
   pub even_beats : even l.beats ≡ true
   pub even_out : even l.out ≡ true
@@ -60,23 +58,23 @@ pub record CalledIn (mode : Mode) (window : Window) (pointer control : ℕ) (l :
   pub is_ledger : is_ledger (length l.ledger) l.used ≡ true
   pub ran : HasRun m2 l budget r b
 
-abbrev pub Called : Window → (pointer control : ℕ) → Lent → (budget : ℕ) → RunAnswer → Returned → Type 0
+abbrev pub Called : Window → (pointer control : ℕ) → Lent → (budget : ℕ) → Result Ran Refusal → Returned → Type 0
 Called = CalledIn StreamToMemory
 
 -- the run is done, with this outcome; the beats made stand in front of the lent output, and the rest of it is unchanged; the records of the
 -- k stand behind those used, and no other byte of the ledger differs
-pub record FinishedIn (mode : Mode) (g : Given) (l : Lent) (r : RunAnswer) (b : Returned) : Type 0 where
+pub record FinishedIn (mode : Mode) (g : Given) (l : Lent) (r : Result Ran Refusal) (b : Returned) : Type 0 where
   pub told : Ran
-  pub answer : r ≡ many.Done told
+  pub answer : r ≡ Ok told
   pub outcome : OutcomeOf g (shares_in mode g) told b.window
   pub output : b.out ≡ in_front (made_by_all (shares_in mode g)) l.out
   pub ledger_after : b.ledger ≡ behind (records_of 1 (shares_in mode g)) l.ledger g.used
 
 -- demand 3: the run is done, with this outcome; the lent output is unchanged; the records of the k stand behind those used, and no other byte of
 -- the ledger differs
-pub record Finished (g : Given) (l : Lent) (r : RunAnswer) (b : Returned) : Type 0 where
+pub record Finished (g : Given) (l : Lent) (r : Result Ran Refusal) (b : Returned) : Type 0 where
   pub told : Ran
-  pub answer : r ≡ many.Done told
+  pub answer : r ≡ Ok told
   pub outcome : Outcome g told b.window
   pub output : b.out ≡ l.out
   pub ledger_after : b.ledger ≡ behind (records_of 1 (shares g)) l.ledger g.used

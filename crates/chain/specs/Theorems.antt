@@ -1,18 +1,18 @@
 -- What is proved of chains, demand 3: each theorem's whole statement, under its name. A term of each stands in proofs/.
 -- Assumes nothing.
-use Rattle.std.specs.Prelude.{ℕ, ◌+◌, ◌≤◌, ◌≡◌, true, [], ◌∷◌}
+use Rattle.std.specs.Prelude.{ℕ, ◌+◌, ◌≤◌, ◌≡◌, true, [], ◌∷◌, Some, Result, Ok}
 use Rattle.words.specs.Slices.{AllBytes}
 use Rattle.bus.specs.declared.Window.{Window}
 use Rattle.bus.specs.Window.{keeps_limits}
 use Rattle.regs.specs.declared.Mode.{Mode}
 use Rattle.regs.specs.declared.Mode.TheVariants.{MemoryToMemory, MemoryToStream, StreamToMemory}
-use Rattle.ledger.specs.declared.Finding.TheVariants.{Found}
 use Rattle.ledger.specs.Finding.{finding_in}
-use Rattle.machine.specs.declared.RunAnswer.{RunAnswer}
+use Rattle.machine.specs.declared.Ran.{Ran}
+use Rattle.bus.specs.declared.Refusal.{Refusal}
 use Rattle.machine.specs.Run.{run, Lent, Returned, ran_as}
-use Rattle.links.specs.declared.Verdict.TheVariants.{Sound}
+use Rattle.links.specs.declared.Kind.TheVariants.{Sound}
 use Rattle.links.specs.Form.{All, Form}
-use Rattle.links.specs.Verdicts.{stop, verdict_of}
+use Rattle.links.specs.Verdicts.{stop, verdict, verdict_of}
 use Rattle.chain.specs.Chain.{Given, world_in, world_for, last, shares, cost, records_of, Premises, FirstFew, AtEveryStep, Outcome}
 use Rattle.chain.specs.Modes.{shares_in, PremisesIn, EndsIn, AtEveryStepIn, Separate, CopiedAsHeld, BeatsOut}
 use Rattle.chain.specs.Enough.{WithinBudget, WithinBudgetIn}
@@ -52,7 +52,7 @@ RunsTwice = (g : Given) → LinksToItself g → (budget : ℕ) → 2 + cost (twi
 -- chain holds, the run does what demand 3 says, and its pointer is then at e.
 abbrev pub SoundRuns : Type 0
 SoundRuns = (g : Given) (e : ℕ) → keeps_limits g.window.base g.window.length ≡ true
-    → verdict_of g.window g.memory g.pointer ≡ Sound (stop g.k e)
+    → verdict_of g.window g.memory g.pointer ≡ verdict Sound (stop g.k e)
     → (Form g.window g.memory g.pointer g.k → Premises g)
     → (budget : ℕ) → 2 + cost (shares g) ≤ budget
     → Outcome g (ran_as g.used (world_for g) (run budget (world_for g))) (run budget (world_for g)).world.memory × ((last g).at ≡ e)
@@ -89,49 +89,49 @@ BudgetExistsIn = (mode : Mode) (g : Given) → PremisesIn mode g → keeps_limit
 
 -- Demand 3, of the public methods, with budget enough.
 abbrev pub ChainOfRun : Type 0
-ChainOfRun = (window : Window) (pointer control : ℕ) (l : Lent) (budget : ℕ) (r : RunAnswer) (b : Returned) (k : ℕ)
+ChainOfRun = (window : Window) (pointer control : ℕ) (l : Lent) (budget : ℕ) (r : Result Ran Refusal) (b : Returned) (k : ℕ)
     → Called window pointer control l budget r b
     → let g : Given = given_by window pointer control k l in
     Premises g → 2 + cost (shares g) ≤ budget → Finished g l r b
 
 -- Demand 3, of the public methods, after every step: with any budget those marked done are the first few.
 abbrev pub ChainOfRunAtEveryStep : Type 0
-ChainOfRunAtEveryStep = (window : Window) (pointer control : ℕ) (l : Lent) (budget : ℕ) (r : RunAnswer) (b : Returned) (k : ℕ)
+ChainOfRunAtEveryStep = (window : Window) (pointer control : ℕ) (l : Lent) (budget : ℕ) (r : Result Ran Refusal) (b : Returned) (k : ℕ)
     → Called window pointer control l budget r b
     → let g : Given = given_by window pointer control k l in
     Premises g → FirstFew window l.window (shares g) b.window
 
 -- Order 6: and after the run each of the k is found in run 1, with its count. What is lent is bytes.
 abbrev pub EachFound : Type 0
-EachFound = (window : Window) (pointer control : ℕ) (l : Lent) (budget : ℕ) (r : RunAnswer) (b : Returned) (k : ℕ)
+EachFound = (window : Window) (pointer control : ℕ) (l : Lent) (budget : ℕ) (r : Result Ran Refusal) (b : Returned) (k : ℕ)
     → Called window pointer control l budget r b
     → let g : Given = given_by window pointer control k l in
     Premises g → 2 + cost (shares g) ≤ budget → AllBytes l.beats
-    → All (λ s. finding_in b.ledger (l.used + k) 1 s.link.at ≡ Found s.count) (shares g)
+    → All (λ s. finding_in b.ledger (l.used + k) 1 s.link.at ≡ Ok (Some s.count)) (shares g)
 
 -- ---- of the public methods, in each mode
 
 -- Order 10, of the public methods, with budget enough.
 abbrev pub OfRunInEachMode : Type 0
-OfRunInEachMode = (mode : Mode) (window : Window) (pointer control : ℕ) (l : Lent) (budget : ℕ) (r : RunAnswer) (b : Returned) (k : ℕ)
+OfRunInEachMode = (mode : Mode) (window : Window) (pointer control : ℕ) (l : Lent) (budget : ℕ) (r : Result Ran Refusal) (b : Returned) (k : ℕ)
     → CalledIn mode window pointer control l budget r b
     → let g : Given = given_by window pointer control k l in
     PremisesIn mode g → 2 + cost (shares_in mode g) ≤ budget → FinishedIn mode g l r b
 
 -- Order 10, of the public methods, after every step: with any budget those marked done are the first few.
 abbrev pub OfRunInEachModeAtEveryStep : Type 0
-OfRunInEachModeAtEveryStep = (mode : Mode) (window : Window) (pointer control : ℕ) (l : Lent) (budget : ℕ) (r : RunAnswer) (b : Returned) (k : ℕ)
+OfRunInEachModeAtEveryStep = (mode : Mode) (window : Window) (pointer control : ℕ) (l : Lent) (budget : ℕ) (r : Result Ran Refusal) (b : Returned) (k : ℕ)
     → CalledIn mode window pointer control l budget r b
     → let g : Given = given_by window pointer control k l in
     PremisesIn mode g → FirstFew window l.window (shares_in mode g) b.window
 
 -- And in each mode each of the k is found in run 1, with its count.
 abbrev pub EachFoundIn : Type 0
-EachFoundIn = (mode : Mode) (window : Window) (pointer control : ℕ) (l : Lent) (budget : ℕ) (r : RunAnswer) (b : Returned) (k : ℕ)
+EachFoundIn = (mode : Mode) (window : Window) (pointer control : ℕ) (l : Lent) (budget : ℕ) (r : Result Ran Refusal) (b : Returned) (k : ℕ)
     → CalledIn mode window pointer control l budget r b
     → let g : Given = given_by window pointer control k l in
     PremisesIn mode g → 2 + cost (shares_in mode g) ≤ budget → AllBytes l.beats
-    → All (λ s. finding_in b.ledger (l.used + k) 1 s.link.at ≡ Found s.count) (shares_in mode g)
+    → All (λ s. finding_in b.ledger (l.used + k) 1 s.link.at ≡ Ok (Some s.count)) (shares_in mode g)
 
 -- ---- the premises can be met
 

@@ -1,15 +1,16 @@
 -- Beats and records made before do not show in a run, and it leaves them: what it makes stands behind them.
 -- Assumes nothing.
+use Rattle.machine.specs.State.{Slot}
+use Rattle.std.specs.Prelude.{Ok, Err, Some, None}
 use Prim.Native.Nat.{ℕ, zero, suc}
 use mathlib.Core.Path.{◌≡◌, refl, ap, ◌∙◌}
 use mathlib.Core.Bool.{Bool, true, false, not, cond, ◌&&◌}
 use mathlib.Core.List.{List, [], ◌∷◌, ◌++◌, append_assoc}
 use lib.Dec.{eqb}
 use Rattle.bus.specs.Window.{in_window}
-use Rattle.descriptor.specs.declared.Look.{Look}
-use Rattle.descriptor.specs.declared.Look.TheVariants.{Misaligned, Outside, There}
+use Rattle.descriptor.specs.declared.Miss.TheVariants as miss
 use Rattle.descriptor.specs.Layout.{owned}
-use Rattle.descriptor.specs.Looking.{named_in}
+use Rattle.descriptor.specs.Looking.{named_in, Look}
 use Rattle.regs.specs.declared.Mode.{Mode}
 use Rattle.regs.specs.declared.Mode.TheVariants.{MemoryToMemory, MemoryToStream, StreamToMemory}
 use Rattle.regs.specs.Control as register
@@ -17,8 +18,6 @@ use Rattle.ledger.specs.declared.Entry.{Entry}
 use Rattle.machine.specs.declared.Work.{Work}
 use Rattle.machine.specs.declared.Phase.{Phase}
 use Rattle.machine.specs.declared.Phase.TheVariants.{Rest, Fetch, Move, WriteBack, Ended, Halted, Faulted}
-use Rattle.machine.specs.declared.Slot.{Slot}
-use Rattle.machine.specs.declared.Slot.TheVariants.{Empty, Ahead}
 use Rattle.machine.specs.Step.{World, Answer, taken, stopped, sent, noted, settle, seen_in, seen, rest_step, wants_length, fetched, meets, fetch_step, source_of, destination_of}
 use Rattle.machine.specs.Step.{copy_step, send_to, send_step, receive_from, move_step, written_back, back_to, write_back_step, step_in, step}
 use Rattle.machine.specs.Run.{Report, one_more_of, run_on, run}
@@ -52,15 +51,15 @@ module _ (beats : List ℕ) (records : List Entry) where
 
     met-behind : (l : Look) → meets (behind w) l ≡ answer_behind (meets w l)
     unfolding fetched
-    met-behind Misaligned = refl
-    met-behind Outside = refl
-    met-behind (There r) =
+    met-behind (Err miss.Misaligned) = refl
+    met-behind (Err miss.Outside) = refl
+    met-behind (Ok r) =
         let d = named_in r in
         choice (not (owned d.control.0)) _ _ refl (choice (wants_length w.core.mode && eqb d.length 0) _ _ refl refl)
 
     seen-behind : (s : Slot) → seen_in (behind w) s ≡ seen_in w s
-    seen-behind Empty = refl
-    seen-behind (Ahead look) = refl
+    seen-behind None = refl
+    seen-behind (Some look) = refl
 
     fetch-behind : fetch_step (behind w) ≡ answer_behind (fetch_step w)
     unfolding fetch_step seen

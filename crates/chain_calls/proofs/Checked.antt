@@ -6,7 +6,7 @@ use mathlib.Core.Bool.{true, cond, ◌&&◌}
 use mathlib.Core.List.{List, [], ◌∷◌}
 use native.Mathlib.Omega.{arith}
 use lib.Dec.{leb, eqb}
-use lib.ListN.{length, get_or}
+use lib.ListN.{get_or}
 use borrow.Author.Tests.{leb-true}
 use Rattle.words.specs.declared.Order.TheVariants.{MostFirst}
 use Rattle.words.specs.Orders.{row_numbers}
@@ -16,9 +16,10 @@ use Rattle.bus.specs.Window.{keeps_limits, in_window}
 use Rattle.image.proofs.Tests.{and_right}
 use Rattle.links.specs.declared.Stop.{Stop}
 use Rattle.links.specs.declared.Verdict.{Verdict}
-use Rattle.links.specs.declared.Verdict.TheVariants.{Sound, Misaligned, Outside, Overlaps, Refused}
+use Rattle.links.specs.declared.Kind.{Kind}
+use Rattle.links.specs.declared.Kind.TheVariants.{Sound, Misaligned, Outside, Overlaps}
 use Rattle.links.specs.Form.{links_from, link_after}
-use Rattle.links.specs.Verdicts.{window_at, stop, verdict_of, position_of}
+use Rattle.links.specs.Verdicts.{window_at, stop, verdict, verdict_of, position_of}
 use Rattle.links.specs.Calls.{verdict_widths, stop_bytes, verdict_bytes}
 use Rattle.links.proofs.Meaning.{sound-exactly, stops-at-most}
 use Rattle.chain.proofs.Lists.{all_right}
@@ -44,12 +45,12 @@ same_stop s t a b e =
     λ i. record { position = get_or (same i) 1 0; address = get_or (same i) 2 0 }
 
 -- the second byte is the verdict's
-told-sound : (v : Verdict) (t : Stop) → ((s : Stop) → v ≡ Sound s → Small s) → Small t → verdict_bytes v ≡ stop_bytes 0 t → v ≡ Sound t
-told-sound (Sound s) t small h e = ap Sound (same_stop s t (small s refl) h e)
-told-sound (Misaligned s) t small h e = absurd (let other : 1 ≡ 0 = ap (λ (xs : List ℕ). get_or xs 1 0) e in omega arith)
-told-sound (Outside s) t small h e = absurd (let other : 2 ≡ 0 = ap (λ (xs : List ℕ). get_or xs 1 0) e in omega arith)
-told-sound (Overlaps s) t small h e = absurd (let other : 3 ≡ 0 = ap (λ (xs : List ℕ). get_or xs 1 0) e in omega arith)
-told-sound (Refused why) t small h e = absurd (let none : 0 ≡ 10 = ap length e in omega arith)
+told-sound : (kind : Kind) (s t : Stop) → (kind ≡ Sound → Small s) → Small t → verdict_bytes (verdict kind s) ≡ stop_bytes 0 t
+    → verdict kind s ≡ verdict Sound t
+told-sound Sound s t small h e = ap (verdict Sound) (same_stop s t (small refl) h e)
+told-sound Misaligned s t small h e = absurd (let other : 1 ≡ 0 = ap (λ (xs : List ℕ). get_or xs 1 0) e in omega arith)
+told-sound Outside s t small h e = absurd (let other : 2 ≡ 0 = ap (λ (xs : List ℕ). get_or xs 1 0) e in omega arith)
+told-sound Overlaps s t small h e = absurd (let other : 3 ≡ 0 = ap (λ (xs : List ℕ). get_or xs 1 0) e in omega arith)
 
 -- what is sound ends in the window
 in-bits : (w : Window) (a : ℕ) → keeps_limits w.base w.length ≡ true → in_window w a 32 ≡ true → a < 2 ^ 32
@@ -60,7 +61,7 @@ in-bits w a limits h =
     omega (arith, p.address, p.fits)
 
 module _ (w : Window) (memory : List ℕ) (pointer : ℕ) (limits : keeps_limits w.base w.length ≡ true) where
-  small : (s : Stop) → verdict_of w memory pointer ≡ Sound s → Small s
+  small : (s : Stop) → verdict_of w memory pointer ≡ verdict Sound s → Small s
   small s says =
       let sound = (sound-exactly w memory pointer s.position s.address limits).0 says in
       let last : in_window w (link_after w memory pointer s.position).at 32 ≡ true =
@@ -78,6 +79,9 @@ checked-runs l created pointed started left k e answer answer' checked says k-bi
     let whole : window_at w.base l.lent.window ≡ w = λ i. record { base = w.base; length = lent i } in
     let bytes : verdict_bytes (verdict_of w l.lent.window l.pointer) ≡ stop_bytes 0 (stop k e) =
     ap (λ (x : Window). verdict_bytes (verdict_of x l.lent.window l.pointer)) (sym whole) ∙ sym done ∙ says in
-    let verdict = told-sound (verdict_of w l.lent.window l.pointer) (stop k e) (small w l.lent.window l.pointer well.limits) (k-bits, e-bits) bytes in
-    let sound = (sound-exactly w l.lent.window l.pointer k e well.limits).0 verdict in
+    let found = verdict_of w l.lent.window l.pointer in
+    let is_sound : found ≡ verdict Sound (stop k e) =
+    told-sound found.kind found.stop (stop k e)
+    (λ f. small w l.lent.window l.pointer well.limits found.stop (ap (λ (x : Kind). verdict x found.stop) f)) (k-bits, e-bits) bytes in
+    let sound = (sound-exactly w l.lent.window l.pointer k e well.limits).0 is_sound in
     (chain-of-calls l created pointed started left k called well (besides sound.form) enough, sym sound.end_is)

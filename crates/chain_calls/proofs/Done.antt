@@ -1,5 +1,7 @@
 -- A call of sgdma_run that gives back 0: what it was lent, what it leaves, and what its report tells.
 -- Assumes nothing.
+use Rattle.bus.specs.Refusal.{answer_number}
+use Rattle.std.specs.Prelude.{Result, Ok, Err}
 use Prim.Native.Nat.{ℕ, ◌+◌, ◌-◌, ◌/◌, ◌^◌, ◌<◌}
 use mathlib.Core.Path.{◌≡◌, refl, sym, ap, subst, ◌∙◌}
 use mathlib.Core.Bool.{Bool, true, false, cond, ◌&&◌}
@@ -20,14 +22,11 @@ use Rattle.ledger.specs.Records.{capacity}
 use Rattle.ledger.proofs.Rows.{capacity-le}
 use Rattle.machine.specs.declared.Machine.{Machine}
 use Rattle.machine.specs.declared.Ran.{Ran}
-use Rattle.machine.specs.declared.LoadedMachine.{LoadedMachine}
-use Rattle.machine.specs.declared.LoadedMachine.TheVariants as loaded
-use Rattle.machine.specs.declared.RunAnswer.{RunAnswer}
-use Rattle.machine.specs.declared.RunAnswer.TheVariants as many
+use Rattle.bus.specs.declared.Refusal.{Refusal}
 use Rattle.machine.specs.Saved.{load_of}
 use Rattle.machine.specs.Step.{World, machine_in}
 use Rattle.machine.specs.Run.{Report, run, reason_number, Served, serves, refused, served_of, world_of}
-use Rattle.machine.specs.Run.{taken_since, returned, ran_as, run_answer, run_number, Runs}
+use Rattle.machine.specs.Run.{taken_since, returned, ran_as, run_answer, Runs}
 use Rattle.machine.proofs.Answers.{was-loaded}
 use Rattle.machine.proofs.StepLaws.{took-since}
 use Rattle.machine.proofs.RunLaws.{run-tells}
@@ -52,19 +51,19 @@ pub record Accepted (x : RunLent) : Type 0 where
   pub machine : Machine
   pub size : length x.image ≡ 85
   pub report_size : length x.report ≡ 18
-  pub loads : load_of x.image ≡ loaded.Good machine
+  pub loads : load_of x.image ≡ Ok machine
   pub served : served_by x machine ≡ serves
 
 module _ (x : RunLent) where
-  by-lent : (m : Machine) → length x.image ≡ 85 → length x.report ≡ 18 → load_of x.image ≡ loaded.Good m
-      → (served : Served) → served_by x m ≡ served → run_number (run_answer x.lent served (world_by x m) x.budget) ≡ 0 → Accepted x
+  by-lent : (m : Machine) → length x.image ≡ 85 → length x.report ≡ 18 → load_of x.image ≡ Ok m
+      → (served : Served) → served_by x m ≡ served → answer_number (run_answer x.lent served (world_by x m) x.budget) ≡ 0 → Accepted x
   by-lent m s r e serves f n = record { machine = m; size = s; report_size = r; loads = e; served = f }
   by-lent m s r e (refused why) f n = absurd (refused-not-done why n)
 
-  by_tests : (s r : Bool) → sized x.image ≡ s → is_size 18 x.report ≡ r → (l : LoadedMachine) → load_of x.image ≡ l
-      → run_number (cond (s && r) (run_in l x.lent x.budget) (many.Refused BadSize)) ≡ 0 → Accepted x
-  by_tests true true e f (loaded.Good m) g n = by-lent m (eqb-true _ _ e) (eqb-true _ _ f) g _ refl n
-  by_tests true true e f (loaded.Refused why) g n = absurd (refused-not-done why n)
+  by_tests : (s r : Bool) → sized x.image ≡ s → is_size 18 x.report ≡ r → (l : Result Machine Refusal) → load_of x.image ≡ l
+      → answer_number (cond (s && r) (run_in l x.lent x.budget) (Err BadSize)) ≡ 0 → Accepted x
+  by_tests true true e f (Ok m) g n = by-lent m (eqb-true _ _ e) (eqb-true _ _ f) g _ refl n
+  by_tests true true e f (Err why) g n = absurd (refused-not-done why n)
   by_tests true false e f l g n = absurd (omega arith)
   by_tests false r e f l g n = absurd (omega arith)
 
@@ -110,15 +109,15 @@ module _ {x : RunLent} (s : Accepted x) where
   abbrev pub told : Ran
   told = ran_as x.lent.used world ran
 
-  done : run_as x s.size s.report_size s.loads ≡ many.Done told
+  done : run_as x s.size s.report_size s.loads ≡ Ok told
   done = ap (λ (s : Served). run_answer x.lent s world x.budget) s.served
 
   module _ (y : RunLeft) (p : Promised x y) where
     -- by the machine's method
-    abbrev pub Makes : Served → RunAnswer → Type 0
+    abbrev pub Makes : Served → Result Ran Refusal → Type 0
     Makes served a = Runs served s.machine x.lent x.budget a y.back
 
-    pub makes : Makes (served_by x s.machine) (many.Done told)
+    pub makes : Makes (served_by x s.machine) (Ok told)
     makes = subst (Makes (served_by x s.machine)) done (has-run x s.size s.report_size s.loads y p)
 
     -- the machine after it is met in use
@@ -128,8 +127,8 @@ module _ {x : RunLent} (s : Accepted x) where
     pub left_by : x.lent.used < 2 ^ 32 → x.budget < 2 ^ 32 → LeftBy y
     left_by u b =
         let call = runs_as x s.size s.report_size s.loads ∙ done in
-        let ran-so = subst (λ (a : Served). Makes a (many.Done told)) s.served makes in
-        let report : y.report ≡ report_over (many.Done told) x.report = p.report_after ∙ ap (λ (a : RunAnswer). report_over a x.report) call in
+        let ran-so = subst (λ (a : Served). Makes a (Ok told)) s.served makes in
+        let report : y.report ≡ report_over (Ok told) x.report = p.report_after ∙ ap (λ (a : Result Ran Refusal). report_over a x.report) call in
         let tells = run-tells x.budget world in
         let passed = tells.passed in
         let output : length ran.world.output ≡ length passed.made = ap length passed.output in
@@ -137,8 +136,8 @@ module _ {x : RunLent} (s : Accepted x) where
         let taken-lt : taken_since world ran.world < 4294967296 = omega (arith, took-since passed, passed.moved) in
         let made-lt : length ran.world.output < 4294967296 = omega (arith, passed.moved) in
         record {
-          number = p.number ∙ ap run_number call;
-          image = p.image_after ∙ ap (λ (a : RunAnswer). ran_over a x.image) call;
+          number = p.number ∙ ap answer_number call;
+          image = p.image_after ∙ ap (λ (a : Result Ran Refusal). ran_over a x.image) call;
           back = ran-so.back;
           reason = ap reason_told report;
           steps = ap steps_told report ∙ number-bytes MostFirst 4 ran.steps ∙ mod-eq_of_lt steps-lt;

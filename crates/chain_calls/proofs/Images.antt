@@ -1,5 +1,6 @@
 -- Every image in use loads back as the machine whose image it is.
 -- Assumes nothing.
+use Rattle.std.specs.Prelude.{Result, Ok, Err}
 use Prim.Native.Nat.{ℕ, ◌^◌, ◌<◌}
 use mathlib.Core.Path.{◌≡◌, refl, sym, ap, subst, ◌∙◌}
 use mathlib.Core.Bool.{Bool, true, false, not, cond}
@@ -16,7 +17,7 @@ use Rattle.bus.specs.Window.{keeps_limits}
 use Rattle.regs.specs.Modes.{mode_of}
 use Rattle.image.specs.declared.Fields.{Fields}
 use Rattle.image.specs.declared.Tail.{Tail}
-use Rattle.image.specs.declared.ReadImage.TheVariants as read
+use Rattle.machine.specs.declared.Ran.{Ran}
 use Rattle.image.specs.Layout.{fields, tail}
 use Rattle.image.specs.Rules.{keeps_rules}
 use Rattle.image.specs.Promise.{sized}
@@ -24,12 +25,6 @@ use Rattle.image.specs.Promise as image
 use Rattle.image.specs.Editions.{ImageMoved}
 use Rattle.image.proofs.RoundTrip.{length-image}
 use Rattle.machine.specs.declared.Machine.{Machine}
-use Rattle.machine.specs.declared.LoadedMachine.{LoadedMachine}
-use Rattle.machine.specs.declared.LoadedMachine.TheVariants.{Good}
-use Rattle.machine.specs.declared.RunAnswer.{RunAnswer}
-use Rattle.machine.specs.declared.RunAnswer.TheVariants as many
-use Rattle.machine.specs.declared.registers.WroteRegister.{WroteRegister}
-use Rattle.machine.specs.declared.registers.WroteRegister.TheVariants as wrote
 use Rattle.machine.specs.State.{fresh}
 use Rattle.machine.specs.Saved.{fields_of, tail_of, loaded_as, load_of}
 use Rattle.machine.specs.Registers.{write_of}
@@ -51,7 +46,7 @@ use Rattle.chain_calls.proofs.OfCalls.{loads-as, written_over_lem, run_as, runs_
 
 -- bytes that load keep the rules
 rules-kept : (f : Fields) (t : Tail) (size rules : Bool) (n : ℕ) {m : Machine}
-    → loaded_as t (cond size (cond rules (read.Good f) (read.Refused (BadImage n))) (read.Refused BadSize)) ≡ Good m → not rules ≡ false
+    → loaded_as t (cond size (cond rules (Ok f) (Err (BadImage n))) (Err BadSize)) ≡ Ok m → not rules ≡ false
 rules-kept f t true true n e = refl
 rules-kept f t true false n e = absurd (let z : ◌≡◌ {A = ℕ} 0 1 = cc in omega arith)
 rules-kept f t false rules n e = absurd (let z : ◌≡◌ {A = ℕ} 0 1 = cc in omega arith)
@@ -59,7 +54,7 @@ rules-kept f t false rules n e = absurd (let z : ◌≡◌ {A = ℕ} 0 1 = cc in
 loads-back : {xs : List ℕ} {m : Machine} → Met m → xs ≡ image_of m → LoadsBack xs
 unfolding load_of image.read_of
 loads-back {xs} {m} h e =
-    let l : load_of xs ≡ Good m = ap load_of e ∙ loads-as h in
+    let l : load_of xs ≡ Ok m = ap load_of e ∙ loads-as h in
     record { machine = m; met = h; image = e; loads = l; not_8 = rules-kept (fields xs) (tail xs) (sized xs) (keeps_rules (fields xs) (tail xs)) _ l }
 
 -- ---- each way to come by one
@@ -77,40 +72,40 @@ created-back {xs} {mode = mode} {base} {length} c =
     loads-back (met.fresh (mode_of mode) w (limits-kept (sized xs) (leb mode 2) (keeps_limits base length) c.number))
     (c.image_after ∙ ap (λ (n : ℕ). if_done n (image_of (fresh (mode_of mode) w)) xs) (sym c.number))
 
-loaded-back : {xs : List ℕ} {m : Machine} → AllBytes xs → load_of xs ≡ Good m → LoadsBack xs
+loaded-back : {xs : List ℕ} {m : Machine} → AllBytes xs → load_of xs ≡ Ok m → LoadsBack xs
 loaded-back {xs} {m} g e =
     let l = was-loaded (sym e) in
     loads-back (met.loaded l) ((loads-exactly xs m g (loaded-typed l)).0 l).1
 
 -- a write over one, done or refused
 module _ {xs ys : List ℕ} {offset v r : ℕ} (b : LoadsBack xs) (bits : v < 2 ^ 32) (w : RegisterWritten xs offset v r ys) where
-  write-back : (a : WroteRegister) → write_of b.machine offset v ≡ a → LoadsBack ys
-  write-back (wrote.Done n) e = loads-back (met.written b.met bits (was-written (sym e))) (written_over_lem b.loads e w).1
-  write-back (wrote.Refused why) e =
-      let a : written_in (load_of xs) offset v ≡ wrote.Refused why = ap (λ (x : LoadedMachine). written_in x offset v) b.loads ∙ e in
-      subst LoadsBack (sym (w.image_after ∙ ap (λ (x : WroteRegister). written_over x xs) a)) b
+  write-back : (a : Result Machine Refusal) → write_of b.machine offset v ≡ a → LoadsBack ys
+  write-back (Ok n) e = loads-back (met.written b.met bits (was-written (sym e))) (written_over_lem b.loads e w).1
+  write-back (Err why) e =
+      let a : written_in (load_of xs) offset v ≡ Err why = ap (λ (x : Result Machine Refusal). written_in x offset v) b.loads ∙ e in
+      subst LoadsBack (sym (w.image_after ∙ ap (λ (x : Result Machine Refusal). written_over x xs) a)) b
 
 -- a run over one, done or refused
 module _ {x : RunLent} {y : RunLeft} (b : LoadsBack x.image) (window : AllBytes x.lent.window) (beats : AllBytes x.lent.beats)
     (p : Promised x y) where
-  abbrev call : RunAnswer
+  abbrev call : Result Ran Refusal
   call = run_call x.image x.lent x.budget x.report
 
   size : length x.image ≡ 85
   size = ap length b.image ∙ length-image (fields_of b.machine.core) (tail_of b.machine)
 
-  refused-back : {why : Refusal} → call ≡ many.Refused why → LoadsBack y.image
-  refused-back e = subst LoadsBack (sym (p.image_after ∙ ap (λ (a : RunAnswer). ran_over a x.image) e)) b
+  refused-back : {why : Refusal} → call ≡ Err why → LoadsBack y.image
+  refused-back e = subst LoadsBack (sym (p.image_after ∙ ap (λ (a : Result Ran Refusal). ran_over a x.image) e)) b
 
   module _ (report_size : length x.report ≡ 18) where
-    run-back : (a : RunAnswer) → run_as x size report_size b.loads ≡ a → LoadsBack y.image
-    run-back (many.Done r) e =
-        let h : HasRun b.machine x.lent x.budget (many.Done r) y.back =
-        subst (λ (a : RunAnswer). HasRun b.machine x.lent x.budget a y.back) e
+    run-back : (a : Result Ran Refusal) → run_as x size report_size b.loads ≡ a → LoadsBack y.image
+    run-back (Ok r) e =
+        let h : HasRun b.machine x.lent x.budget (Ok r) y.back =
+        subst (λ (a : Result Ran Refusal). HasRun b.machine x.lent x.budget a y.back) e
         (has-run x size report_size b.loads y p) in
         loads-back (met.ran b.met window beats h)
-        (p.image_after ∙ ap (λ (a : RunAnswer). ran_over a x.image) (runs_as x size report_size b.loads ∙ e))
-    run-back (many.Refused why) e = refused-back (runs_as x size report_size b.loads ∙ e)
+        (p.image_after ∙ ap (λ (a : Result Ran Refusal). ran_over a x.image) (runs_as x size report_size b.loads ∙ e))
+    run-back (Err why) e = refused-back (runs_as x size report_size b.loads ∙ e)
 
   by-report : (k : Bool) → is_size 18 x.report ≡ k → LoadsBack y.image
   unfolding run_call

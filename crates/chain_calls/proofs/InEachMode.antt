@@ -1,5 +1,7 @@
 -- The chain theorem of the C calls, in each mode, from that of the methods.
 -- Assumes nothing.
+use Rattle.bus.specs.Refusal.{answer_number}
+use Rattle.std.specs.Prelude.{Result, Ok}
 use Prim.Native.Nat.{ℕ, ◌+◌, ◌≤◌, ◌<◌}
 use mathlib.Core.Path.{◌≡◌, refl, sym, ap, subst, ◌∙◌}
 use mathlib.Core.List.{List, [], ◌∷◌}
@@ -11,12 +13,10 @@ use Rattle.regs.specs.declared.Mode.TheVariants.{MemoryToMemory, MemoryToStream}
 use Rattle.image.proofs.RoundTrip.{length-image}
 use Rattle.machine.specs.declared.Machine.{Machine}
 use Rattle.machine.specs.declared.Ran.{Ran}
-use Rattle.machine.specs.declared.RunAnswer.{RunAnswer}
-use Rattle.machine.specs.declared.RunAnswer.TheVariants as many
-use Rattle.machine.specs.declared.LoadedMachine.TheVariants.{Good}
+use Rattle.bus.specs.declared.Refusal.{Refusal}
 use Rattle.machine.specs.Saved.{fields_of, tail_of, load_of}
 use Rattle.machine.specs.Step.{World}
-use Rattle.machine.specs.Run.{Served, run, reason_number, served_of, ran_as, run_answer, run_number, HasRun}
+use Rattle.machine.specs.Run.{Served, run, reason_number, served_of, ran_as, run_answer, HasRun}
 use Rattle.machine.proofs.Answers.{was-written}
 use Rattle.met.specs.Met as met
 use Rattle.chain.specs.Chain.{Given, started_in, world_in, Share, cost, given}
@@ -46,10 +46,10 @@ module _ {mode : Mode} {l : Lends} {left : RunLeft} (k : ℕ) (w : WellLent l) (
   abbrev world : World
   world = world_in mode g
 
-  loaded : load_of (image_of m) ≡ Good m
+  loaded : load_of (image_of m) ≡ Ok m
   loaded = loads-as (met2 mode w)
 
-  abbrev answer : RunAnswer
+  abbrev answer : Result Ran Refusal
   answer = run_answer l.lent (served_of m l.lent) world l.budget
 
   -- the same by the methods
@@ -72,38 +72,38 @@ module _ {mode : Mode} {l : Lends} {left : RunLeft} (k : ℕ) (w : WellLent l) (
   ran = ran_as l.lent.used world (run l.budget world)
 
   -- whatever the budget it is not refused
-  done : answer ≡ many.Done ran
+  done : answer ≡ Ok ran
   done = ap (λ (x : Served). run_answer l.lent x world l.budget) (served k by-methods h)
 
-  called : run_call (image_of m) l.lent l.budget l.report ≡ many.Done ran
+  called : run_call (image_of m) l.lent l.budget l.report ≡ Ok ran
   called = runs_as (run_lent l (image_of m)) (length-image (fields_of m.core) (tail_of m)) w.report_size loaded ∙ done
 
   pub run-not-refused : left.number ≡ 0
-  run-not-refused = p.number ∙ ap run_number called
+  run-not-refused = p.number ∙ ap answer_number called
 
   -- what it leaves is what the step rule makes of the machine and the window, and the report tells of it
   pub run-memory : left.back.window ≡ (run l.budget world).world.memory
   run-memory = ends_as k by-methods h
 
   pub run-image : left.image ≡ image_of ran.machine
-  run-image = p.image_after ∙ ap (λ (a : RunAnswer). ran_over a (image_of m)) called
+  run-image = p.image_after ∙ ap (λ (a : Result Ran Refusal). ran_over a (image_of m)) called
 
   run-report : left.report
       ≡ report_bytes (reason_number ran.reason) ran.steps ran.taken ran.made ran.used
-  run-report = p.report_after ∙ ap (λ (a : RunAnswer). report_over a l.report) called
+  run-report = p.report_after ∙ ap (λ (a : Result Ran Refusal). report_over a l.report) called
 
-  run-loads : load_of left.image ≡ Good ran.machine
+  run-loads : load_of left.image ≡ Ok ran.machine
   run-loads =
       let r = by-methods.ran in
-      let made : HasRun m l.lent l.budget (many.Done ran) left.back =
-      record { answer = sym done; number = ap run_number (sym done) ∙ r.number; back = r.back } in
+      let made : HasRun m l.lent l.budget (Ok ran) left.back =
+      record { answer = sym done; number = ap answer_number (sym done) ∙ r.number; back = r.back } in
       ap load_of run-image ∙ loads-as (met.ran (met2 mode w) (are-all-bytes l.lent.window h.bytes) w.beat_bytes made)
 
   pub run-finds : 2 + cost (shares_in mode g) ≤ l.budget → FoundIn mode g l left
   run-finds b =
       let ss : List Share = shares_in mode g in
       let f : FinishedIn mode g l.lent answer left.back = finishes k by-methods h b in
-      let same : many.Done f.told ≡ many.Done ran = sym f.answer ∙ done in
+      let same : Ok f.told ≡ Ok ran = sym f.answer ∙ done in
       let o : OutcomeOf g ss ran left.back.window = subst (λ (r : Ran). OutcomeOf g ss r left.back.window) (cc) f.outcome in
       let reason : reason_number ran.reason ≡ 1 = ap reason_number o.reason in
       let row : ◌≡◌ {A = List ℕ} (reason_number ran.reason ∷ ran.steps ∷ ran.taken ∷ ran.made ∷ ran.used ∷ []) (1 ∷ (2 + cost ss) ∷ given ss ∷ length (made_by_all ss) ∷ (g.used + g.k) ∷ []) =

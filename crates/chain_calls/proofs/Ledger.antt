@@ -1,5 +1,7 @@
 -- The ledger's laws of the C calls: the image between two calls is that of a machine met in use, so the calls' session is one of its methods.
 -- Assumes nothing.
+use Rattle.bus.specs.Refusal.{answer_number}
+use Rattle.std.specs.Prelude.{Option, Some, Result, Ok, Err}
 use Prim.Native.Nat.{ℕ, ◌+◌, ◌^◌, ◌<◌}
 use mathlib.Core.Path.{◌≡◌, refl, sym, ap, subst, ◌∙◌}
 use mathlib.Core.Bool.{true}
@@ -13,13 +15,10 @@ use Rattle.regs.specs.declared.Mode.TheVariants.{StreamToMemory}
 use Rattle.ledger.specs.declared.Entry.{Entry}
 use Rattle.image.specs.Promise.{sized}
 use Rattle.machine.specs.declared.Machine.{Machine}
-use Rattle.machine.specs.declared.LoadedMachine.{LoadedMachine}
-use Rattle.machine.specs.declared.LoadedMachine.TheVariants.{Good}
-use Rattle.machine.specs.declared.registers.WroteRegister.{WroteRegister}
-use Rattle.machine.specs.declared.registers.WroteRegister.TheVariants as wrote
+use Rattle.bus.specs.declared.Refusal.{Refusal}
 use Rattle.machine.specs.State.{fresh}
 use Rattle.machine.specs.Saved.{load_of}
-use Rattle.machine.specs.Registers.{write_of, register_wrote_number}
+use Rattle.machine.specs.Registers.{write_of}
 use Rattle.machine.specs.Step.{machine_in}
 use Rattle.machine.specs.Run.{run, world_of}
 use Rattle.machine.proofs.Answers.{was-written}
@@ -31,9 +30,7 @@ use Rattle.sums.specs.Records.{Records}
 use Rattle.sums.proofs.Sessions.{session-adds}
 use Rattle.sums.proofs.Marks.{one-record-each}
 use Rattle.sgdma.specs.Calls.{image_of, if_done, Created, written_in, RegisterWritten, find_call, finding_over, RecordFound}
-use Rattle.ledger.specs.declared.Finding.{Finding}
-use Rattle.ledger.specs.declared.Finding.TheVariants.{Found}
-use Rattle.ledger.specs.Finding.{finding_in, finding_number}
+use Rattle.ledger.specs.Finding.{finding_in}
 use Rattle.answers.specs.Answers.{finding_bytes}
 use Rattle.chain.specs.Chain.{Given}
 use Rattle.chain.specs.Modes.{shares_in}
@@ -51,8 +48,8 @@ use Rattle.chain_calls.proofs.Done as done
 use Rattle.chain_calls.proofs.Images.{limits-kept}
 
 -- bytes load as one machine
-pub one-machine : (xs : List ℕ) {m n : Machine} → load_of xs ≡ Good m → load_of xs ≡ Good n → m ≡ n
-one-machine xs {m} {n} e f = let same : Good m ≡ Good n = sym e ∙ f in cc
+pub one-machine : (xs : List ℕ) {m n : Machine} → load_of xs ≡ Ok m → load_of xs ≡ Ok n → m ≡ n
+one-machine xs {m} {n} e f = let same : Ok m ≡ Ok n = sym e ∙ f in cc
 
 -- ---- one call
 
@@ -79,7 +76,7 @@ record Behind (image before ledger : List ℕ) (used : ℕ) (rs : List Entry) (t
   session : Session machine before ledger used rs t l
 
 loads-behind : {image before ledger : List ℕ} {used : ℕ} {rs : List Entry} {t l : ℕ} → (b : Behind image before ledger used rs t l)
-    → load_of image ≡ Good b.machine
+    → load_of image ≡ Ok b.machine
 loads-behind b = ap load_of b.image_is ∙ loads-as b.met
 
 created-behind : {xs ys : List ℕ} {base length : ℕ} (ledger : List ℕ) → Created xs 2 base length 0 ys → Behind ys ledger ledger 0 [] 0 0
@@ -94,18 +91,18 @@ created-behind {xs} {base = base} {length} ledger c =
 
 module _ {xs ys before ledger : List ℕ} {rs : List Entry} {used t l offset v : ℕ} (b : Behind xs before ledger used rs t l)
     (bits : v < 2 ^ 32) (w : RegisterWritten xs offset v 0 ys) where
-  written_behind : (a : WroteRegister) → write_of b.machine offset v ≡ a
+  written_behind : (a : Result Machine Refusal) → write_of b.machine offset v ≡ a
       → Behind ys before ledger used rs t (l + abandoned b.machine offset v)
-  written_behind (wrote.Done n) e =
+  written_behind (Ok n) e =
       record {
         machine = n;
         met = met.written b.met bits (was-written (sym e));
         image_is = (written_over_lem (loads-behind b) e w).1;
         session = sum.written b.session (was-written (sym e));
       }
-  written_behind (wrote.Refused why) e =
-      let a : written_in (load_of xs) offset v ≡ wrote.Refused why = ap (λ (x : LoadedMachine). written_in x offset v) (loads-behind b) ∙ e in
-      absurd (refused-not-done why (sym (w.number ∙ ap register_wrote_number a)))
+  written_behind (Err why) e =
+      let a : written_in (load_of xs) offset v ≡ Err why = ap (λ (x : Result Machine Refusal). written_in x offset v) (loads-behind b) ∙ e in
+      absurd (refused-not-done why (sym (w.number ∙ ap answer_number a)))
 
 -- after a run of the machine m
 abbrev BehindRun : RunLent → RunLeft → (before : List ℕ) → List Entry → (t l : ℕ) → Machine → Type 0
@@ -160,12 +157,12 @@ session-adds-in-c image before ledger used rs t l s =
 
 -- a descriptor that is found, by the call
 found-by-call : (ledger : List ℕ) (used run address count : ℕ) (answer : List ℕ) → length answer ≡ 4
-    → finding_in ledger used run address ≡ Found count
+    → finding_in ledger used run address ≡ Ok (Some count)
     → (r : ℕ) (answer' : List ℕ) → RecordFound ledger used run address answer r answer' → (r ≡ 0) × (answer' ≡ finding_bytes true count)
 unfolding find_call
 found-by-call ledger used run address count answer size e r answer' f =
-    let call : find_call ledger used run address answer ≡ Found count = rw (eq-eqb (length answer) 4 size) e in
-    (f.number ∙ ap finding_number call, f.answer_after ∙ ap (λ (x : Finding). finding_over x answer) call)
+    let call : find_call ledger used run address answer ≡ Ok (Some count) = rw (eq-eqb (length answer) 4 size) e in
+    (f.number ∙ ap (answer_number {A = Option ℕ}) call, f.answer_after ∙ ap (λ (x : Result (Option ℕ) Refusal). finding_over x answer) call)
 
 pub each-found-in-each-mode : EachFoundInEachMode
 each-found-in-each-mode mode l created pointed started left k c w h n answer size =

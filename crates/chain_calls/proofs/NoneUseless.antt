@@ -1,5 +1,6 @@
 -- None of the useless models keeps the promise of sgdma_run, though it can be kept.
 -- Assumes nothing.
+use Rattle.std.specs.Prelude.{Ok}
 use Prim.Native.Nat.{ℕ}
 use mathlib.Core.Path.{◌≡◌, refl, sym, ap, ◌∙◌}
 use mathlib.Core.List.{List}
@@ -7,7 +8,6 @@ use native.Mathlib.Omega.{arith}
 use lib.ListN.{length, get_or}
 use Rattle.descriptor.specs.Layout.{bytes_for, descriptor_at}
 use Rattle.image.proofs.RoundTrip.{length-image}
-use Rattle.machine.specs.declared.LoadedMachine.TheVariants.{Good}
 use Rattle.machine.specs.Saved.{fields_of, tail_of, WasLoaded}
 use Rattle.ledger.specs.Records.{capacity}
 use Rattle.machine.proofs.Answers.{was-loaded}
@@ -90,7 +90,7 @@ marker-fails f o k =
 -- what is lent to a call that is not refused, as it is accepted
 abbrev accepted : {x : RunLent} → NotRefused x → Accepted x
 accepted {x} d =
-    let l : WasLoaded x.image (Good d.machine) = was-loaded (sym d.loads) in
+    let l : WasLoaded x.image (Ok d.machine) = was-loaded (sym d.loads) in
     record {
       machine = d.machine;
       size = ap length ((loads-exactly x.image d.machine d.bytes.image (loaded-typed l)).0 l).1

@@ -1,6 +1,8 @@
 -- One C call over the image of a machine, and the machine between the calls of a chain: the image between two calls is that of a machine met in
 -- use, and loads back as it. So what the calls promise over images is what the methods promise over machines.
 -- Assumes nothing.
+use Rattle.bus.specs.Refusal.{answer_number}
+use Rattle.std.specs.Prelude.{Result, Ok}
 use Prim.Native.Nat.{ℕ, ◌<◌}
 use mathlib.Core.Path.{◌≡◌, refl, sym, ap, subst, ◌∙◌}
 use mathlib.Core.Bool.{true}
@@ -13,14 +15,11 @@ use Rattle.regs.specs.declared.Mode.{Mode}
 use Rattle.regs.specs.declared.Mode.TheVariants.{MemoryToMemory, MemoryToStream, StreamToMemory}
 use Rattle.regs.specs.Modes.{mode_number, mode_of}
 use Rattle.machine.specs.declared.Machine.{Machine}
-use Rattle.machine.specs.declared.RunAnswer.{RunAnswer}
-use Rattle.machine.specs.declared.LoadedMachine.{LoadedMachine}
-use Rattle.machine.specs.declared.LoadedMachine.TheVariants.{Good}
-use Rattle.machine.specs.declared.registers.WroteRegister.{WroteRegister}
-use Rattle.machine.specs.declared.registers.WroteRegister.TheVariants as wrote
+use Rattle.bus.specs.declared.Refusal.{Refusal}
+use Rattle.machine.specs.declared.Ran.{Ran}
 use Rattle.machine.specs.State.{fresh}
 use Rattle.machine.specs.Saved.{load_of}
-use Rattle.machine.specs.Registers.{written_to, write_of, register_wrote_number}
+use Rattle.machine.specs.Registers.{written_to, write_of}
 use Rattle.machine.specs.Run.{served_of, world_of, run_answer, HasRun}
 use Rattle.machine.proofs.Answers.{was-written, run-number}
 use Rattle.met.specs.Met.{Met}
@@ -41,33 +40,33 @@ are-all-bytes (x ∷ xs) h = (h.0, are-all-bytes xs h.1)
 -- ---- one call over the image of a machine
 
 -- the image of a machine met in use loads as it
-pub loads-as : {m : Machine} → Met m → load_of (image_of m) ≡ Good m
+pub loads-as : {m : Machine} → Met m → load_of (image_of m) ≡ Ok m
 loads-as {m} h = loads m (met-sound h).typed (met-sound h).rules
 
 -- a write that a machine does not refuse, over its image
 pub written_over_lem : {xs ys : List ℕ} {m n : Machine} {offset v r : ℕ}
-    → load_of xs ≡ Good m → write_of m offset v ≡ wrote.Done n → RegisterWritten xs offset v r ys → (r ≡ 0) × (ys ≡ image_of n)
+    → load_of xs ≡ Ok m → write_of m offset v ≡ Ok n → RegisterWritten xs offset v r ys → (r ≡ 0) × (ys ≡ image_of n)
 written_over_lem {xs} {ys} {m} {n} {offset} {v} e d w =
-    let a : written_in (load_of xs) offset v ≡ wrote.Done n = ap (λ (x : LoadedMachine). written_in x offset v) e ∙ d in
-    (w.number ∙ ap register_wrote_number a, w.image_after ∙ ap (λ (x : WroteRegister). written_over x xs) a)
+    let a : written_in (load_of xs) offset v ≡ Ok n = ap (λ (x : Result Machine Refusal). written_in x offset v) e ∙ d in
+    (w.number ∙ ap answer_number a, w.image_after ∙ ap (λ (x : Result Machine Refusal). written_over x xs) a)
 
 -- a run over an image that loads is the machine's run
-module _ (x : RunLent) {m : Machine} (size : length x.image ≡ 85) (report_size : length x.report ≡ 18) (e : load_of x.image ≡ Good m) where
-  abbrev pub run_as : RunAnswer
+module _ (x : RunLent) {m : Machine} (size : length x.image ≡ 85) (report_size : length x.report ≡ 18) (e : load_of x.image ≡ Ok m) where
+  abbrev pub run_as : Result Ran Refusal
   run_as = run_answer x.lent (served_of m x.lent) (world_of m x.lent) x.budget
 
   pub runs_as : run_call x.image x.lent x.budget x.report ≡ run_as
   unfolding run_call
   runs_as =
       sizes-right _ _ 18 x.image x.report size report_size
-      ∙ ap (λ (y : LoadedMachine). run_in y x.lent x.budget) e
+      ∙ ap (λ (y : Result Machine Refusal). run_in y x.lent x.budget) e
 
   pub has-run : (y : RunLeft) → Promised x y → HasRun m x.lent x.budget run_as y.back
   has-run y p =
       record {
         answer = refl;
         number = run-number x.lent (served_of m x.lent) _ x.budget;
-        back = p.back ∙ sizes-right _ _ 18 x.image x.report size report_size ∙ ap (λ (y : LoadedMachine). returned_in y x.lent x.budget) e;
+        back = p.back ∙ sizes-right _ _ 18 x.image x.report size report_size ∙ ap (λ (y : Result Machine Refusal). returned_in y x.lent x.budget) e;
       }
 
 -- ---- the machine between the calls
@@ -92,10 +91,10 @@ module _ (mode : Mode) {l : Lends} (w : WellLent l) where
   abbrev pub m2 : Machine
   m2 = written_to m1 4 l.control
 
-  pub pointed-as : write_of m0 8 l.pointer ≡ wrote.Done m1
+  pub pointed-as : write_of m0 8 l.pointer ≡ Ok m1
   pointed-as = pointer-done mode l.window w.limits l.pointer (was-written refl)
 
-  pub started-as : write_of m1 4 l.control ≡ wrote.Done m2
+  pub started-as : write_of m1 4 l.control ≡ Ok m2
   started-as = control-done mode l.window w.limits l.pointer l.control (was-written refl)
 
   met0 : Met m0

@@ -26,7 +26,7 @@ use Rattle.machine.specs.Saved.{fields_of, tail_of, keeps}
 use Rattle.machine.specs.Step.{World, laid, noted, machine_in, holding}
 use Rattle.machine.specs.Run.{Report, run, reason_number, Lent, serves, even, served_of, taken_since, output_over, ledger_over}
 use Rattle.machine.specs.Laws.{Passed, on_top}
-use Rattle.machine.proofs.Streams.{beat-bytes-append}
+use Rattle.machine.proofs.Beats.{beat-bytes-append}
 use Rattle.machine.proofs.RunLaws.{run-add, run-tells, run-input}
 use Rattle.machine.proofs.Outcomes.{serves-good}
 use Rattle.met.specs.Met.{Met}

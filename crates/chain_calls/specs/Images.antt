@@ -1,11 +1,10 @@
 -- The paper's "Every machine met in use, from a fresh or a loaded one, saves to an image that loads back as it", of the C calls: the
 -- images that a caller comes by, and what is said of each. The theorem is `images-load`.
 -- Assumes nothing.
-use Rattle.std.specs.Prelude.{ℕ, ◌^◌, ◌<◌, ◌≡◌, false, List, length}
+use Rattle.std.specs.Prelude.{ℕ, ◌^◌, ◌<◌, ◌≡◌, false, List, length, Ok}
 use Rattle.words.specs.Slices.{AllBytes}
 use Rattle.image.specs.Editions.{ImageMoved}
 use Rattle.machine.specs.declared.Machine.{Machine}
-use Rattle.machine.specs.declared.LoadedMachine.TheVariants.{Good}
 use Rattle.machine.specs.Saved.{load_of}
 use Rattle.met.specs.Met.{Met}
 use Rattle.sgdma.specs.Calls.{image_of, Created, RegisterWritten}
@@ -17,7 +16,7 @@ use Rattle.chain_calls.specs.Refused.{bad_image}
 -- any edition, and gave back 0. The other calls write no image. A value written is a number of 32 bits, and what is lent is bytes
 pub data InUse : List ℕ → Type 0 where
   created : {xs ys : List ℕ} {mode base length : ℕ} → Created xs mode base length 0 ys → InUse ys
-  loaded : {xs : List ℕ} {m : Machine} → AllBytes xs → load_of xs ≡ Good m → InUse xs
+  loaded : {xs : List ℕ} {m : Machine} → AllBytes xs → load_of xs ≡ Ok m → InUse xs
   written : {xs ys : List ℕ} {offset v r : ℕ} → InUse xs → v < 2 ^ 32 → RegisterWritten xs offset v r ys → InUse ys
   ran : {x : RunLent} {y : RunLeft} → InUse x.image → AllBytes x.lent.window → AllBytes x.lent.beats → Promised x y → InUse y.image
   moved : (xs to : List ℕ) {ys : List ℕ} → AllBytes xs → length to ≡ 85 → ImageMoved xs to 0 ys → InUse ys
@@ -27,5 +26,5 @@ pub record LoadsBack (xs : List ℕ) : Type 0 where
   pub machine : Machine
   pub met : Met machine
   pub image : xs ≡ image_of machine
-  pub loads : load_of xs ≡ Good machine
+  pub loads : load_of xs ≡ Ok machine
   pub not_8 : (bad_image xs).applies ≡ false

@@ -3,7 +3,7 @@
 -- `of-calls-in-each-mode` and `of-calls-in-each-mode-at-every-step`, and of demand 3 `none-refused`, `chain-of-calls` and
 -- `chain-of-calls-at-every-step`.
 -- Assumes nothing.
-use Rattle.std.specs.Prelude.{ℕ, ◌+◌, ◌^◌, ◌<◌, ◌≡◌, true, List, [], ◌∷◌, length, take}
+use Rattle.std.specs.Prelude.{ℕ, ◌+◌, ◌^◌, ◌<◌, ◌≡◌, true, List, [], ◌∷◌, length, take, Ok}
 use Rattle.words.specs.declared.Order.TheVariants.{MostFirst}
 use Rattle.words.specs.Orders.{row_bytes}
 use Rattle.words.specs.Slices.{AllBytes}
@@ -14,7 +14,6 @@ use Rattle.ledger.specs.Records.{is_ledger}
 use Rattle.bus.specs.declared.Window.{Window}
 use Rattle.bus.specs.Window.{keeps_limits}
 use Rattle.machine.specs.declared.Ran.{Ran}
-use Rattle.machine.specs.declared.LoadedMachine.TheVariants.{Good}
 use Rattle.machine.specs.Saved.{load_of}
 use Rattle.machine.specs.Step.{World, machine_in}
 use Rattle.machine.specs.Run.{run, Lent, Returned, even, ran_as}
@@ -116,7 +115,7 @@ pub record FoundIn (mode : Mode) (g : Given) (l : Lends) (left : RunLeft) : Type
       ≡ report_bytes 1 (2 + cost (shares_in mode g)) (given (shares_in mode g)) (length (made_by_all (shares_in mode g))) (g.used + g.k)
   -- the image is that of the machine after the run, and loads back as it
   pub image : left.image ≡ image_of told.machine
-  pub loads : load_of left.image ≡ Good told.machine
+  pub loads : load_of left.image ≡ Ok told.machine
   -- the beats made stand in front of the lent output, and the rest of it is as it was
   pub output : left.back.out ≡ in_front (made_by_all (shares_in mode g)) l.lent.out
   -- the records of the k stand behind those used, and no other byte of the ledger differs
@@ -133,7 +132,7 @@ pub record Found (g : Given) (l : Lends) (left : RunLeft) : Type 0 where
       ≡ report_bytes 1 (2 + cost (shares g)) (given (shares g)) 0 (g.used + g.k)
   -- the image is that of the machine after the run, and loads back as it
   pub image : left.image ≡ image_of told.machine
-  pub loads : load_of left.image ≡ Good told.machine
+  pub loads : load_of left.image ≡ Ok told.machine
   -- the lent output is as it was
   pub output : left.back.out ≡ l.lent.out
   -- the records of the k stand behind those used, and no other byte of the ledger differs
@@ -150,7 +149,7 @@ pub record FoundEveryStep (w : World) (ss : List Share) (l : Lends) (left : RunL
   pub first_few : FirstFew l.window l.lent.window ss left.back.window
   -- the image is that of the machine after so many steps of the run, and loads back as it
   pub image : left.image ≡ image_of (machine_in (run l.budget w).world)
-  pub loads : load_of left.image ≡ Good (machine_in (run l.budget w).world)
+  pub loads : load_of left.image ≡ Ok (machine_in (run l.budget w).world)
   -- one that is not enough is spent: the report begins with reason 6, Budget, and as many steps
   pub spent : l.budget < 2 + cost ss → take 6 left.report ≡ row_bytes MostFirst (take 2 report_widths) (6 ∷ l.budget ∷ [])
 

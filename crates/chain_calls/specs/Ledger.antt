@@ -1,12 +1,11 @@
 -- Order 6 of the C calls: what sgdma_run leaves in the ledger, and its sum over calls. The theorems are `one-record-each-in-c` and
 -- `session-adds-in-c`.
 -- Assumes nothing.
-use Rattle.std.specs.Prelude.{ℕ, ◌+◌, ◌*◌, ◌^◌, ◌<◌, ◌≡◌, List, [], ◌++◌, length}
+use Rattle.std.specs.Prelude.{ℕ, ◌+◌, ◌*◌, ◌^◌, ◌<◌, ◌≡◌, List, [], ◌++◌, length, Ok}
 use Rattle.words.specs.Slices.{put}
 use Rattle.ledger.specs.declared.Entry.{Entry}
 use Rattle.ledger.specs.Records.{ledger_bytes}
 use Rattle.machine.specs.declared.Machine.{Machine}
-use Rattle.machine.specs.declared.LoadedMachine.TheVariants.{Good}
 use Rattle.machine.specs.Saved.{load_of}
 use Rattle.machine.specs.Run.{run, world_of}
 use Rattle.sums.specs.Records.{Records}
@@ -33,9 +32,9 @@ pub record OneEachInC (m : Machine) (x : RunLent) (y : RunLeft) : Type 0 where
 pub data SessionInC : (image before ledger : List ℕ) (used : ℕ) → List Entry → (taken lost : ℕ) → Type 0 where
   begins : {xs ys : List ℕ} {base length : ℕ} (ledger : List ℕ) → Created xs 2 base length 0 ys → SessionInC ys ledger ledger 0 [] 0 0
   written : {xs ys before ledger : List ℕ} {rs : List Entry} {used t l offset v : ℕ} {m : Machine} → SessionInC xs before ledger used rs t l
-      → load_of xs ≡ Good m → v < 2 ^ 32 → RegisterWritten xs offset v 0 ys → SessionInC ys before ledger used rs t (l + abandoned m offset v)
+      → load_of xs ≡ Ok m → v < 2 ^ 32 → RegisterWritten xs offset v 0 ys → SessionInC ys before ledger used rs t (l + abandoned m offset v)
   ran : {x : RunLent} {y : RunLeft} {before : List ℕ} {rs : List Entry} {t l : ℕ} {m : Machine}
-      → SessionInC x.image before x.lent.ledger x.lent.used rs t l → load_of x.image ≡ Good m → InBytes x → Promised x y
+      → SessionInC x.image before x.lent.ledger x.lent.used rs t l → load_of x.image ≡ Ok m → InBytes x → Promised x y
       → y.number ≡ 0
       → SessionInC y.image before y.back.ledger (used_told y.report) (rs ++ (run x.budget (world_of m x.lent)).world.records)
       (t + taken_told y.report) (l + lost_in x.budget (world_of m x.lent))
@@ -43,5 +42,5 @@ pub data SessionInC : (image before ledger : List ℕ) (used : ℕ) → List Ent
 -- what is said of it: the image loads, and it adds up with the machine that it loads as
 pub record AddsInC (image before ledger : List ℕ) (used : ℕ) (rs : List Entry) (taken lost : ℕ) : Type 0 where
   pub machine : Machine
-  pub loads : load_of image ≡ Good machine
+  pub loads : load_of image ≡ Ok machine
   pub adds : Adds machine before ledger used rs taken lost

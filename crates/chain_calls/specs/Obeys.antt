@@ -1,12 +1,11 @@
 -- Order 9 of the C calls: control is written with RUN clear, one run is made, and status is read. The theorem is `obeys-in-c`.
 -- Assumes nothing.
-use Rattle.std.specs.Prelude.{ℕ, ◌^◌, ◌≤◌, ◌<◌, ◌≡◌, ◌⊎◌, false, List, length}
+use Rattle.std.specs.Prelude.{ℕ, ◌^◌, ◌≤◌, ◌<◌, ◌≡◌, ◌⊎◌, false, List, length, Ok}
 use Rattle.words.specs.declared.Order.TheVariants.{MostFirst}
 use Rattle.words.specs.Bits.{bit}
 use Rattle.words.specs.Orders.{number_of}
 use Rattle.regs.specs.Control as control
 use Rattle.machine.specs.declared.Machine.{Machine}
-use Rattle.machine.specs.declared.LoadedMachine.TheVariants.{Good}
 use Rattle.machine.specs.Saved.{load_of}
 use Rattle.machine.specs.Run.{world_of}
 use Rattle.met.specs.Obeys.{Supplied}
@@ -25,7 +24,7 @@ pub record Cleared (xs : List ℕ) (v : ℕ) (x : RunLent) (y : RunLeft) (value 
   pub written : RegisterWritten xs 4 v 0 x.image
   pub lent : InBytes x
   pub machine : Machine
-  pub loads : load_of x.image ≡ Good machine
+  pub loads : load_of x.image ≡ Ok machine
   pub supplied : Supplied (world_of machine x.lent)
   pub budget : 65536 ≤ x.budget
   pub ran : Promised x y

@@ -1,6 +1,6 @@
 -- What is proved of the C calls: each theorem's whole statement, under its name. A term of each stands in proofs/.
 -- Assumes nothing.
-use Rattle.std.specs.Prelude.{ℕ, ◌+◌, ◌^◌, ◌≤◌, ◌<◌, ◌≡◌, true, List, length}
+use Rattle.std.specs.Prelude.{ℕ, ◌+◌, ◌^◌, ◌≤◌, ◌<◌, ◌≡◌, true, List, length, Ok}
 use Rattle.words.specs.Promise.{Answers}
 use Rattle.descriptor.specs.declared.Job.{Job}
 use Rattle.regs.specs.declared.Mode.{Mode}
@@ -9,7 +9,6 @@ use Rattle.ledger.specs.declared.Entry.{Entry}
 use Rattle.image.specs.Editions.{ImageMoved}
 use Rattle.links.specs.Calls.{ChainChecked, ChainMended}
 use Rattle.machine.specs.declared.Machine.{Machine}
-use Rattle.machine.specs.declared.LoadedMachine.TheVariants.{Good}
 use Rattle.machine.specs.Saved.{load_of}
 use Rattle.machine.specs.Run.{Lent, Returned, as_lent}
 use Rattle.answers.specs.Answers.{finding_bytes}
@@ -305,7 +304,7 @@ TwoRunsAdd = (x : RunLent) (b : ℕ) (report : List ℕ) (first second one : Run
 
 -- A write-back and a record are one, of sgdma_run: see `OneRecordEach`.
 abbrev pub OneRecordEachInC : Type 0
-OneRecordEachInC = (m : Machine) (x : RunLent) (y : RunLeft) → load_of x.image ≡ Good m → InBytes x → Promised x y → y.number ≡ 0
+OneRecordEachInC = (m : Machine) (x : RunLent) (y : RunLeft) → load_of x.image ≡ Ok m → InBytes x → Promised x y → y.number ≡ 0
     → OneEachInC m x y
 
 -- The ledger's law, of sgdma_create, sgdma_write_register and sgdma_run: see `SessionAdds`.

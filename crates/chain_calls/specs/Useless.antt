@@ -1,13 +1,13 @@
 -- The paper's useless models, and one more, as models of sgdma_run. That none of them keeps the promise of sgdma_run is `refuser-fails`,
 -- `fixed-fails`, `never-moving-fails`, `marker-fails`, `made-up-fails` and `unrecorded-fails`; that it can be kept is `honest-keeps`.
 -- Assumes nothing.
-use Rattle.std.specs.Prelude.{ℕ, ◌+◌, ◌^◌, ◌<◌, ◌≡◌, ◌≢◌, cond, ◌&&◌, List, length, get_or, take}
+use Rattle.bus.specs.Refusal.{answer_number}
+use Rattle.std.specs.Prelude.{ℕ, ◌+◌, ◌^◌, ◌<◌, ◌≡◌, ◌≢◌, cond, ◌&&◌, List, length, get_or, take, Ok}
 use Rattle.words.specs.Slices.{AllBytes}
 use Rattle.image.specs.Promise.{sized}
 use Rattle.machine.specs.declared.Machine.{Machine}
-use Rattle.machine.specs.declared.LoadedMachine.TheVariants.{Good}
 use Rattle.machine.specs.Saved.{load_of}
-use Rattle.machine.specs.Run.{Report, run, as_lent, serves, served_of, world_of, run_number}
+use Rattle.machine.specs.Run.{Report, run, as_lent, serves, served_of, world_of}
 use Rattle.links.specs.Form.{All}
 use Rattle.chain.specs.Chain.{machine_for, links, Share, shares, Sent, sent_by_all, Premises}
 use Rattle.sgdma.specs.Calls.{image_of, is_size, run_call, ran_over, report_over, returned_in}
@@ -38,7 +38,7 @@ abbrev pub honest : Model
 honest x =
     let answer = run_call x.image x.lent x.budget x.report in
     record {
-      number = run_number answer;
+      number = answer_number answer;
       image = ran_over answer x.image;
       back = cond (sized x.image && is_size 18 x.report) (returned_in (load_of x.image) x.lent x.budget) (as_lent x.lent);
       report = report_over answer x.report;
@@ -79,7 +79,7 @@ OnlyMarksTheOthers f = (l : Lends) (k : ℕ) → WellLent l → Premises (given_
 pub record NotRefused (x : RunLent) : Type 0 where
   pub bytes : InBytes x
   pub machine : Machine
-  pub loads : load_of x.image ≡ Good machine
+  pub loads : load_of x.image ≡ Ok machine
   pub report_size : length x.report ≡ 18
   pub served : served_of machine x.lent ≡ serves
 

@@ -1,5 +1,6 @@
 -- The look at an address, by the tests that led there; and its bytes, as the fields that they name.
 -- Assumes nothing.
+use Rattle.std.specs.Prelude.{Result, Ok, Err, Option, Some, None}
 use Prim.Native.Nat.{ℕ, ◌+◌, ◌*◌, ◌/◌, ◌%◌, ◌^◌, ◌≤◌, ◌<◌}
 use mathlib.Core.Path.{◌≡◌, refl, sym, ap, subst, ◌∙◌}
 use mathlib.Core.Bool.{Bool, true, false, cond, ◌&&◌, true≢false}
@@ -21,53 +22,49 @@ use Rattle.words.proofs.Orders.{length-order, row-bytes, row_back, row-there, nu
 use Rattle.words.proofs.Slices.{row_from, number-in-part}
 use Rattle.bus.specs.declared.Window.{Window}
 use Rattle.bus.specs.declared.Place.{Place}
-use Rattle.bus.specs.declared.Located.{Located}
-use Rattle.bus.specs.declared.Located.TheVariants as located
+use Rattle.descriptor.specs.declared.Miss.{Miss}
+use Rattle.descriptor.specs.declared.Miss.TheVariants as miss
 use Rattle.bus.specs.Window.{in_window, place_of, located_of}
 use Rattle.bus.proofs.Limits.{located-is}
 use Rattle.descriptor.specs.declared.Descriptor.{Descriptor}
-use Rattle.descriptor.specs.declared.Spot.{Spot}
-use Rattle.descriptor.specs.declared.Spot.TheVariants.{Misaligned, At}
 use Rattle.descriptor.specs.declared.Raw.{Raw}
-use Rattle.descriptor.specs.declared.Look.{Look}
-use Rattle.descriptor.specs.declared.Look.TheVariants as look
 use Rattle.descriptor.specs.Layout.{descriptor_of, descriptor_at}
 use Rattle.descriptor.specs.Looking.{placed, spot_of, four_words, raw_from, raw_of, raw_words, raw_bytes, is_zero, WordsFit, named_in, raw_at, look_in, look_at}
 
 -- ---- where its bytes stand
 
 module _ (w : Window) (a : ℕ) where
-  pub spot-misaligned : eqb (a % 4) 0 ≡ false → spot_of w a ≡ Misaligned
+  pub spot-misaligned : eqb (a % 4) 0 ≡ false → spot_of w a ≡ (Err miss.Misaligned)
   unfolding spot_of
   spot-misaligned h = rw h
 
-  pub spot-aligned : eqb (a % 4) 0 ≡ true → {l : Located} → located_of w a 32 ≡ l → spot_of w a ≡ placed l
+  pub spot-aligned : eqb (a % 4) 0 ≡ true → {l : Option Place} → located_of w a 32 ≡ l → spot_of w a ≡ placed l
   unfolding spot_of
   spot-aligned h e = rw (h, e)
 
-  placed-is : (p : Place) (l : Located) → located_of w a 32 ≡ l → placed l ≡ At p → located_of w a 32 ≡ located.At p
-  placed-is p (located.At q) e f = let same : located.At q ≡ located.At p = cc in e ∙ same
-  placed-is p located.Outside e f = absurd (let z : ◌≡◌ {A = ℕ} 0 1 = cc in omega arith)
+  placed-is : (p : Place) (l : Option Place) → located_of w a 32 ≡ l → placed l ≡ Ok p → located_of w a 32 ≡ Some p
+  placed-is p (Some q) e f = let same : Some q ≡ Some p = cc in e ∙ same
+  placed-is p None e f = absurd (let z : ◌≡◌ {A = ℕ} 0 1 = cc in omega arith)
 
-  aligned-is : (p : Place) (t : Bool) → cond t (placed (located_of w a 32)) Misaligned ≡ At p → located_of w a 32 ≡ located.At p
+  aligned-is : (p : Place) (t : Bool) → cond t (placed (located_of w a 32)) (Err miss.Misaligned) ≡ Ok p → located_of w a 32 ≡ Some p
   aligned-is p true e = placed-is p (located_of w a 32) refl e
   aligned-is p false e = absurd (let z : ◌≡◌ {A = ℕ} 0 1 = cc in omega arith)
 
   -- a spot that was found is the address less the base, and its 32 bytes stand within the window
-  pub spot_is : (p : Place) → spot_of w a ≡ At p → (p.0 ≡ place_of w a) × (p.0 + 32 ≤ w.length)
+  pub spot_is : (p : Place) → spot_of w a ≡ Ok p → (p.0 ≡ place_of w a) × (p.0 + 32 ≤ w.length)
   unfolding spot_of
   spot_is p e = located-is w a 32 p (aligned-is p (eqb (a % 4) 0) e)
 
 -- ---- the look, with what it tells of the address
 
 -- the spot by its two tests
-abbrev spot_by : Window → (a : ℕ) (aligned inside : Bool) → Spot
-spot_by w a aligned inside = cond aligned (placed (cond inside (located.At (record { 0 = place_of w a })) located.Outside)) Misaligned
+abbrev spot_by : Window → (a : ℕ) (aligned inside : Bool) → Result Place Miss
+spot_by w a aligned inside = cond aligned (placed (cond inside (Some (record { 0 = place_of w a })) None)) (Err miss.Misaligned)
 
-pub data Looked (w : Window) (xs : List ℕ) (a : ℕ) : Look → Type 0 where
-  misaligned : eqb (a % 4) 0 ≡ false → Looked w xs a look.Misaligned
-  outside : eqb (a % 4) 0 ≡ true → in_window w a 32 ≡ false → Looked w xs a look.Outside
-  there : eqb (a % 4) 0 ≡ true → in_window w a 32 ≡ true → Looked w xs a (look.There (raw_at xs (place_of w a)))
+pub data Looked (w : Window) (xs : List ℕ) (a : ℕ) : Result Raw Miss → Type 0 where
+  misaligned : eqb (a % 4) 0 ≡ false → Looked w xs a (Err miss.Misaligned)
+  outside : eqb (a % 4) 0 ≡ true → in_window w a 32 ≡ false → Looked w xs a (Err miss.Outside)
+  there : eqb (a % 4) 0 ≡ true → in_window w a 32 ≡ true → Looked w xs a (Ok (raw_at xs (place_of w a)))
 
 pub looked : (w : Window) (xs : List ℕ) (a : ℕ) → Looked w xs a (look_at w xs a)
 unfolding look_at spot_of located_of
@@ -80,13 +77,13 @@ looked w xs a = by (eqb (a % 4) 0) refl (in_window w a 32) refl
     by false e i f = misaligned e
 
 pub look-there : (w : Window) (xs : List ℕ) (a : ℕ) → eqb (a % 4) 0 ≡ true → in_window w a 32 ≡ true
-    → look_at w xs a ≡ look.There (raw_at xs (place_of w a))
+    → look_at w xs a ≡ Ok (raw_at xs (place_of w a))
 unfolding look_at spot_of located_of
 look-there w xs a e f = rw (e, f)
 
 -- two looks at one address, over other bytes
-pub looks-alike : (w : Window) (a : ℕ) (xs ys : List ℕ) (P : Look → Look → Type 0) → P look.Misaligned look.Misaligned → P look.Outside look.Outside
-    → P (look.There (raw_at xs (place_of w a))) (look.There (raw_at ys (place_of w a))) → P (look_at w xs a) (look_at w ys a)
+pub looks-alike : (w : Window) (a : ℕ) (xs ys : List ℕ) (P : Result Raw Miss → Result Raw Miss → Type 0) → P (Err miss.Misaligned) (Err miss.Misaligned) → P (Err miss.Outside) (Err miss.Outside)
+    → P (Ok (raw_at xs (place_of w a))) (Ok (raw_at ys (place_of w a))) → P (look_at w xs a) (look_at w ys a)
 unfolding look_at spot_of located_of
 looks-alike w a xs ys P m o t = by (eqb (a % 4) 0) (in_window w a 32)
   where
@@ -95,7 +92,7 @@ looks-alike w a xs ys P m o t = by (eqb (a % 4) 0) (in_window w a 32)
     by true false = o
     by false inside = m
 
-pub look-by : (w : Window) (xs : List ℕ) (a : ℕ) {s : Spot} → spot_of w a ≡ s → look_at w xs a ≡ look_in xs s
+pub look-by : (w : Window) (xs : List ℕ) (a : ℕ) {s : Result Place Miss} → spot_of w a ≡ s → look_at w xs a ≡ look_in xs s
 unfolding look_at
 look-by w xs a e = ap (look_in xs) e
 

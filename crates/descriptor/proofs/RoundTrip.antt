@@ -1,5 +1,6 @@
 -- Descriptors are written as well as read, and one comes back as the other.
 -- Assumes nothing.
+use Rattle.std.specs.Prelude.{Result, Ok, Err}
 use Prim.Native.Nat.{ℕ, ◌+◌, ◌-◌, ◌≤◌}
 use mathlib.Core.Path.{◌≡◌, refl, sym, ap, subst, ◌∙◌}
 use mathlib.Core.List.{List, [], ◌∷◌}
@@ -13,12 +14,9 @@ use Rattle.words.proofs.Bytes.{take-bytes, drop-bytes}
 use Rattle.words.proofs.Orders.{row_back, row-there}
 use Rattle.words.proofs.Slices.{length-put, part-put, put-part, row_from}
 use Rattle.bus.specs.declared.Place.{Place}
-use Rattle.descriptor.specs.declared.Seat.{Seat}
-use Rattle.descriptor.specs.declared.Seat.TheVariants.{At, Refused}
+use Rattle.bus.specs.declared.Refusal.{Refusal}
 use Rattle.descriptor.specs.declared.Job.{Job}
 use Rattle.descriptor.specs.declared.Descriptor.{Descriptor}
-use Rattle.descriptor.specs.declared.ReadDescriptor.TheVariants.{Good}
-use Rattle.descriptor.specs.declared.BuiltDescriptor.TheVariants.{Done}
 use Rattle.descriptor.specs.Layout.{widths, named, bytes_for, descriptor_of, descriptor_at}
 use Rattle.descriptor.specs.Calls.{seat_of, found, built, with_job}
 use Rattle.descriptor.specs.RoundTrip.{Typed, as_built, job_of, OthersZero}
@@ -36,9 +34,9 @@ fields_back j t =
     (t.source, (omega arith, (t.destination, (omega arith, (t.next, (omega arith, (t.length, (omega arith, (omega arith, (omega arith, (t.control, tt))))))))))))
 
 -- a call that was done had a seat
-done_at : (s : Seat) → Done ≡ built s → (p : Place) × (s ≡ At p)
-done_at (At p) e = (p, refl)
-done_at (Refused why) e = absurd (let z : ◌≡◌ {A = ℕ} 0 1 = cc in omega arith)
+done_at : (s : Result Place Refusal) → (Ok tt) ≡ built s → (p : Place) × (s ≡ Ok p)
+done_at (Ok p) e = (p, refl)
+done_at (Err why) e = absurd (let z : ◌≡◌ {A = ℕ} 0 1 = cc in omega arith)
 
 -- Read after build gives the same fields.
 pub read-after-build : ReadAfterBuild
@@ -51,7 +49,7 @@ read-after-build xs ys base a j r t b w =
     let stands : part ys p.0 32 ≡ bytes_for j =
     ap (λ (l : List ℕ). part l p.0 32) after ∙ part-put xs p.0 (bytes_for j) 32 (omega (arith, length-job j)) (length-job j) in
     w.answer ∙ ap (λ (n : ℕ). found ys (seat_of n base a)) same ∙ ap (found ys) at.1
-    ∙ ap Good (there ys p.0 (omega arith) ∙ ap descriptor_of stands ∙ fields_back j t)
+    ∙ ap Ok (there ys p.0 (omega arith) ∙ ap descriptor_of stands ∙ fields_back j t)
 
 -- the bytes of a job have zeros in the others' places
 job-zero : (j : Job) → OthersZero (bytes_for j)
@@ -74,8 +72,8 @@ bytes_back ys l g z =
     (all-numbers (ap n z.reserved_4) (ap n z.reserved_12) (ap n z.reserved_20) (ap n z.reserved_26) (ap n z.actual) (ap n z.status) ∙ sym row)
     ∙ row-there LeastFirst widths ys l g
 
-good-is : (xs : List ℕ) (d : Descriptor) (s : Seat) (p : Place) → s ≡ At p → Good d ≡ found xs s → d ≡ descriptor_at xs p.0
-good-is xs d s p e f = let same : Good d ≡ Good (descriptor_at xs p.0) = f ∙ ap (found xs) e in cc
+good-is : (xs : List ℕ) (d : Descriptor) (s : Result Place Refusal) (p : Place) → s ≡ Ok p → Ok d ≡ found xs s → d ≡ descriptor_at xs p.0
+good-is xs d s p e f = let same : Ok d ≡ Ok (descriptor_at xs p.0) = f ∙ ap (found xs) e in cc
 
 -- Build after read gives the same bytes exactly when reserved, actual and status bytes were zero.
 pub build-after-read : BuildAfterRead

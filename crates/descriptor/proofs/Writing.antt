@@ -1,5 +1,6 @@
 -- The bytes of a descriptor as words.
 -- Assumes nothing.
+use Rattle.std.specs.Prelude.{Ok, Err}
 use Prim.Native.Nat.{ℕ, ◌+◌, ◌*◌, ◌^◌, ◌<◌, ◌≤◌}
 use mathlib.Core.Path.{◌≡◌, refl, sym, ap, ◌∙◌}
 use mathlib.Core.List.{List, [], ◌∷◌, ◌++◌}
@@ -12,8 +13,6 @@ use Rattle.words.proofs.Slices.{put_in}
 use Rattle.bus.specs.declared.Place.{Place}
 use Rattle.bus.specs.declared.Refusal.{Refusal}
 use Rattle.descriptor.specs.declared.Job.{Job}
-use Rattle.descriptor.specs.declared.Seat.TheVariants.{At, Refused}
-use Rattle.descriptor.specs.declared.BuiltDescriptor.TheVariants as build
 use Rattle.descriptor.specs.Calls.{seat_of, with_job, WasBuilt}
 use Rattle.descriptor.specs.Layout.{bytes_for, last_four}
 use Rattle.descriptor.specs.Theorems.{LengthJob}
@@ -42,11 +41,11 @@ unfolding bytes_for
 length-job j = refl
 
 module _ (xs : List ℕ) (base a : ℕ) (j : Job) where
-  pub build-refused : (why : Refusal) → seat_of (length xs) base a ≡ Refused why → WasBuilt xs base a j (build.Refused why) xs
+  pub build-refused : (why : Refusal) → seat_of (length xs) base a ≡ Err why → WasBuilt xs base a j (Err why) xs
   build-refused why e = record { answer = rw e; number = rw e; lent = rw e }
 
-  pub build-done : (p : Place) → seat_of (length xs) base a ≡ At p → p.0 + 32 ≤ length xs
-      → (ys : List ℕ) → ys ≡ put_at xs p.0 (bytes_for j) → WasBuilt xs base a j build.Done ys
+  pub build-done : (p : Place) → seat_of (length xs) base a ≡ Ok p → p.0 + 32 ≤ length xs
+      → (ys : List ℕ) → ys ≡ put_at xs p.0 (bytes_for j) → WasBuilt xs base a j (Ok tt) ys
   build-done p e h ys f =
       record {
         answer = rw e;

@@ -1,36 +1,31 @@
 -- One look at a descriptor's address, and what it finds. Fetch, the builder, the reader and the image's rule go by it.
 -- Assumes nothing.
-use Rattle.std.specs.Prelude.{ℕ, ◌+◌, ◌%◌, ◌^◌, ◌<◌, Bool, true, false, cond, ◌&&◌, List, [], ◌∷◌, length, get_or, replicate, eqb, leb}
+use Rattle.std.specs.Prelude.{ℕ, ◌+◌, ◌%◌, ◌^◌, ◌<◌, Bool, true, false, cond, ◌&&◌, List, [], ◌∷◌, length, get_or, replicate, eqb, leb, Result, Ok, Err, Option, ok_or}
 use Rattle.words.specs.declared.Order.TheVariants.{LeastFirst}
 use Rattle.words.specs.Orders.{row_bytes, row_numbers}
 use Rattle.words.specs.Slices.{part}
 use Rattle.bus.specs.declared.Window.{Window}
-use Rattle.bus.specs.declared.Located.{Located}
-use Rattle.bus.specs.declared.Located.TheVariants as located
+use Rattle.bus.specs.declared.Place.{Place}
+use Rattle.descriptor.specs.declared.Miss.{Miss}
+use Rattle.descriptor.specs.declared.Miss.TheVariants.{Misaligned, Outside}
 use Rattle.bus.specs.Window.{located_of}
 use Rattle.descriptor.specs.declared.Descriptor.{Descriptor}
-use Rattle.descriptor.specs.declared.Spot.{Spot}
-use Rattle.descriptor.specs.declared.Spot.TheVariants.{Misaligned, Outside, At}
 use Rattle.descriptor.specs.declared.Raw.{Raw}
-use Rattle.descriptor.specs.declared.Look.{Look}
-use Rattle.descriptor.specs.declared.Look.TheVariants as look
 use Rattle.descriptor.specs.Layout.{descriptor_of}
 
 -- ---- where its 32 bytes stand
 
-abbrev pub placed : Located → Spot
-placed (located.At p) = At p
-placed located.Outside = Outside
+abbrev pub placed : Option Place → Result Place Miss
+placed found = ok_or found Outside
 
 -- misaligned: the address is not a multiple of 4; then outside: not wholly in the window
-unfoldable pub spot_of : Window → (a : ℕ) → Spot
-spot_of w a = cond (eqb (a % 4) 0) (placed (located_of w a 32)) Misaligned
+unfoldable pub spot_of : Window → (a : ℕ) → Result Place Miss
+spot_of w a = cond (eqb (a % 4) 0) (placed (located_of w a 32)) (Err Misaligned)
 
 -- aligned, and wholly in the window
-abbrev pub stands : Spot → Bool
-stands Misaligned = false
-stands Outside = false
-stands (At p) = true
+abbrev pub stands : Result Place Miss → Bool
+stands (Err miss) = false
+stands (Ok p) = true
 
 -- ---- what stands there
 
@@ -72,10 +67,13 @@ named_in r = descriptor_of (raw_bytes r)
 unfoldable pub raw_at : List ℕ → (at : ℕ) → Raw
 raw_at xs at = cond (leb (at + 32) (length xs)) (raw_of (part xs at 32)) (raw_of [])
 
-abbrev pub look_in : List ℕ → Spot → Look
-look_in xs Misaligned = look.Misaligned
-look_in xs Outside = look.Outside
-look_in xs (At p) = look.There (raw_at xs p.0)
+-- what a look at an address finds: the bytes there, or why there are none
+abbrev pub Look : Type 0
+Look = Result Raw Miss
+
+abbrev pub look_in : List ℕ → Result Place Miss → Look
+look_in xs (Err miss) = Err miss
+look_in xs (Ok p) = Ok (raw_at xs p.0)
 
 unfoldable pub look_at : Window → List ℕ → (a : ℕ) → Look
 look_at w xs a = look_in xs (spot_of w a)

@@ -1,14 +1,12 @@
 -- What is proved of descriptors: each theorem's whole statement, under its name. A term of each stands in proofs/.
 -- Assumes nothing.
-use Rattle.std.specs.Prelude.{ℕ, ◌-◌, ◌≡◌, List, ◌↔◌, length}
+use Rattle.std.specs.Prelude.{ℕ, ◌-◌, ◌≡◌, List, ◌↔◌, length, Result, Ok}
 use Rattle.words.specs.declared.Order.TheVariants.{LeastFirst}
 use Rattle.words.specs.Orders.{number_of}
 use Rattle.words.specs.Slices.{part, AllBytes}
 use Rattle.descriptor.specs.declared.Job.{Job}
 use Rattle.descriptor.specs.declared.Descriptor.{Descriptor}
-use Rattle.descriptor.specs.declared.ReadDescriptor.{ReadDescriptor}
-use Rattle.descriptor.specs.declared.ReadDescriptor.TheVariants.{Good}
-use Rattle.descriptor.specs.declared.BuiltDescriptor.TheVariants.{Done}
+use Rattle.bus.specs.declared.Refusal.{Refusal}
 use Rattle.descriptor.specs.Layout.{bytes_for, descriptor_of}
 use Rattle.descriptor.specs.Calls.{DescriptorWasRead, WasBuilt}
 use Rattle.descriptor.specs.RoundTrip.{Typed, as_built, job_of, OthersZero}
@@ -32,11 +30,11 @@ LengthJob = (j : Job) → length (bytes_for j) ≡ 32
 
 -- Read after build gives the same fields.
 abbrev pub ReadAfterBuild : Type 0
-ReadAfterBuild = (xs ys : List ℕ) (base a : ℕ) (j : Job) (r : ReadDescriptor)
-    → Typed j → WasBuilt xs base a j Done ys → DescriptorWasRead ys base a r → r ≡ Good (as_built j)
+ReadAfterBuild = (xs ys : List ℕ) (base a : ℕ) (j : Job) (r : Result Descriptor Refusal)
+    → Typed j → WasBuilt xs base a j (Ok tt) ys → DescriptorWasRead ys base a r → r ≡ Ok (as_built j)
 
 -- Build after read gives the same bytes exactly when reserved, actual and status bytes were zero.
 abbrev pub BuildAfterRead : Type 0
 BuildAfterRead = (xs ys : List ℕ) (base a : ℕ) (d : Descriptor)
-    → AllBytes xs → DescriptorWasRead xs base a (Good d) → WasBuilt xs base a (job_of d) Done ys
+    → AllBytes xs → DescriptorWasRead xs base a (Ok d) → WasBuilt xs base a (job_of d) (Ok tt) ys
     → (ys ≡ xs) ↔ OthersZero (part xs (a - base) 32)

@@ -9,9 +9,9 @@ ghost use Rattle.words.specs.Slices.{part, put_at, number_at};
 ghost use Rattle.words.specs.declared.Order.TheVariants.{LeastFirst};
 ghost use Rattle.descriptor.specs.Layout.{bytes_for, last_four};
 ghost use Rattle.descriptor.specs.Looking.{spot_of, raw_of, raw_bytes, is_zero, raw_at, named_in, look_at};
-ghost use Rattle.descriptor.specs.Calls.{seat_of, DescriptorWasRead, WasBuilt};
+ghost use Rattle.descriptor.specs.Calls.{refusal_of, seat_of, DescriptorWasRead, WasBuilt};
 
-use bus::{BusAddress, CheckedWindow, Located, Place, Refusal, Window};
+use bus::{BusAddress, Place, Refusal, Window};
 use words::{Order, get_u32, has, put_u32, put_words};
 
 // The byte desc_control. Bits 3 to 6 have no effect and are kept as given.
@@ -57,26 +57,33 @@ pub struct Descriptor {
     pub control: DescControl,
 }
 
-// Where the 32 bytes of a descriptor stand.
-#[derive(Clone, Copy)]
-pub enum Spot {
+// Why the 32 bytes of a descriptor stand nowhere.
+#[derive(Clone, Copy, Debug, PartialEq, Eq)]
+pub enum Miss {
     Misaligned,
     Outside,
-    At(Place),
+}
+
+// A miss as a call's refusal.
+impl From<Miss> for Refusal {
+    ghost from_gives = { λ miss why. Gives (refusal_of miss) why };
+
+    fn from(miss: Miss) -> Refusal {
+        match miss {
+            Miss::Misaligned => Refusal::Misaligned,
+            Miss::Outside => Refusal::Outside,
+        }
+    }
 }
 
 // One look at a descriptor's address: misaligned comes first, then that its 32 bytes are not wholly in the window.
-pub fn spot_of(window: Window, address: BusAddress) -> Spot
+pub fn spot_of(window: Window, address: BusAddress) -> Result<Place, Miss>
     ensures { Gives (spot_of window address.0) result }
 {
     if address.0 % 4 != 0 {
-        return Spot::Misaligned;
+        return Err(Miss::Misaligned);
     }
-    let found = window.locate(address, 32);
-    match found {
-        Located::Outside => Spot::Outside,
-        Located::At(place) => Spot::At(place),
-    }
+    window.locate(address, 32).ok_or(Miss::Outside)
 }
 
 // The 32 bytes of a descriptor as they stand in memory: four words of eight bytes, the least significant byte of each first.
@@ -179,67 +186,32 @@ fn raw_at(window: &[u8], place: Place) -> Raw
     raw_in(window, place.index())
 }
 
-// What stands at a descriptor's address.
-#[derive(Clone, Copy)]
-pub enum Look {
-    Misaligned,
-    Outside,
-    There(Raw),
-}
+// What a look at a descriptor's address finds: its 32 bytes, or why there are none.
+pub type Look = Result<Raw, Miss>;
 
-// The look at an address, and the bytes that it finds there.
+// The look at an address.
 pub fn look_at(place: Window, window: &[u8], address: BusAddress) -> Look
     ensures { Gives (look_at place window.now address.0) result }
 {
-    let spot = spot_of(place, address);
-    match spot {
-        Spot::Misaligned => Look::Misaligned,
-        Spot::Outside => Look::Outside,
-        Spot::At(at) => Look::There(raw_at(window, at)),
-    }
+    let at = spot_of(place, address)?;
+    Ok(raw_at(window, at))
 }
 
-// Where a descriptor stands in a lent window, or why it cannot.
-#[derive(Clone, Copy)]
-enum Seat {
-    At(Place),
-    Refused(Refusal),
-}
-
-// The paper's order: the window, the alignment, and that its 32 bytes are in the window.
-fn seat_of(length: usize, base: u64, address: BusAddress) -> Seat
+// Where a descriptor stands in a lent window. The paper's order: the window, the alignment, and that its 32 bytes are in the window.
+fn seat_of(length: usize, base: u64, address: BusAddress) -> Result<Place, Refusal>
     ensures { result ≡ seat_of length base address.0 }
 {
-    let checked = Window::checked(base, length as u64);
-    match checked {
-        CheckedWindow::Refused(why) => Seat::Refused(why),
-        CheckedWindow::Good(window) => {
-            let spot = spot_of(window, address);
-            match spot {
-                Spot::Misaligned => Seat::Refused(Refusal::Misaligned),
-                Spot::Outside => Seat::Refused(Refusal::Outside),
-                Spot::At(place) => Seat::At(place),
-            }
-        }
-    }
-}
-
-// What the reader answers.
-#[derive(Clone, Copy)]
-pub enum ReadDescriptor {
-    Good(Descriptor),
-    Refused(Refusal),
+    let window = Window::checked(base, length as u64)?;
+    let place = spot_of(window, address)?;
+    Ok(place)
 }
 
 // The descriptor at an address of a lent window at `base`.
-pub fn read(window: &[u8], base: u64, address: BusAddress) -> ReadDescriptor
+pub fn read(window: &[u8], base: u64, address: BusAddress) -> Result<Descriptor, Refusal>
     ensures { DescriptorWasRead window.now base address.0 result }
 {
-    let seat = seat_of(window.len(), base, address);
-    match seat {
-        Seat::Refused(why) => ReadDescriptor::Refused(why),
-        Seat::At(place) => ReadDescriptor::Good(raw_at(window, place).named()),
-    }
+    let place = seat_of(window.len(), base, address)?;
+    Ok(raw_at(window, place).named())
 }
 
 // All 32 bytes at a place, as eight words.
@@ -262,25 +234,13 @@ fn put(window: &mut [u8], at: usize, job: Job)
     put_words(Order::LeastFirst, window, at, &words);
 }
 
-// What the builder answers.
-#[derive(Clone, Copy)]
-pub enum BuiltDescriptor {
-    Done,
-    Refused(Refusal),
-}
-
 // Builds a descriptor at an address of a lent window at `base`: all its 32 bytes, and no other.
-pub fn build(window: &mut [u8], base: u64, address: BusAddress, job: Job) -> BuiltDescriptor
+pub fn build(window: &mut [u8], base: u64, address: BusAddress, job: Job) -> Result<(), Refusal>
     ensures { WasBuilt window.old base address.0 job result window.new }
 {
-    let seat = seat_of(window.len(), base, address);
-    match seat {
-        Seat::Refused(why) => BuiltDescriptor::Refused(why),
-        Seat::At(place) => {
-            put(window, place.index(), job);
-            BuiltDescriptor::Done
-        }
-    }
+    let place = seat_of(window.len(), base, address)?;
+    put(window, place.index(), job);
+    Ok(())
 }
 
 // Writes the last four bytes of the descriptor at a place: actual, status and control.

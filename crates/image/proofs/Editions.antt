@@ -1,5 +1,6 @@
 -- Forward and back again, and to the same edition: what an image is after the move, in bytes and in fields.
 -- Assumes nothing.
+use Rattle.std.specs.Prelude.{Ok}
 use Prim.Native.Nat.{ℕ, zero, suc, ◌+◌, ◌*◌, ◌%◌, ◌≤◌}
 use mathlib.Core.Path.{◌≡◌, refl, sym, ap, subst, ◌∙◌}
 use mathlib.Core.Bool.{Bool, true, false, not, cond, ◌&&◌}
@@ -16,7 +17,6 @@ use Rattle.words.proofs.Bits.{flag-back}
 use Rattle.words.proofs.Groups.{fit-both}
 use Rattle.image.specs.declared.Fields.{Fields}
 use Rattle.image.specs.declared.Tail.{Tail}
-use Rattle.image.specs.declared.ReadImage.TheVariants as read
 use Rattle.image.specs.Slot.{tail_from, slot_widths, slot_values}
 use Rattle.image.specs.Layout.{from_numbers, values_of, widths_of, image_of, fields_in, tail_in, values, widths, image, fields, tail, Typed}
 use Rattle.image.specs.Rules.{core_rules, rules, lowest_broken}
@@ -173,7 +173,7 @@ module _ (xs : List ℕ) (l : length xs ≡ 44) where
         (number-stands (first l) (fields_in 1 xs) (tail_in 1 xs) old-kept) refl
         ∙ ap (broken_as 1 (fields_in 1 xs)) (sym (no-tail xs)) ∙ old-kept
 
-    pub forward-read : read_of (moved_to 2 xs) ≡ read.Good (numbered 2 (fields_in 1 xs))
+    pub forward-read : read_of (moved_to 2 xs) ≡ Ok (numbered 2 (fields_in 1 xs))
     forward-read = ap read_of forward-image ∙ read-image (numbered 2 (fields_in 1 xs)) (tail_from []) typed new-kept
 
     pub forward-tail : tail (moved_to 2 xs) ≡ tail_from []
@@ -238,7 +238,7 @@ forward-then-back xs to to' back back' r s g l z p q m n =
 -- ---- back
 
 -- of an image of edition 2 that is read: its fields with the old number
-module _ (xs : List ℕ) (f : Fields) (e : read_of xs ≡ read.Good f) where
+module _ (xs : List ℕ) (f : Fields) (e : read_of xs ≡ Ok f) where
   size : length xs ≡ 85
   size = good_length xs f e
 

@@ -1,5 +1,6 @@
 -- What is known of the numbers of fields that break no rule.
 -- Assumes nothing.
+use Rattle.std.specs.Prelude.{Result, Ok, Err}
 use Prim.Native.Nat.{ℕ, ◌+◌, ◌%◌, ◌≤◌, ◌<◌}
 use mathlib.Core.Path.{◌≡◌, refl, sym, ap, subst, ◌∙◌}
 use mathlib.Core.Bool.{Bool, true, false, not, ◌&&◌, ◌||◌, or_comm}
@@ -8,8 +9,9 @@ use native.Mathlib.Omega.{arith}
 use lib.Dec.{leb, ltb, eqb}
 use borrow.Author.Tests.{leb-true, ltb-true, eqb-true, eqb-false, eq-eqb, ne_eqb, not-true, not-false}
 use Rattle.bus.specs.Window.{keeps_limits, checked_of, in_window}
-use Rattle.descriptor.specs.declared.Spot.{Spot}
-use Rattle.descriptor.specs.declared.Spot.TheVariants as spot
+use Rattle.bus.specs.declared.Place.{Place}
+use Rattle.descriptor.specs.declared.Miss.{Miss}
+use Rattle.descriptor.specs.declared.Miss.TheVariants as miss
 use Rattle.descriptor.specs.Layout.{owned}
 use Rattle.descriptor.specs.Looking.{spot_of, raw_of}
 use Rattle.descriptor.proofs.Looks.{zero_is}
@@ -39,10 +41,10 @@ limits base window e = (
   leb-true _ _ (and_right (leb window 65536 && leb base 4294967295) _ e),
 )
 
-kind-of-le : (s : Spot) → kind_of s ≤ 3
-kind-of-le spot.Misaligned = omega arith
-kind-of-le spot.Outside = omega arith
-kind-of-le (spot.At p) = omega arith
+kind-of-le : (s : Result Place Miss) → kind_of s ≤ 3
+kind-of-le (Err miss.Misaligned) = omega arith
+kind-of-le (Err miss.Outside) = omega arith
+kind-of-le (Ok p) = omega arith
 
 moved-parts : (f : Fields) → moved_kept f.phase (asked f.mode f.size) f.errors f.moved ≡ true
     → (zero_outside (working f.phase) f.moved ≡ true)

@@ -1,20 +1,45 @@
--- The first test that fails, looked for from a place on.
+-- The first test that fails, as the code looks for it; and what is told of a number that may be 0.
 -- Assumes nothing.
-use Prim.Native.Nat.{ℕ, ◌≤◌, ◌<◌, ◌+◌}
-use mathlib.Core.Path.{◌≡◌}
-use mathlib.Core.Bool.{Bool, true, false}
-use mathlib.Core.List.{List}
+use Rattle.std.specs.Prelude.{Option, Some, None, option_map, unwrap_or}
+use Rattle.std.specs.List.{position_from}
+use Prim.Native.Nat.{ℕ, suc}
+use mathlib.Core.Path.{◌≡◌, refl, sym}
+use mathlib.Core.Bool.{Bool, true, false, not, cond}
+use mathlib.Core.List.{List, [], ◌∷◌}
+use native.Mathlib.Nat.{suc-ne-zero}
 use native.Mathlib.Numerals.{add-one}
-use lib.ListN.{length, get_or, drop, drop_of_length-le}
-use lib.Seq.{drop-cons}
-use Rattle.image.specs.Rules.{first_false}
+use borrow.Author.Tests.{ne_eqb, eqb-true, eqb-false}
+use lib.Dec.{eqb}
+use Rattle.image.specs.Rules.{first_false, told}
 
--- the first that fails is past those that hold
-pub past : (bs : List Bool) (i : ℕ) (d : Bool) → i < length bs → get_or bs i d ≡ true → first_false (i + 1) (drop i bs) ≡ first_false (i + 1 + 1) (drop (i + 1) bs)
-past bs i d h e = rw (drop-cons bs i d h, e, add-one (i + 1), add-one i)
+-- ---- a number told
 
-pub found : (bs : List Bool) (i : ℕ) (d : Bool) → i < length bs → get_or bs i d ≡ false → first_false (i + 1) (drop i bs) ≡ i + 1
-found bs i d h e = rw (drop-cons bs i d h, e)
+module _ (n : ℕ) where
+  pub told-none : told n ≡ None → n ≡ 0
+  told-none = by (eqb n 0) refl
+    where
+      by : (b : Bool) → eqb n 0 ≡ b → ◌≡◌ {A = Option ℕ} (cond b None (Some n)) None → n ≡ 0
+      by true p e = eqb-true n 0 p
+      by false p e = (cc)
 
-pub none : (bs : List Bool) (i : ℕ) → length bs ≤ i → first_false (i + 1) (drop i bs) ≡ 0
-none bs i h = rw (drop_of_length-le bs h)
+  pub told-some : {k : ℕ} → told n ≡ Some k → (k ≡ n) × (n ≡ 0 → ⊥)
+  told-some {k} = by (eqb n 0) refl
+    where
+      by : (b : Bool) → eqb n 0 ≡ b → ◌≡◌ {A = Option ℕ} (cond b None (Some n)) (Some k) → (k ≡ n) × (n ≡ 0 → ⊥)
+      by true p e = (cc)
+      by false p e = ((cc), eqb-false n 0 p)
+
+  pub told-back : unwrap_or (told n) 0 ≡ n
+  told-back = by (eqb n 0) refl
+    where
+      by : (b : Bool) → eqb n 0 ≡ b → unwrap_or (cond b None (Some n)) 0 ≡ n
+      by true p = sym (eqb-true n 0 p)
+      by false p = refl
+
+-- ---- the first test that fails
+
+-- its place counted from one more
+pub first-place : (k : ℕ) (bs : List Bool) → told (first_false (suc k) bs) ≡ option_map suc (position_from not k bs)
+first-place k [] = refl
+first-place k (true ∷ bs) = rw (add-one k) (first-place (suc k) bs)
+first-place k (false ∷ bs) = rw (ne_eqb (suc k) 0 (suc-ne-zero k))

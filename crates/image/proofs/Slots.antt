@@ -1,6 +1,7 @@
 -- The slot's rules are kept by an empty slot in any phase, and by a held one in Fetch, Move and WriteBack that is what the look at the
 -- pointer finds.
 -- Assumes nothing.
+use Rattle.std.specs.Prelude.{Result, Ok, Err}
 use Prim.Native.Nat.{ℕ}
 use mathlib.Core.Path.{◌≡◌, refl}
 use mathlib.Core.Bool.{true, ◌||◌}
@@ -10,8 +11,9 @@ use borrow.Author.Tests.{eq-eqb}
 use Rattle.bus.specs.declared.Window.{Window}
 use Rattle.bus.specs.Window.{keeps_limits}
 use Rattle.descriptor.specs.declared.Raw.{Raw}
-use Rattle.descriptor.specs.declared.Spot.{Spot}
-use Rattle.descriptor.specs.declared.Spot.TheVariants as spot
+use Rattle.bus.specs.declared.Place.{Place}
+use Rattle.descriptor.specs.declared.Miss.{Miss}
+use Rattle.descriptor.specs.declared.Miss.TheVariants as miss
 use Rattle.descriptor.specs.Looking.{spot_of, raw_of, is_zero}
 use Rattle.descriptor.proofs.Looks.{zero-none}
 use Rattle.image.specs.Tests.{between}
@@ -28,10 +30,10 @@ pub empty-kept : (phase base window pointer : ℕ) → SlotKept phase base windo
 empty-kept phase base window pointer = record { kind = refl; at = refl; raw = zero-none }
 
 -- what the look finds is never the kind of an empty slot
-held_of : (s : Spot) → held (kind_of s) ≡ true
-held_of spot.Misaligned = refl
-held_of spot.Outside = refl
-held_of (spot.At p) = refl
+held_of : (s : Result Place Miss) → held (kind_of s) ≡ true
+held_of (Err miss.Misaligned) = refl
+held_of (Err miss.Outside) = refl
+held_of (Ok p) = refl
 
 pub kind-held : (w : Window) (a : ℕ) → held (kind_at w a) ≡ true
 kind-held w a = held_of (spot_of w a)

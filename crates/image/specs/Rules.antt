@@ -2,7 +2,7 @@
 -- one that makes several zero at each of them. The rules are a list of parts, as the table is: the first part stands here, the
 -- one of edition 2 in Slot.
 -- Assumes nothing.
-use Rattle.std.specs.Prelude.{ℕ, Bool, true, not, cond, ◌&&◌, ◌||◌, List, [], ◌∷◌, get_or, eqb, leb, ltb}
+use Rattle.std.specs.Prelude.{ℕ, Bool, true, not, cond, ◌&&◌, ◌||◌, List, [], ◌∷◌, get_or, eqb, leb, ltb, Option, Some, None}
 use Rattle.bus.specs.Window.{keeps_limits, checked_of}
 use Rattle.descriptor.specs.Layout.{owned}
 use Rattle.image.specs.declared.Fields.{Fields}
@@ -127,6 +127,10 @@ rule_at f t field = get_or (true ∷ rules f t) field true
 -- the lowest field that breaks a rule, counted from 1, or 0
 unfoldable pub lowest_broken : Fields → Tail → ℕ
 lowest_broken f t = first_false 1 (rules f t)
+
+-- such a number as an answer: 0 is none
+abbrev pub told : ℕ → Option ℕ
+told n = cond (eqb n 0) None (Some n)
 
 unfoldable pub keeps_rules : Fields → Tail → Bool
 keeps_rules f t = eqb (lowest_broken f t) 0

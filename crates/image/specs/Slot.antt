@@ -1,17 +1,17 @@
 -- Order 4: what edition 2 adds, "after the old fields, slot kind 2 (empty, descriptor, fault 10, fault 11), zero 6, slot address 32, slot
 -- bytes 256, run number 32". The slot holds the descriptor that was read ahead, or why none stands there.
 -- Assumes nothing.
-use Rattle.std.specs.Prelude.{ℕ, ◌/◌, Bool, true, not, ◌&&◌, List, [], ◌∷◌, map, get_or, eqb}
+use Rattle.std.specs.Prelude.{ℕ, ◌/◌, Bool, true, not, ◌&&◌, List, [], ◌∷◌, map, get_or, eqb, Result, Ok, Err}
 use Rattle.words.specs.declared.Order.TheVariants.{MostFirst}
 use Rattle.words.specs.Numbers.{total, recode, bytes}
 use Rattle.words.specs.Orders.{bytes_of, number_of}
 use Rattle.bus.specs.declared.Window.{Window}
-use Rattle.bus.specs.declared.CheckedWindow.{CheckedWindow}
-use Rattle.bus.specs.declared.CheckedWindow.TheVariants.{Good, Refused}
+use Rattle.bus.specs.declared.Place.{Place}
+use Rattle.descriptor.specs.declared.Miss.{Miss}
+use Rattle.bus.specs.declared.Refusal.{Refusal}
+use Rattle.descriptor.specs.declared.Miss.TheVariants as miss
 use Rattle.bus.specs.Window.{checked_of}
 use Rattle.descriptor.specs.declared.Raw.{Raw}
-use Rattle.descriptor.specs.declared.Spot.{Spot}
-use Rattle.descriptor.specs.declared.Spot.TheVariants as spot
 use Rattle.descriptor.specs.Looking.{spot_of, raw_of, raw_bytes, is_zero}
 use Rattle.image.specs.declared.Fields.{Fields}
 use Rattle.image.specs.declared.Tail.{Tail}
@@ -67,18 +67,18 @@ abbrev pub fault11 : ℕ
 fault11 = 3
 
 -- what rules 10 and 11 give, by the one look at a descriptor's address
-abbrev pub kind_of : Spot → ℕ
-kind_of spot.Misaligned = fault10
-kind_of spot.Outside = fault11
-kind_of (spot.At p) = descriptor
+abbrev pub kind_of : Result Place Miss → ℕ
+kind_of (Err miss.Misaligned) = fault10
+kind_of (Err miss.Outside) = fault11
+kind_of (Ok p) = descriptor
 
 abbrev pub kind_at : Window → (a : ℕ) → ℕ
 kind_at window a = kind_of (spot_of window a)
 
 -- the same where the window keeps the limits; else no kind of a held slot
-abbrev pub kind_in : CheckedWindow → (a : ℕ) → ℕ
-kind_in (Good window) a = kind_at window a
-kind_in (Refused why) a = empty
+abbrev pub kind_in : Result Window Refusal → (a : ℕ) → ℕ
+kind_in (Ok window) a = kind_at window a
+kind_in (Err why) a = empty
 
 -- ---- the rules
 

@@ -1,10 +1,10 @@
 -- The tests that the image's rules are put together from: of truths, of a descriptor's address, of phases, and of bits of the
 -- registers.
 -- Assumes nothing.
-use Rattle.std.specs.Prelude.{ℕ, ◌^◌, Bool, false, not, ◌&&◌, ◌||◌, eqb, leb, ltb}
+use Rattle.std.specs.Prelude.{ℕ, ◌^◌, Bool, false, not, ◌&&◌, ◌||◌, eqb, leb, ltb, Result, Ok, Err}
 use Rattle.std.specs.Bool.{beq}
-use Rattle.bus.specs.declared.CheckedWindow.{CheckedWindow}
-use Rattle.bus.specs.declared.CheckedWindow.TheVariants.{Good, Refused}
+use Rattle.bus.specs.declared.Window.{Window}
+use Rattle.bus.specs.declared.Refusal.{Refusal}
 use Rattle.descriptor.specs.Looking.{spot_of, stands}
 use Rattle.regs.specs.Status.{status_of}
 use Rattle.regs.specs.Control as register
@@ -41,9 +41,9 @@ zero_from i x = ltb x (2 ^ i)
 -- ---- a descriptor's address
 
 -- its 32 bytes stand in the window, where that keeps the limits
-abbrev pub stands_in : CheckedWindow → (address : ℕ) → Bool
-stands_in (Good window) address = stands (spot_of window address)
-stands_in (Refused why) address = false
+abbrev pub stands_in : Result Window Refusal → (address : ℕ) → Bool
+stands_in (Ok window) address = stands (spot_of window address)
+stands_in (Err why) address = false
 
 -- ---- phases, and bits of the registers
 

@@ -1,11 +1,10 @@
 -- What is proved of the image: each theorem's whole statement, under its name. A term of each stands in proofs/.
 -- Assumes nothing.
-use Rattle.std.specs.Prelude.{ℕ, ◌<◌, ◌≡◌, List, ◌++◌, true, false, ◌↔◌, ◌≢◌, length}
+use Rattle.std.specs.Prelude.{ℕ, ◌<◌, ◌≡◌, List, ◌++◌, true, false, ◌↔◌, ◌≢◌, length, Ok}
 use Rattle.words.specs.Numbers.{Fit}
 use Rattle.words.specs.Slices.{AllBytes}
 use Rattle.image.specs.declared.Fields.{Fields}
 use Rattle.image.specs.declared.Tail.{Tail}
-use Rattle.image.specs.declared.ReadImage.TheVariants.{Good}
 use Rattle.image.specs.Layout.{values_of, widths_of, image_of, image, tail, Typed}
 use Rattle.image.specs.Slot.{tail_bytes}
 use Rattle.image.specs.Rules.{rule_at, lowest_broken}
@@ -15,7 +14,7 @@ use Rattle.image.specs.Editions.{edition_of, broken_in, ImageMoved}
 -- An image is read as fields, with such a tail, exactly when it has 85 bytes, they keep the rules and it is their image.
 abbrev pub ReadExactly : Type 0
 ReadExactly = (xs : List ℕ) (f : Fields) (t : Tail) → AllBytes xs → Typed f t
-    → ((read_of xs ≡ Good f) × (tail xs ≡ t)) ↔ ((length xs ≡ 85) × (lowest_broken f t ≡ 0) × (image f t ≡ xs))
+    → ((read_of xs ≡ Ok f) × (tail xs ≡ t)) ↔ ((length xs ≡ 85) × (lowest_broken f t ≡ 0) × (image f t ≡ xs))
 
 -- Order 4: the image of edition 1 is the front of that of edition 2, whatever stands in the field of the edition; behind it stands
 -- what edition 2 adds.

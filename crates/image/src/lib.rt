@@ -4,30 +4,30 @@
 
 pub mod moves;
 
-ghost use Rattle.std.specs.Prelude.{true, false, ◌≡◌, length};
+ghost use Rattle.std.specs.Prelude.{true, false, ◌≡◌, ◌≤◌, length, take};
 ghost use Rattle.words.specs.Numbers.{Fit};
 ghost use Rattle.words.specs.Promise.{Gives, Leaves};
 ghost use Rattle.words.specs.Slices.{number_at};
 ghost use Rattle.words.specs.declared.Order.TheVariants.{MostFirst};
+ghost use Rattle.bus.specs.declared.Refusal.TheVariants.{BadImage};
 ghost use Rattle.bus.specs.Window.{keeps_limits, checked_of};
 ghost use Rattle.descriptor.specs.Looking.{spot_of, stands, is_zero, raw_at};
 ghost use Rattle.image.specs.Slot.{kind_in, held_kept, slot_at_kept, slot_bytes_kept};
-ghost use Rattle.image.specs.Layout.{values, widths, image, fields, tail};
-ghost use Rattle.image.specs.Helpers.ByPhase.{kept_at, always, by_phase, core_kept, slot_kept, slot_kept_of};
-ghost use Rattle.image.specs.Helpers.InWords.{of_words};
-ghost use Rattle.image.specs.Rules.{working, zero_outside, phase_kept, fault_kept, status_kept, control_kept, address_kept, size_kept, dcontrol_kept, errors_kept, asked, moved_kept, eop_kept, rules, first_false, lowest_broken, keeps_rules};
+ghost use Rattle.image.specs.Layout.{values, widths, image, fields, fields_in, tail};
+ghost use Rattle.image.specs.Helpers.ByPhase.{kept_at, always, by_phase, core_kept, slot_kept_of};
+ghost use Rattle.image.specs.Rules.{working, zero_outside, phase_kept, fault_kept, status_kept, control_kept, address_kept, size_kept, dcontrol_kept, errors_kept, asked, moved_kept, eop_kept, rules, first_false, lowest_broken, told, keeps_rules};
 ghost use Rattle.image.specs.Helpers.WasPut.{fits, ImageWasPut};
 ghost use Rattle.image.specs.Promise.{ImageWasRead, Wrote};
 
 use crate::moves::broken_in;
-use bus::{BusAddress, CheckedWindow, Refusal, Window};
-use descriptor::{DescControl, Raw, Spot, raw_in, spot_of};
+use bus::{BusAddress, Refusal, Window};
+use descriptor::{DescControl, Miss, Raw, raw_in, spot_of};
 use regs::{Control, Status};
 use words::packer::Packer;
 use words::{Order, has, put_u32};
 
 // The fields of the table's first part, in layout order. A field of one bit is a bool, so that it fits by its type.
-#[derive(Clone, Copy)]
+#[derive(Clone, Copy, Debug, PartialEq, Eq)]
 pub struct Fields {
     pub edition: u8,
     pub mode: u8,
@@ -63,20 +63,6 @@ pub struct Tail {
     pub run: u32,
 }
 
-// The fields of an image that keeps the rules, or why it is refused. What edition 2 adds is read by itself: `tail_in`.
-#[derive(Clone, Copy)]
-pub enum ReadImage {
-    Good(Fields),
-    Refused(Refusal),
-}
-
-// Whether an image was written, or why not.
-#[derive(Clone, Copy)]
-pub enum WroteImage {
-    Done,
-    Refused(Refusal),
-}
-
 // The edition that is read and written.
 const EDITION: u8 = 2;
 
@@ -91,7 +77,8 @@ const SLOT_BYTES: usize = 49;
 
 const RUN_NUMBER: usize = 81;
 
-// The phases that the rules speak of.
+// The phases that the rules speak of. Phases, modes, kinds and fault codes are numbers here, and no enums: an image may hold a phase, a mode
+// or a code that is none, and is refused by the rule of its field.
 const FETCH: u8 = 1;
 
 const MOVE: u8 = 2;
@@ -156,24 +143,18 @@ fn control_kept(phase: u8, armed: bool, control: u32) -> bool
         & (!((phase == ENDED) | (phase == HALTED)) | run)
 }
 
+// The window is handed on as the two fields that it is, here and below: one value would be made of them at each call, and save no test.
 fn limits_kept(base: u32, window: u32) -> bool
     ensures { result ≡ keeps_limits base window }
 {
-    match Window::checked(base as u64, window as u64) {
-        CheckedWindow::Good(_) => true,
-        CheckedWindow::Refused(_) => false,
-    }
+    Window::checked(base as u64, window as u64).is_ok()
 }
 
 // Whether the one look at a descriptor's address finds its 32 bytes.
 fn stands_at(place: Window, address: u32) -> bool
     ensures { result ≡ stands (spot_of place address) }
 {
-    match spot_of(place, BusAddress(address as u64)) {
-        Spot::Misaligned => false,
-        Spot::Outside => false,
-        Spot::At(_) => true,
-    }
+    spot_of(place, BusAddress(address as u64)).is_ok()
 }
 
 fn address_kept(hand: bool, base: u32, window: u32, address: u32) -> bool
@@ -182,10 +163,10 @@ fn address_kept(hand: bool, base: u32, window: u32, address: u32) -> bool
     if !hand {
         return address == 0;
     }
-    match Window::checked(base as u64, window as u64) {
-        CheckedWindow::Good(place) => stands_at(place, address),
-        CheckedWindow::Refused(_) => false,
-    }
+    let Ok(place) = Window::checked(base as u64, window as u64) else {
+        return false;
+    };
+    stands_at(place, address)
 }
 
 fn zero_outside(hand: bool, x: u32) -> bool
@@ -249,13 +230,13 @@ fn eop_kept(mode: u8, phase: u8, whole: u16, moved: u16, eop: bool) -> bool
 fn kind_at(base: u32, window: u32, address: u32) -> u8
     ensures { result ≡ kind_in (checked_of base window) address }
 {
-    match Window::checked(base as u64, window as u64) {
-        CheckedWindow::Good(place) => match spot_of(place, BusAddress(address as u64)) {
-            Spot::Misaligned => FAULT_10,
-            Spot::Outside => FAULT_11,
-            Spot::At(_) => DESCRIPTOR,
-        },
-        CheckedWindow::Refused(_) => EMPTY,
+    let Ok(place) = Window::checked(base as u64, window as u64) else {
+        return EMPTY;
+    };
+    match spot_of(place, BusAddress(address as u64)) {
+        Err(Miss::Misaligned) => FAULT_10,
+        Err(Miss::Outside) => FAULT_11,
+        Ok(_) => DESCRIPTOR,
     }
 }
 
@@ -281,6 +262,7 @@ fn slot_bytes_kept(kind: u8, raw: Raw) -> bool
 }
 
 // Whether each field keeps its rule, in layout order.
+#[tactic(auto, unfolding(crate::specs::Rules::rules))]
 fn kept(f: Fields, t: Tail) -> [bool; 27]
     ensures { result ≡ rules f t }
 {
@@ -317,25 +299,27 @@ fn kept(f: Fields, t: Tail) -> [bool; 27]
     ]
 }
 
-// The place of the first that is false, counted from 1, or 0.
-fn first_false(kept: [bool; 27]) -> u8
-    ensures { result ≡ first_false 1 kept }
+// The place of the first that is false, counted from 1.
+fn first_false(kept: [bool; 27]) -> Option<u8>
+    ensures { result ≡ told (first_false 1 kept) }
 {
-    let mut i: usize = 0;
-    while i < 27 {
-        if !kept[i] {
-            return i as u8 + 1;
-        }
-        i += 1;
-    }
-    0
+    let place = kept.iter().position(|keeps| !*keeps)?;
+    Some(place as u8 + 1)
 }
 
-// The lowest field that breaks a rule, counted from 1, or 0.
-pub fn broken(f: Fields, t: Tail) -> u8
-    ensures { Gives (lowest_broken f t) result }
+// The lowest field that breaks a rule, counted from 1.
+#[tactic(auto, unfolding(crate::specs::Rules::lowest_broken))]
+pub fn broken(f: Fields, t: Tail) -> Option<u8>
+    ensures { Gives (told (lowest_broken f t)) result }
 {
     first_false(kept(f, t))
+}
+
+// Why fields that break a rule are refused: BadImage, with the lowest that does. Fields that break none are not asked about, and give 0.
+pub fn refused(f: Fields, t: Tail) -> Refusal
+    ensures { Gives (BadImage (lowest_broken f t)) result }
+{
+    Refusal::BadImage(broken(f, t).unwrap_or(0))
 }
 
 // The same rules for `keeps` and `read`, which every call that is given an image or a machine asks: whether each is kept, and not which
@@ -409,37 +393,15 @@ fn core_kept(f: Fields) -> bool
     idle_kept(f)
 }
 
-// Those of the slot, the last test made already: of a descriptor's bytes nothing is asked.
-fn slot_kept(
-    phase: u8,
-    base: u32,
-    window: u32,
-    pointer: u32,
-    kind: u8,
-    zero6: u8,
-    at: u32,
-    bytes: bool,
-) -> bool
-    ensures { result ≡ slot_kept phase base window pointer kind zero6 at bytes }
-{
-    held_kept(phase, kind) & (zero6 == 0) & slot_at_kept(base, window, pointer, kind, at) & bytes
-}
-
 // Whether all fields keep the rules.
 pub fn keeps(f: Fields, t: Tail) -> bool
     ensures { Gives (keeps_rules f t) result }
 {
     core_kept(f)
-        & slot_kept(
-            f.phase,
-            f.base,
-            f.window,
-            f.pointer,
-            t.kind,
-            t.zero6,
-            t.at,
-            slot_bytes_kept(t.kind, t.raw),
-        )
+        & held_kept(f.phase, t.kind)
+        & (t.zero6 == 0)
+        & slot_at_kept(f.base, f.window, f.pointer, t.kind, t.at)
+        & slot_bytes_kept(t.kind, t.raw)
 }
 
 // Writes the fields of an image: the layout's table, line by line. The slot's bytes stand as in memory.
@@ -449,52 +411,52 @@ fn pack(f: Fields, t: Tail, to: &mut [u8])
     ensures { Leaves (image f t) to.new }
 {
     Packer::new()
-        .put8(4, f.edition)
-        .put8(2, f.mode)
-        .put8(3, f.phase)
-        .put1(1, f.armed)
-        .put1(1, f.pending)
-        .put8(5, f.fault)
-        .put8(8, f.status)
-        .put8(8, f.count)
-        .put32(32, f.control)
-        .put32(32, f.pointer)
-        .put32(32, f.base)
-        .put32(32, f.window)
-        .put32(32, f.address)
-        .put32(32, f.source)
-        .put32(32, f.destination)
-        .put16(16, f.size)
-        .put8(8, f.dcontrol)
-        .put8(8, f.errors)
-        .put16(16, f.moved)
-        .put1(1, f.eop)
-        .put16(15, f.zero15)
-        .put32(32, f.faultat)
-        .put8(2, t.kind)
-        .put8(6, t.zero6)
-        .put32(32, t.at)
+        .put(4, f.edition)
+        .put(2, f.mode)
+        .put(3, f.phase)
+        .put(1, f.armed)
+        .put(1, f.pending)
+        .put(5, f.fault)
+        .put(8, f.status)
+        .put(8, f.count)
+        .put(32, f.control)
+        .put(32, f.pointer)
+        .put(32, f.base)
+        .put(32, f.window)
+        .put(32, f.address)
+        .put(32, f.source)
+        .put(32, f.destination)
+        .put(16, f.size)
+        .put(8, f.dcontrol)
+        .put(8, f.errors)
+        .put(16, f.moved)
+        .put(1, f.eop)
+        .put(15, f.zero15)
+        .put(32, f.faultat)
+        .put(2, t.kind)
+        .put(6, t.zero6)
+        .put(32, t.at)
         .write(&mut to[..SLOT_BYTES]);
     t.raw.put(to, SLOT_BYTES);
     put_u32(Order::MostFirst, to, RUN_NUMBER, t.run);
 }
 
-// The fields that eleven words hold, each on its line, in order.
-fn from_words(
-    head: u32,
-    control: u32,
-    pointer: u32,
-    base: u32,
-    window: u32,
-    address: u32,
-    source: u32,
-    destination: u32,
-    sizes: u32,
-    done: u32,
-    faultat: u32,
-) -> Fields
-    ensures { result ≡ of_words head control pointer base window address source destination sizes done faultat }
+fn word(from: &[u8], at: usize) -> u32
+    ensures { Gives (number_at MostFirst 4 from.now at) result }
 {
+    words::get_u32(Order::MostFirst, from, at)
+}
+
+// The fields of the first part, which stands in front of an image of any edition: a word each, but for three words of several fields.
+// It is taken into `read`, which every call that is given an image makes: left as a call, it made `read` a sixth slower.
+#[inline(always)]
+fn front(from: &[u8]) -> Fields
+    requires { 44 ≤ length from.now }
+    ensures { result ≡ fields_in 1 (take 44 from.now) }
+{
+    let head = word(from, 0);
+    let sizes = word(from, 32);
+    let done = word(from, 36);
     Fields {
         edition: (head / 0x1000_0000 % 16) as u8,
         mode: (head / 0x400_0000 % 4) as u8,
@@ -504,46 +466,21 @@ fn from_words(
         fault: (head / 0x1_0000 % 32) as u8,
         status: (head / 256 % 256) as u8,
         count: (head % 256) as u8,
-        control,
-        pointer,
-        base,
-        window,
-        address,
-        source,
-        destination,
+        control: word(from, 4),
+        pointer: word(from, 8),
+        base: word(from, 12),
+        window: word(from, 16),
+        address: word(from, 20),
+        source: word(from, 24),
+        destination: word(from, 28),
         size: (sizes / 0x1_0000 % 0x1_0000) as u16,
         dcontrol: (sizes / 256 % 256) as u8,
         errors: (sizes % 256) as u8,
         moved: (done / 0x1_0000 % 0x1_0000) as u16,
         eop: done / 0x8000 % 2 == 1,
         zero15: (done % 0x8000) as u16,
-        faultat,
+        faultat: word(from, 40),
     }
-}
-
-fn word(from: &[u8], at: usize) -> u32
-    ensures { Gives (number_at MostFirst 4 from.now at) result }
-{
-    words::get_u32(Order::MostFirst, from, at)
-}
-
-fn unpack(from: &[u8]) -> Fields
-    requires { length from.now ≡ 85 }
-    ensures { Gives (fields from.now) result }
-{
-    from_words(
-        word(from, 0),
-        word(from, 4),
-        word(from, 8),
-        word(from, 12),
-        word(from, 16),
-        word(from, 20),
-        word(from, 24),
-        word(from, 28),
-        word(from, 32),
-        word(from, 36),
-        word(from, 40),
-    )
 }
 
 // What edition 2 adds, of the bytes of an image; all zero where they are not of its size.
@@ -587,50 +524,52 @@ fn slot_kept_in(from: &[u8]) -> bool
 {
     let first = from[TAIL];
     let kind = first / 64;
-    slot_kept(
-        (word(from, 0) / 0x80_0000 % 8) as u8,
-        word(from, 12),
-        word(from, 16),
-        word(from, 8),
-        kind,
-        first % 64,
-        word(from, SLOT_AT),
-        bytes_kept_in(from, kind),
-    )
+    let phase = (word(from, 0) / 0x80_0000 % 8) as u8;
+    held_kept(phase, kind)
+        & (first % 64 == 0)
+        & slot_at_kept(
+            word(from, 12),
+            word(from, 16),
+            word(from, 8),
+            kind,
+            word(from, SLOT_AT),
+        )
+        & bytes_kept_in(from, kind)
 }
 
 // Reads an image: its fields, where it has the right size and all of them keep the rules. Where they do not, the field is told from the bytes,
 // which are read again: what that call is given is kept for it on the way of every good image too, and that is the slice alone.
-pub fn read(from: &[u8]) -> ReadImage
+pub fn read(from: &[u8]) -> Result<Fields, Refusal>
     ensures { ImageWasRead from.now result }
 {
     if from.len() != SIZE {
-        return ReadImage::Refused(Refusal::BadSize);
+        return Err(Refusal::BadSize);
     }
-    let f = unpack(from);
+    let f = front(from);
     let kept = core_kept(f) & slot_kept_in(from);
     if !kept {
         let spoiled = from;
-        return ReadImage::Refused(Refusal::BadImage(broken_in(EDITION, spoiled)));
+        return Err(Refusal::BadImage(broken_in(EDITION, spoiled).unwrap_or(0)));
     }
-    ReadImage::Good(f)
+    Ok(f)
 }
 
 // Writes the image of fields that keep the rules. Where it is refused nothing is written.
-pub fn write(f: Fields, t: Tail, to: &mut [u8]) -> WroteImage
+pub fn write(f: Fields, t: Tail, to: &mut [u8]) -> Result<(), Refusal>
     ensures { Wrote f t to.old result to.new }
 {
     if to.len() != SIZE {
-        return WroteImage::Refused(Refusal::BadSize);
+        return Err(Refusal::BadSize);
     }
     if !keeps(f, t) {
-        return WroteImage::Refused(Refusal::BadImage(broken(f, t)));
+        return Err(refused(f, t));
     }
     pack(f, t, to);
-    WroteImage::Done
+    Ok(())
 }
 
 // Whether each number fits its width. Where the type has no more bits than the width it does.
+#[tactic(auto, unfolding(crate::specs::Helpers::WasPut::fits))]
 fn fit(f: Fields, t: Tail) -> bool
     ensures { result ≡ fits f t }
 {
@@ -645,17 +584,17 @@ fn fit(f: Fields, t: Tail) -> bool
 
 // Writes the image of fields, whether they keep the rules or not: for a caller that knows that they do. Where the size is wrong or
 // a number does not fit its width it is refused, and nothing is written.
-pub fn put(f: Fields, t: Tail, to: &mut [u8]) -> WroteImage
+pub fn put(f: Fields, t: Tail, to: &mut [u8]) -> Result<(), Refusal>
     ensures { ImageWasPut f t to.old result to.new }
 {
     if to.len() == SIZE {
         if fit(f, t) {
             pack(f, t, to);
-            WroteImage::Done
+            Ok(())
         } else {
-            WroteImage::Refused(Refusal::BadImage(broken(f, t)))
+            Err(refused(f, t))
         }
     } else {
-        WroteImage::Refused(Refusal::BadSize)
+        Err(Refusal::BadSize)
     }
 }

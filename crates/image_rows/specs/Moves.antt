@@ -1,7 +1,7 @@
 -- Order 5 held against worked moves: an image, the size that it is moved to, the number, and the bytes after. They were written down by hand,
 -- from the request and the layout; the core is that of the sample of Rows, in WriteBack.
 -- Assumes nothing.
-use Rattle.std.specs.Prelude.{ℕ, ◌+◌, ◌*◌, ◌≡◌, refl, cond, List, [], ◌∷◌, ◌++◌, map, eqb, length, replicate}
+use Rattle.std.specs.Prelude.{ℕ, ◌+◌, ◌*◌, ◌≡◌, refl, cond, List, [], ◌∷◌, ◌++◌, map, eqb, replicate}
 use Rattle.bus.specs.Window.{keeps_limits, checked_of, in_window, located_of}
 use Rattle.descriptor.specs.Looking.{spot_of, is_zero}
 use Rattle.image.specs.Slot.{slot_number, slot_raw}

@@ -2,17 +2,17 @@
 -- break it, in each of its parts, the numbers of the fields that this counts against, and a twin with the break mended. Where a part
 -- speaks of many bits or phases some of them stand for all. The rows were worked out from the texts by hand.
 -- Assumes nothing.
-use Rattle.std.specs.Prelude.{ℕ, suc, ◌+◌, ◌-◌, ◌*◌, ◌^◌, ◌≡◌, refl, Bool, true, false, List, [], ◌∷◌, map, get_or, set, replicate}
+use Rattle.bus.specs.Refusal.{answer_number}
+use Rattle.std.specs.Prelude.{ℕ, suc, ◌+◌, ◌-◌, ◌*◌, ◌^◌, ◌≡◌, refl, Bool, true, false, List, [], ◌∷◌, map, get_or, set, replicate, Result, Ok}
 use Rattle.bus.specs.Window.{keeps_limits, checked_of, in_window, located_of}
 use Rattle.descriptor.specs.Looking.{spot_of, is_zero, named_in}
 use Rattle.image.specs.declared.Fields.{Fields}
 use Rattle.image.specs.declared.Tail.{Tail}
-use Rattle.image.specs.declared.ReadImage.{ReadImage}
-use Rattle.image.specs.declared.ReadImage.TheVariants.{Good}
+use Rattle.bus.specs.declared.Refusal.{Refusal}
 use Rattle.image.specs.Slot.{slot_number, slot_raw, tail_from}
 use Rattle.image.specs.Layout.{from_numbers, image, fields, tail}
 use Rattle.image.specs.Rules.{rules, lowest_broken, keeps_rules}
-use Rattle.image.specs.Promise.{read_of, image_read_number}
+use Rattle.image.specs.Promise.{read_of}
 
 -- ---- the numbers of all fields, with one of them changed
 
@@ -269,7 +269,7 @@ pub record Outcome : Type 0 where
   pub number : ℕ
   pub lowest : ℕ
   pub all : List ℕ
-  pub again : ReadImage
+  pub again : Result Fields Refusal
   pub behind : Tail
 
 abbrev pub found : Row → Outcome
@@ -278,7 +278,7 @@ found r =
     let f = fields xs in
     let t = tail xs in
     record {
-      number = image_read_number (read_of xs);
+      number = answer_number (read_of xs);
       lowest = lowest_broken f t;
       all = falses 1 (rules f t);
       again = read_of (image_is r.twin);
@@ -292,7 +292,7 @@ wanted r =
       number = 8 + 256 * lowest;
       lowest = lowest;
       all = r.places;
-      again = Good (from_numbers r.twin);
+      again = Ok (from_numbers r.twin);
       behind = tail_from r.twin;
     }
 
@@ -349,7 +349,7 @@ SampleWritten = image_is sample ≡ sample_bytes
 -- The bytes are read as these fields, and the slot's as memory had them: the link to the next descriptor stands at its place, least
 -- significant byte first.
 abbrev pub SampleRead : Type 0
-SampleRead = (read_of sample_bytes ≡ Good (from_numbers sample)) × (tail sample_bytes ≡ tail_from sample)
+SampleRead = (read_of sample_bytes ≡ Ok (from_numbers sample)) × (tail sample_bytes ≡ tail_from sample)
     × ((named_in (tail sample_bytes).raw).next ≡ 0x1413_1211)
 
 pub sample-written : SampleWritten

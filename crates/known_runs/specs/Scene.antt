@@ -1,20 +1,17 @@
 -- A scene: a core with what it is lent, what is done with it, and what is found at the end. A row of a table is one scene.
 -- Assumes nothing.
-use Rattle.std.specs.Prelude.{ℕ, suc, ◌+◌, ◌/◌, ◌%◌, Bool, true, false, cond, ◌&&◌, List, [], ◌∷◌, ◌++◌, eqb, length, replicate}
+use Rattle.std.specs.Prelude.{ℕ, suc, ◌+◌, ◌/◌, ◌%◌, Bool, true, false, cond, ◌&&◌, List, [], ◌∷◌, ◌++◌, eqb, length, replicate, Result, Ok, Err, Some, None}
 use Rattle.words.specs.Slices.{part, put}
 use Rattle.regs.specs.Status.{status_number}
 use Rattle.regs.specs.Control.{ie_global}
 use Rattle.regs.specs.Modes.{mode_of}
-use Rattle.descriptor.specs.declared.Look.TheVariants.{Misaligned, Outside, There}
+use Rattle.bus.specs.declared.Refusal.{Refusal}
+use Rattle.descriptor.specs.declared.Miss.TheVariants as miss
 use Rattle.ledger.specs.Records.{ledger_bytes}
-use Rattle.machine.specs.declared.Slot.{Slot}
-use Rattle.machine.specs.declared.Slot.TheVariants.{Empty, Ahead}
 use Rattle.machine.specs.declared.Machine.{Machine}
 use Rattle.machine.specs.declared.Fault.{Fault}
 use Rattle.machine.specs.declared.Reason.TheVariants.{Rest}
-use Rattle.machine.specs.declared.registers.WroteRegister.{WroteRegister}
-use Rattle.machine.specs.declared.registers.WroteRegister.TheVariants.{Done, Refused}
-use Rattle.machine.specs.State.{fresh, phase_number, machine_with}
+use Rattle.machine.specs.State.{fresh, phase_number, machine_with, Slot}
 use Rattle.machine.specs.Saved.{fault_in, keeps}
 use Rattle.machine.specs.Registers.{write_of}
 use Rattle.machine.specs.Step.{World, stored, noted, opened, machine_in}
@@ -77,9 +74,9 @@ window first held = put (put zeros 0 first) 128 held
 
 -- ---- playing a scene
 
-abbrev pub written : Machine → WroteRegister → Machine
-written m (Done n) = n
-written m (Refused why) = m
+abbrev pub written : Machine → Result Machine Refusal → Machine
+written m (Ok n) = n
+written m (Err why) = m
 
 -- the machine alone changes, all of it
 abbrev pub with_machine : World → Machine → World
@@ -142,10 +139,10 @@ abbrev pub fault_is : Fault → (code address : ℕ) → Bool
 fault_is f code address = eqb f.code code && eqb f.address address
 
 abbrev pub kind_of : Slot → ℕ
-kind_of Empty = 0
-kind_of (Ahead (There r)) = 1
-kind_of (Ahead Misaligned) = 2
-kind_of (Ahead Outside) = 3
+kind_of None = 0
+kind_of (Some (Ok r)) = 1
+kind_of (Some (Err miss.Misaligned)) = 2
+kind_of (Some (Err miss.Outside)) = 3
 
 abbrev pub holds : Scene → Report → Fact → Bool
 holds s r (reason n) = eqb (reason_number r.reason) n

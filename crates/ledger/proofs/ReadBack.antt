@@ -1,6 +1,6 @@
 -- Records that are put behind those used are read back behind them, and found.
 -- Assumes nothing.
-use Rattle.std.specs.Prelude.{if◌then◌else◌}
+use Rattle.std.specs.Prelude.{if◌then◌else◌, Option, Some, None, Ok}
 use Prim.Native.Nat.{ℕ, zero, suc, ◌+◌, ◌*◌, ◌≤◌}
 use mathlib.Core.Path.{◌≡◌, refl, sym, ap, ◌∙◌}
 use mathlib.Core.Bool.{Bool, true, false}
@@ -16,8 +16,6 @@ use Rattle.words.proofs.Orders.{row_back}
 use Rattle.words.proofs.Slices.{number_in, put-none, put-put, part-put, length-put}
 use Rattle.words.proofs.Beside.{part-before}
 use Rattle.ledger.specs.declared.Entry.{Entry}
-use Rattle.ledger.specs.declared.Finding.{Finding}
-use Rattle.ledger.specs.declared.Finding.TheVariants.{Found, NotFound}
 use Rattle.ledger.specs.Records.{entry_bytes, ledger_bytes, is_ledger}
 use Rattle.ledger.specs.Finding.{entry_of, entries_in, is_of, latest}
 use Rattle.ledger.specs.Theorems.{Fits, RecordsBack, NoneOf, AppendedFound}
@@ -81,26 +79,26 @@ records-back ledger used (e ∷ es) f h =
 -- ---- and they are found
 
 -- records that are none change nothing
-none-later : (run address : ℕ) (before : Finding) (es : List Entry) → NoneOf run address es → latest run address before es ≡ before
+none-later : (run address : ℕ) (before : Option ℕ) (es : List Entry) → NoneOf run address es → latest run address before es ≡ before
 none-later run address before [] n = refl
 none-later run address before (e ∷ es) n = rw (not-of run address e n.0) (none-later run address before es n.1)
 
 -- the last that is one is told
-last_of : (run address : ℕ) (before : Finding) (front : List Entry) (e : Entry) (back : List Entry) → is_of run address e ≡ true → NoneOf run address back
-    → latest run address before (front ++ (e ∷ back)) ≡ Found e.actual
+last_of : (run address : ℕ) (before : Option ℕ) (front : List Entry) (e : Entry) (back : List Entry) → is_of run address e ≡ true → NoneOf run address back
+    → latest run address before (front ++ (e ∷ back)) ≡ Some e.actual
 last_of run address before [] e back t n =
-    ap (λ (b : Bool). latest run address (if b then Found e.actual else before) back) t ∙ none-later run address (Found e.actual) back n
-last_of run address before (f ∷ front) e back t n = last_of run address (if is_of run address f then Found f.actual else before) front e back t n
+    ap (λ (b : Bool). latest run address (if b then Some e.actual else before) back) t ∙ none-later run address (Some e.actual) back n
+last_of run address before (f ∷ front) e back t n = last_of run address (if is_of run address f then Some f.actual else before) front e back t n
 
 pub appended-found : AppendedFound
 appended-found ledger used front e back f s h n =
     let es = front ++ (e ∷ back) in
-    let within : 12 * (used + length es) ≤ length ledger = records-within ledger (used + length es) (record { value = sym s }) refl in
+    let within : 12 * (used + length es) ≤ length ledger = records-within ledger (used + length es) s in
     let bytes : length (ledger_bytes es) ≡ 12 * length es = length-ledger es in
     let same : length (put ledger (12 * used) (ledger_bytes es)) ≡ length ledger = length-put ledger (12 * used) (ledger_bytes es) (omega arith) in
     let serves : is_ledger (length (put ledger (12 * used) (ledger_bytes es))) (used + length es) ≡ true =
     ap (λ (n : ℕ). is_ledger n (used + length es)) same ∙ s in
-    asked_of (put ledger (12 * used) (ledger_bytes es)) (used + length es) (record { value = sym serves }) e.run e.at refl h
-    ∙ ap (latest e.run e.at NotFound)
+    asked_of (put ledger (12 * used) (ledger_bytes es)) (used + length es) serves e.run e.at h
+    ∙ ap (λ (es : List Entry). Ok (latest e.run e.at None es))
     (records-back ledger used es f within ∙ sym (append_assoc (entries_in ledger used) front (e ∷ back)))
-    ∙ last_of e.run e.at NotFound (entries_in ledger used ++ front) e back (itself e) n
+    ∙ ap Ok (last_of e.run e.at None (entries_in ledger used ++ front) e back (itself e) n)

@@ -61,19 +61,13 @@ room-lt bytes used g e =
     let c = capacity-le bytes in
     (omega (arith, c.1), omega (arith, c.0))
 
-module _ (ledger : List ℕ) (used : ℕ) (e : Entry) {b : Bool} (g : Gives (has_room (length ledger) used) b) where
-  pub appends : b ≡ true → {w : ℕ} {ledger' : List ℕ} → w ≡ e.actual * 65536 + e.status * 256 + flag e.eop
-      → e.actual < 2 ^ 16 → e.status < 2 ^ 8 → ledger' ≡ put_at ledger (12 * used) (word_bytes MostFirst (e.run ∷ e.at ∷ w ∷ []))
-      → Appended ledger used e (used + 1) ledger'
-  appends t f h i p =
-      let room : has_room (length ledger) used ≡ true = sym g.value ∙ t in
-      let fits = (room-lt (length ledger) used g t).1 in
-      record {
-        used_after = rw room;
-        lent = p ∙ ap (put_at ledger (12 * used)) (three-words e f h i) ∙ put_in ledger (12 * used) (entry_bytes e) (omega (arith, fits)) ∙ rw room;
-      }
-
-  pub no_room : b ≡ false → Appended ledger used e used ledger
-  no_room t =
-      let room : has_room (length ledger) used ≡ false = sym g.value ∙ t in
-      record { used_after = rw room; lent = rw room }
+pub appends : (ledger : List ℕ) (used : ℕ) (e : Entry) {b : Bool} → Gives (has_room (length ledger) used) b → b ≡ true
+    → {w : ℕ} {ledger' : List ℕ} → w ≡ e.actual * 65536 + e.status * 256 + flag e.eop → e.actual < 2 ^ 16 → e.status < 2 ^ 8
+    → ledger' ≡ put_at ledger (12 * used) (word_bytes MostFirst (e.run ∷ e.at ∷ w ∷ [])) → Appended ledger used e (used + 1) ledger'
+appends ledger used e g t f h i p =
+    let room : has_room (length ledger) used ≡ true = sym g.value ∙ t in
+    let fits = (room-lt (length ledger) used g t).1 in
+    record {
+      used_after = rw room;
+      lent = p ∙ ap (put_at ledger (12 * used)) (three-words e f h i) ∙ put_in ledger (12 * used) (entry_bytes e) (omega (arith, fits)) ∙ rw room;
+    }

@@ -1,5 +1,6 @@
 -- What is told of a descriptor is what the last used record of it says, or that there is none.
 -- Assumes nothing.
+use Rattle.std.specs.Prelude.{Option, Some, None, Result, Ok}
 use Prim.Native.Nat.{ℕ, zero, suc, ◌<◌}
 use mathlib.Core.Path.{◌≡◌, refl, sym, ap, subst, ◌∙◌}
 use mathlib.Core.Bool.{Bool, true, false, true≢false, ◌&&◌}
@@ -7,8 +8,8 @@ use mathlib.Core.List.{List}
 use native.Mathlib.Omega.{arith}
 use lib.Dec.{eqb, ltb}
 use borrow.Author.Tests.{eq-eqb, eqb-true, ltb-true, ltb-false}
+use Rattle.bus.specs.declared.Refusal.{Refusal}
 use Rattle.ledger.specs.declared.Entry.{Entry}
-use Rattle.ledger.specs.declared.Finding.TheVariants.{Found, NotFound}
 use Rattle.ledger.specs.Finding.{entry_at, entries_in, is_of}
 use Rattle.ledger.specs.Theorems.{WrittenBack, LatestCount, FoundExactly, NotFoundExactly}
 use Rattle.ledger.proofs.Latest.{told, latest-last, asked_of}
@@ -42,16 +43,16 @@ module _ (run address : ℕ) where
       by false t = refl
 
   module _ (ledger : List ℕ) where
-    abbrev None : ℕ → Type 0
-    None n = (i : ℕ) → i < n → WrittenBack run address (entry_at ledger i) → ⊥
+    abbrev NoneBelow : ℕ → Type 0
+    NoneBelow n = (i : ℕ) → i < n → WrittenBack run address (entry_at ledger i) → ⊥
 
     abbrev Latest : ℕ → ℕ → Type 0
     Latest n count = LatestCount ledger n run address count
 
     -- of n records either is the case
     data Told (n : ℕ) : Type 0 where
-      found : (count : ℕ) → told run address ledger n ≡ Found count → Latest n count → Told n
-      none : told run address ledger n ≡ NotFound → None n → Told n
+      found : (count : ℕ) → told run address ledger n ≡ Some count → Latest n count → Told n
+      none : told run address ledger n ≡ None → NoneBelow n → Told n
 
     -- one record more, that is none
     one_more : (n : ℕ) → (WrittenBack run address (entry_at ledger n) → ⊥) → told run address ledger (suc n) ≡ told run address ledger n → Told n → Told (suc n)
@@ -72,10 +73,10 @@ module _ (run address : ℕ) where
       where
         by : (b : Bool) → is_of run address (entry_at ledger n) ≡ b → Told n → Told (suc n)
         by true e before =
-            found (entry_at ledger n).actual (latest-last run address NotFound (entries_in ledger n) (entry_at ledger n) ∙ rw e)
+            found (entry_at ledger n).actual (latest-last run address None (entries_in ledger n) (entry_at ledger n) ∙ rw e)
             (record { place = n; used_one = omega arith; its = is_one (entry_at ledger n) e; counted = refl; last = λ j i k. absurd (omega arith) })
         by false e before =
-            one_more n (is_none (entry_at ledger n) e) (latest-last run address NotFound (entries_in ledger n) (entry_at ledger n) ∙ rw e) before
+            one_more n (is_none (entry_at ledger n) e) (latest-last run address None (entries_in ledger n) (entry_at ledger n) ∙ rw e) before
 
     -- there is one last record
     same_count : (n a b : ℕ) → Latest n a → Latest n b → a ≡ b
@@ -90,43 +91,40 @@ module _ (run address : ℕ) where
             let same : l.place ≡ m.place = omega arith in
             sym l.counted ∙ ap (λ (x : ℕ). (entry_at ledger x).actual) same ∙ m.counted
 
-    apart : {count : ℕ} → NotFound ≡ Found count → ⊥
-    apart e = let z : ◌≡◌ {A = ℕ} 0 1 = cc in omega arith
+    found-is : (n count : ℕ) → Told n → told run address ledger n ≡ Some count → Latest n count
+    found-is n count (found c f l) e = let same : c ≡ count = cc in subst (Latest n) same l
+    found-is n count (none f l) e = absurd cc
 
-    found-is : (n count : ℕ) → Told n → told run address ledger n ≡ Found count → Latest n count
-    found-is n count (found c f l) e = subst (Latest n) (count_of (sym f ∙ e)) l
-      where
-        count_of : Found c ≡ Found count → c ≡ count
-        count_of p = cc
-    found-is n count (none f l) e = absurd (apart (sym f ∙ e))
-
-    is_found : (n count : ℕ) → Told n → Latest n count → told run address ledger n ≡ Found count
-    is_found n count (found c f l) m = f ∙ ap Found (same_count n c count l m)
+    is_found : (n count : ℕ) → Told n → Latest n count → told run address ledger n ≡ Some count
+    is_found n count (found c f l) m = f ∙ ap Some (same_count n c count l m)
     is_found n count (none f l) m = absurd (l m.place m.used_one m.its)
 
-    none_is : (n : ℕ) → Told n → told run address ledger n ≡ NotFound → None n
-    none_is n (found c f l) e = absurd (apart (sym e ∙ f))
+    none_is : (n : ℕ) → Told n → told run address ledger n ≡ None → NoneBelow n
+    none_is n (found c f l) e = absurd cc
     none_is n (none f l) e = l
 
-    is-not-found : (n : ℕ) → Told n → None n → told run address ledger n ≡ NotFound
+    is-not-found : (n : ℕ) → Told n → NoneBelow n → told run address ledger n ≡ None
     is-not-found n (found c f l) m = absurd (m l.place l.used_one l.its)
     is-not-found n (none f l) m = f
 
 pub itself : (e : Entry) → is_of e.run e.at e ≡ true
 itself e = rw (eq-eqb e.at e.at refl, eq-eqb e.run e.run refl)
 
+same-told : {x y : Option ℕ} → ◌≡◌ {A = Result (Option ℕ) Refusal} (Ok x) (Ok y) → x ≡ y
+same-told e = cc
+
 pub found-exactly : FoundExactly
 found-exactly ledger used run address count s h =
-    let asked = asked_of ledger used (record { value = sym s }) run address refl h in
+    let asked = asked_of ledger used s run address h in
     let t = tells run address ledger used in (
-      λ e. found-is run address ledger used count t (sym asked ∙ e),
-      λ l. asked ∙ is_found run address ledger used count t l,
+      λ e. found-is run address ledger used count t (same-told (sym asked ∙ e)),
+      λ l. asked ∙ ap Ok (is_found run address ledger used count t l),
     )
 
 pub not-found-exactly : NotFoundExactly
 not-found-exactly ledger used run address s h =
-    let asked = asked_of ledger used (record { value = sym s }) run address refl h in
+    let asked = asked_of ledger used s run address h in
     let t = tells run address ledger used in (
-      λ e. none_is run address ledger used t (sym asked ∙ e),
-      λ l. asked ∙ is-not-found run address ledger used t l,
+      λ e. none_is run address ledger used t (same-told (sym asked ∙ e)),
+      λ l. asked ∙ ap Ok (is-not-found run address ledger used t l),
     )

@@ -1,14 +1,12 @@
 -- What the ledger tells. Order 6: "Answer whether a descriptor was written back in a given run, and its latest byte count there."
 -- Assumes nothing.
-use Rattle.std.specs.Prelude.{ℕ, zero, suc, ◌*◌, Bool, not, ◌&&◌, List, [], ◌∷◌, ◌++◌, eqb, length, if◌then◌else◌}
+use Rattle.std.specs.Prelude.{ℕ, zero, suc, ◌*◌, Bool, not, ◌&&◌, List, [], ◌∷◌, ◌++◌, eqb, length, if◌then◌else◌, Option, Some, None, Result, Ok, Err}
 use Rattle.words.specs.declared.Order.TheVariants.{MostFirst}
 use Rattle.words.specs.Bits.{bit}
 use Rattle.words.specs.Slices.{part, number_at}
+use Rattle.bus.specs.declared.Refusal.{Refusal}
 use Rattle.bus.specs.declared.Refusal.TheVariants.{BadLedger, RunUnknown}
-use Rattle.bus.specs.Refusal.{refusal_number}
 use Rattle.ledger.specs.declared.Entry.{Entry}
-use Rattle.ledger.specs.declared.Finding.{Finding}
-use Rattle.ledger.specs.declared.Finding.TheVariants.{Found, NotFound, Refused}
 use Rattle.ledger.specs.Records.{is_ledger}
 
 -- ---- the records, read back
@@ -39,20 +37,15 @@ entries_in ledger (suc n) = entries_in ledger n ++ (entry_at ledger n ∷ [])
 abbrev pub is_of : (run address : ℕ) → Entry → Bool
 is_of run address e = eqb e.at address && eqb e.run run
 
--- the records one after the other, the oldest first: each that is asked for takes the place of what was found before it
-abbrev pub latest : (run address : ℕ) → Finding → List Entry → Finding
+-- the latest byte count, if there is one: the records one after the other, the oldest first, and each that is asked for takes the place
+-- of what was found before it
+abbrev pub latest : (run address : ℕ) → Option ℕ → List Entry → Option ℕ
 latest run address before [] = before
-latest run address before (e ∷ es) = latest run address (if is_of run address e then Found e.actual else before) es
+latest run address before (e ∷ es) = latest run address (if is_of run address e then Some e.actual else before) es
 
 -- "18 RunUnknown when the run asked for is 4,294,967,295, after 19"
-unfoldable pub finding_in : (ledger : List ℕ) (used run address : ℕ) → Finding
+unfoldable pub finding_in : (ledger : List ℕ) (used run address : ℕ) → Result (Option ℕ) Refusal
 finding_in ledger used run address =
-    if not (is_ledger (length ledger) used) then Refused BadLedger
-    else if eqb run 4294967295 then Refused RunUnknown
-    else latest run address NotFound (entries_in ledger used)
-
--- the number of each answer
-abbrev pub finding_number : Finding → ℕ
-finding_number (Found n) = 0
-finding_number NotFound = 0
-finding_number (Refused why) = refusal_number why
+    if not (is_ledger (length ledger) used) then Err BadLedger
+    else if eqb run 4294967295 then Err RunUnknown
+    else Ok (latest run address None (entries_in ledger used))

@@ -1,9 +1,8 @@
 -- What is proved of the ledger: each theorem's whole statement, under its name. A term of each stands in proofs/.
 -- Assumes nothing.
-use Rattle.std.specs.Prelude.{ℕ, ◌+◌, ◌*◌, ◌^◌, ◌≤◌, ◌<◌, ◌≡◌, ◌≢◌, ◌↔◌, true, List, [], ◌∷◌, ◌++◌, length}
+use Rattle.std.specs.Prelude.{ℕ, ◌+◌, ◌*◌, ◌^◌, ◌≤◌, ◌<◌, ◌≡◌, ◌≢◌, ◌↔◌, true, List, [], ◌∷◌, ◌++◌, length, Some, None, Ok}
 use Rattle.words.specs.Slices.{put}
 use Rattle.ledger.specs.declared.Entry.{Entry}
-use Rattle.ledger.specs.declared.Finding.TheVariants.{Found, NotFound}
 use Rattle.ledger.specs.Records.{ledger_bytes, is_ledger}
 use Rattle.ledger.specs.Finding.{entry_at, entries_in, finding_in}
 
@@ -24,12 +23,12 @@ pub record LatestCount (ledger : List ℕ) (used run address count : ℕ) : Type
 -- A descriptor is found, with a count, exactly where the last used record of it in that run has this count.
 abbrev pub FoundExactly : Type 0
 FoundExactly = (ledger : List ℕ) (used run address count : ℕ) → is_ledger (length ledger) used ≡ true → run ≢ 4294967295
-    → (finding_in ledger used run address ≡ Found count) ↔ LatestCount ledger used run address count
+    → (finding_in ledger used run address ≡ Ok (Some count)) ↔ LatestCount ledger used run address count
 
 -- It is not found exactly where no used record is of it in that run.
 abbrev pub NotFoundExactly : Type 0
 NotFoundExactly = (ledger : List ℕ) (used run address : ℕ) → is_ledger (length ledger) used ≡ true → run ≢ 4294967295
-    → (finding_in ledger used run address ≡ NotFound) ↔ ((i : ℕ) → i < used → WrittenBack run address (entry_at ledger i) → ⊥)
+    → (finding_in ledger used run address ≡ Ok None) ↔ ((i : ℕ) → i < used → WrittenBack run address (entry_at ledger i) → ⊥)
 
 -- ---- what was appended is what is read, and is found
 
@@ -57,4 +56,4 @@ AppendedFound = (ledger : List ℕ) (used : ℕ) (front : List Entry) (e : Entry
     → AllFit (front ++ (e ∷ back)) → is_ledger (length ledger) (used + length (front ++ (e ∷ back))) ≡ true
     → e.run ≢ 4294967295 → NoneOf e.run e.at back
     → finding_in (put ledger (12 * used) (ledger_bytes (front ++ (e ∷ back)))) (used + length (front ++ (e ∷ back))) e.run e.at
-    ≡ Found e.actual
+    ≡ Ok (Some e.actual)

@@ -1,18 +1,17 @@
 // The dated ledger: records of 12 bytes, one for each write-back, each put behind those used; and what they tell of a run.
 #![tactic(auto)]
 
-ghost use Rattle.std.specs.Prelude.{◌≡◌, ◌+◌, ◌*◌, ◌≤◌, length};
+ghost use Rattle.std.specs.Prelude.{◌≡◌, ◌+◌, ◌*◌, ◌≤◌, length, None};
 ghost use Rattle.words.specs.Bits.{flag as flag_of};
 ghost use Rattle.words.specs.Promise.{Gives};
 ghost use Rattle.ledger.specs.Records.{capacity as capacity_of, has_room, is_ledger, Appended};
-ghost use Rattle.ledger.specs.declared.Finding.TheVariants.{NotFound};
 ghost use Rattle.ledger.specs.Finding.{entry_of, entries_in, is_of, latest, finding_in};
 
 use bus::Refusal;
 use words::{Order, flag, get_u16, get_u32, put_words};
 
 // What is kept of a write-back: the run and the descriptor's address; actual, status and EOP as written back.
-#[derive(Clone, Copy)]
+#[derive(Clone, Copy, Debug, PartialEq, Eq)]
 pub struct Entry {
     pub run: u32,
     pub at: u32,
@@ -21,29 +20,21 @@ pub struct Entry {
     pub eop: bool,
 }
 
-// What is told of a descriptor in a run: its latest byte count there, or that it was not written back.
-#[derive(Clone, Copy)]
-pub enum Finding {
-    Found(u16),
-    NotFound,
-    Refused(Refusal),
-}
-
 // The bytes of a record.
 const RECORD: usize = 12;
 
 // No more records than this are told.
-const MOST: usize = 4_294_967_295;
+const MOST: usize = u32::MAX as usize;
 
 // The largest run number: more than one run may have it.
-const LAST_RUN: u32 = 4_294_967_295;
+const LAST_RUN: u32 = u32::MAX;
 
 // How many records so many bytes hold.
+#[tactic(auto, unfolding(crate::specs::Records::capacity))]
 fn capacity(bytes: usize) -> usize
     ensures { result ≡ capacity_of bytes }
 {
-    let n = bytes / RECORD;
-    if n <= MOST { n } else { MOST }
+    (bytes / RECORD).min(MOST)
 }
 
 // The last four bytes of a record as a word.
@@ -53,7 +44,7 @@ fn last(actual: u16, status: u8, eop: bool) -> u32
     actual as u32 * 0x1_0000 + status as u32 * 256 + flag(eop) as u32
 }
 
-// Whether there is room for one more.
+// Whether there is room for one more. `used` stands beside the bytes, as sgdma_run lends them: a struct would be two, to read and to write.
 pub fn has_room(ledger: &[u8], used: u32) -> bool
     ensures { Gives (has_room (length ledger.now) used) result }
 {
@@ -65,7 +56,7 @@ pub fn serves(ledger: &[u8], used: u32) -> bool
     ensures { Gives (is_ledger (length ledger.now) used) result }
 {
     let n = ledger.len();
-    (n % RECORD == 0) & (used as usize <= n / RECORD)
+    n % RECORD == 0 && used as usize <= n / RECORD
 }
 
 // Puts a record behind those used, where there is room, and tells how many are used now.
@@ -84,39 +75,35 @@ pub fn append(ledger: &mut [u8], used: u32, e: Entry) -> u32
 fn is_of(entry: &[u8], run: u32, address: u32) -> bool
     ensures { Gives (is_of run address (entry_of entry.now)) result }
 {
-    if get_u32(Order::MostFirst, entry, 4) != address {
-        return false;
-    }
-    get_u32(Order::MostFirst, entry, 0) == run
+    get_u32(Order::MostFirst, entry, 4) == address && get_u32(Order::MostFirst, entry, 0) == run
 }
 
 // Goes through the records from the last used to the first: the first that is asked for is the latest. Each is lent by itself, so that
-// its size is known where its words are read.
-fn seek(ledger: &[u8], used: u32, run: u32, address: u32) -> Finding
+// its size is known where its words are read. A chain of chunks_exact, rev and find took twice as long for each
+// record, and missed the aim of twice the model's time.
+fn seek(ledger: &[u8], used: u32, run: u32, address: u32) -> Option<u16>
     requires { 12 * used ≤ length ledger.now }
-    ensures { Gives (latest run address NotFound (entries_in ledger.now used)) result }
+    ensures { Gives (latest run address None (entries_in ledger.now used)) result }
 {
-    let mut left = used as usize;
-    while 0 < left {
-        let at = RECORD * (left - 1);
-        let entry = &ledger[at..at + RECORD];
+    for i in (0..used as usize).rev() {
+        let entry = &ledger[RECORD * i..RECORD * i + RECORD];
         if is_of(entry, run, address) {
-            return Finding::Found(get_u16(Order::MostFirst, entry, 8));
+            return Some(get_u16(Order::MostFirst, entry, 8));
         }
-        left -= 1;
     }
-    Finding::NotFound
+    None
 }
 
 // Tells whether the descriptor at this address was written back in this run, and its latest byte count there.
-pub fn find(ledger: &[u8], used: u32, run: u32, address: u32) -> Finding
+#[tactic(auto, unfolding(crate::specs::Finding::finding_in))]
+pub fn find(ledger: &[u8], used: u32, run: u32, address: u32) -> Result<Option<u16>, Refusal>
     ensures { Gives (finding_in ledger.now used run address) result }
 {
     if !serves(ledger, used) {
-        return Finding::Refused(Refusal::BadLedger);
+        return Err(Refusal::BadLedger);
     }
     if run == LAST_RUN {
-        return Finding::Refused(Refusal::RunUnknown);
+        return Err(Refusal::RunUnknown);
     }
-    seek(ledger, used, run, address)
+    Ok(seek(ledger, used, run, address))
 }

@@ -1,22 +1,25 @@
 -- What a walk goes by: the bytes of the descriptors that it reads, and no others.
 -- Assumes nothing.
+use Rattle.std.specs.Prelude.{Option, Some, None}
 use Prim.Native.Nat.{ℕ, zero, suc, ◌+◌, ◌≤◌, ◌<◌}
 use mathlib.Core.Path.{◌≡◌, refl, sym, ap, ◌∙◌}
-use mathlib.Core.Bool.{Bool, true, false, cond}
+use mathlib.Core.Bool.{Bool, cond}
 use mathlib.Core.List.{List, [], ◌∷◌}
 use native.Mathlib.Omega.{arith}
 use lib.Dec.{leb}
-use lib.ListN.{length, drop, length-drop}
-use lib.Seq.{length-take-le, take_all}
-use borrow.Author.Tests.{leb-true, leb-false, le-leb, lt-leb}
+use lib.ListN.{length, length-drop}
+use Rattle.std.proofs.lemmas.Bool.Decides.{nat_tests}
+use Rattle.std.proofs.lemmas.List.{length-take}
 use Rattle.words.specs.Slices.{part}
 use Rattle.bus.specs.declared.Window.{Window}
 use Rattle.bus.specs.Window.{place_of}
 use Rattle.descriptor.specs.declared.Descriptor.{Descriptor}
 use Rattle.descriptor.specs.Layout.{owned, descriptor_of, descriptor_at}
+use Rattle.links.specs.declared.Kind.{Kind}
+use Rattle.links.specs.declared.Kind.TheVariants.{Sound, Misaligned, Outside, Overlaps}
 use Rattle.links.specs.declared.Verdict.{Verdict}
 use Rattle.links.specs.Form.{bytes_at, link_after}
-use Rattle.links.specs.Verdicts.{Met, misaligned, outside, overlaps, onward, end, met_at, stop, told, walk, verdict_of, read_for}
+use Rattle.links.specs.Verdicts.{met_at, stop, told, walk, verdict_of, read_for}
 use Rattle.links.specs.Theorems.{NoOtherByte}
 use Rattle.links.proofs.Looks.{next, owned_at, address_after, Stands, view, met-is}
 use Rattle.links.proofs.Looks.{View, see-misaligned, see-outside, see-overlaps, see-onward, see-end}
@@ -26,19 +29,7 @@ use Rattle.links.proofs.Meaning.{after-at}
 
 -- 32 stand there exactly where so many are taken
 full : (xs : List ℕ) (at : ℕ) → leb (at + 32) (length xs) ≡ leb 32 (length (part xs at 32))
-full xs at = by (leb (at + 32) (length xs)) refl
-  where
-    by : (b : Bool) → leb (at + 32) (length xs) ≡ b → b ≡ leb 32 (length (part xs at 32))
-    by true e =
-        let h = leb-true (at + 32) (length xs) e in
-        let l = length-drop at xs in
-        let t = length-take-le 32 (drop at xs) (omega (arith, h, l)) in
-        sym (le-leb 32 (length (part xs at 32)) (omega (arith, t)))
-    by false e =
-        let h = leb-false (at + 32) (length xs) e in
-        let l = length-drop at xs in
-        let t = ap length (take_all 32 (drop at xs) (omega (arith, h, l))) in
-        sym (lt-leb 32 (length (part xs at 32)) (omega (arith, h, l, t)))
+full xs at = simp (length-take, length-drop) (grind (arith, nat_tests))
 
 -- that of no bytes, where there are fewer
 abbrev says_of : List ℕ → Descriptor
@@ -63,13 +54,13 @@ module _ (w : Window) (m o : List ℕ) where
   far zero seen i a = omega arith
   far (suc n) seen i a = by (far n (a ∷ seen) (i + 1) (next w m a)) (met_at w m seen a)
     where
-      by : i + 1 ≤ read_for (walk w m (a ∷ seen) n (i + 1) (next w m a)) → (x : Met)
+      by : i + 1 ≤ read_for (walk w m (a ∷ seen) n (i + 1) (next w m a)) → (x : Option Kind)
           → i ≤ read_for (told (stop i a) (walk w m (a ∷ seen) n (i + 1) (next w m a)) x)
-      by h misaligned = omega arith
-      by h outside = omega arith
-      by h overlaps = omega arith
-      by h onward = omega (arith, h)
-      by h end = omega arith
+      by h (Some Misaligned) = omega arith
+      by h (Some Outside) = omega arith
+      by h (Some Overlaps) = omega arith
+      by h (Some Sound) = omega arith
+      by h None = omega (arith, h)
 
   -- the bytes of those that it reads, from its first position on
   abbrev Alike : (i a : ℕ) → Verdict → Type 0
@@ -86,22 +77,22 @@ module _ (w : Window) (m o : List ℕ) where
     owned-same : Same a → owned_at w o a ≡ owned_at w m a
     owned-same e = ap (λ (d : Descriptor). owned d.control.0) (says_same o m (place_of w a) e)
 
-    met : (x : Met) → View w o seen a x → told (stop i a) other (met_at w o seen a) ≡ told (stop i a) other x
+    met : (x : Option Kind) → View w o seen a x → told (stop i a) other (met_at w o seen a) ≡ told (stop i a) other x
     met x y = ap (told (stop i a) other) (met-is w o seen a x y)
 
     stands : Stands w m seen a → Stands w o seen a
     stands s = record { aligned = s.aligned; inside = s.inside; apart = s.apart }
 
-    turn-same : (Alike (i + 1) (next w m a) rest → walk w o (a ∷ seen) n (i + 1) (next w m a) ≡ rest) → (x : Met) → View w m seen a x
+    turn-same : (Alike (i + 1) (next w m a) rest → walk w o (a ∷ seen) n (i + 1) (next w m a) ≡ rest) → (x : Option Kind) → View w m seen a x
         → Alike i a (told (stop i a) rest x) → told (stop i a) other (met_at w o seen a) ≡ told (stop i a) rest x
-    turn-same r misaligned (see-misaligned f) g = met misaligned (see-misaligned f)
-    turn-same r outside (see-outside f k) g = met outside (see-outside f k)
-    turn-same r overlaps (see-overlaps f k l) g = met overlaps (see-overlaps f k l)
-    turn-same r end (see-end s u) g = met end (see-end (stands s) (owned-same (g 0 (omega arith)) ∙ u))
-    turn-same r onward (see-onward s u) g =
+    turn-same r (Some Misaligned) (see-misaligned f) g = met (Some Misaligned) (see-misaligned f)
+    turn-same r (Some Outside) (see-outside f k) g = met (Some Outside) (see-outside f k)
+    turn-same r (Some Overlaps) (see-overlaps f k l) g = met (Some Overlaps) (see-overlaps f k l)
+    turn-same r (Some Sound) (see-end s u) g = met (Some Sound) (see-end (stands s) (owned-same (g 0 (omega arith)) ∙ u))
+    turn-same r None (see-onward s u) g =
         let h = far n (a ∷ seen) (i + 1) (next w m a) in
         let e = g 0 (omega (arith, h)) in
-        met onward (see-onward (stands s) (owned-same e ∙ u))
+        met None (see-onward (stands s) (owned-same e ∙ u))
         ∙ ap (λ (d : Descriptor). walk w o (a ∷ seen) n (i + 1) d.next) (says_same o m (place_of w a) e)
         ∙ r (λ j k. g (suc j) (omega (arith, k)))
 

@@ -2,30 +2,25 @@
 -- Assumes nothing.
 use Prim.Native.Nat.{ℕ, zero, suc, ◌+◌, ◌/◌, ◌%◌, ◌≤◌, ◌<◌}
 use mathlib.Core.Path.{◌≡◌, refl, sym, ap, subst, ◌∙◌}
+use mathlib.Core.Logic.{◌⊎◌, inl, inr}
 use mathlib.Core.Bool.{Bool, true, false, cond}
 use mathlib.Core.List.{List, [], ◌∷◌}
 use native.Mathlib.Omega.{arith}
-use lib.Dec.{eqb, ltb}
+use lib.Dec.{eqb}
 use lib.ListN.{length, get_or, set}
-use borrow.Author.Tests.{eqb-true, ltb-true, ltb-false, eq-eqb, ne_eqb}
-use Rattle.links.specs.Helpers.Cells.{Clear, below, above, ClearOf, AllClear, mark_of, Free}
+use borrow.Author.Tests.{eqb-true, eq-eqb, ne_eqb}
+use Rattle.std.proofs.lemmas.Bool.{cases_order, cond-true, cond_both}
+use Rattle.links.specs.Helpers.Cells.{Clear, below, above, mark_of, Free}
+use Rattle.links.specs.Form.{All, Pairwise}
 
 pick : (P : ℕ → Type 0) (a c x y : ℕ) → (a ≡ c → P x) → P y → P (cond (eqb a c) x y)
-pick P a c x y f g = by (eqb a c) refl
-  where
-    by : (b : Bool) → eqb a c ≡ b → P (cond b x y)
-    by true e = f (eqb-true a c e)
-    by false e = g
+pick P a c x y f g = cond_both (eqb a c) x y P (λ e. f (eqb-true a c e)) (λ e. g)
 
 unpick : (P : ℕ → Type 0) (a c x y : ℕ) → P (cond (eqb a c) x y) → (a ≡ c → P y) → P y
-unpick P a c x y h f = by (eqb a c) refl h
-  where
-    by : (b : Bool) → eqb a c ≡ b → P (cond b x y) → P y
-    by true e g = f (eqb-true a c e)
-    by false e g = g
+unpick P a c x y h f = cond_both (eqb a c) x y (λ z. P z → P y) (λ e z. f (eqb-true a c e)) (λ e z. z) h
 
 at-eq : (a c x y : ℕ) → a ≡ c → cond (eqb a c) x y ≡ x
-at-eq a c x y e = ap (λ (b : Bool). cond b x y) (eq-eqb a c e)
+at-eq a c x y e = cond-true (eqb a c) x y (eq-eqb a c e)
 
 same : (p q : ℕ) → q / 32 ≡ p / 32 → Clear p q → ⊥
 same p q e (below h) = omega (arith, e, h)
@@ -40,7 +35,7 @@ higher p q g (below h) = omega (arith, g, h)
 higher p q g (above h) = omega (arith, g, h)
 
 -- a block off all others finds its three cells so
-pub clear-free : (p : ℕ) (qs : List ℕ) → ClearOf p qs → Free p qs
+pub clear-free : (p : ℕ) (qs : List ℕ) → All (Clear p) qs → Free p qs
 clear-free p [] t = record { here = refl; low = λ c e. omega arith; high = λ h. omega (arith, h) }
 clear-free p (q ∷ qs) t =
     let f = clear-free p qs t.1 in
@@ -49,19 +44,6 @@ clear-free p (q ∷ qs) t =
       low = λ c e. pick (λ (x : ℕ). x ≤ p % 32 + 1) (q / 32) c (1 + q % 32) (mark_of c qs) (λ g. lower p q c e g t.0) (f.low c e);
       high = pick (λ (x : ℕ). 1 ≤ x → p % 32 < x) (q / 32) (p / 32 + 1) (1 + q % 32) (mark_of (p / 32 + 1) qs) (λ g h. higher p q g t.0) f.high;
     }
-
-data Side (a c : ℕ) : Type 0 where
-  less : a < c → Side a c
-  equal : a ≡ c → Side a c
-  more : c < a → Side a c
-
-side : (a c : ℕ) → Side a c
-side a c = by (ltb a c) refl (ltb c a) refl
-  where
-    by : (x : Bool) → ltb a c ≡ x → (y : Bool) → ltb c a ≡ y → Side a c
-    by true e y f = less (ltb-true a c e)
-    by false e true f = more (ltb-true c a f)
-    by false e false f = let g = ltb-false a c e in let h = ltb-false c a f in equal (omega (arith, g, h))
 
 -- and where the blocks before are apart, three such cells show it off them all
 module _ (p q : ℕ) (qs : List ℕ) (f : Free p (q ∷ qs)) where
@@ -77,24 +59,24 @@ module _ (p q : ℕ) (qs : List ℕ) (f : Free p (q ∷ qs)) where
       above (omega (arith, m, e))
 
   this : Clear p q
-  this = by (side (q / 32) (p / 32))
+  this = by (cases_order (q / 32) (p / 32))
     where
-      by_less : q / 32 < p / 32 → Side (q / 32 + 1) (p / 32) → Clear p q
-      by_less h (less g) = below (omega (arith, g))
-      by_less h (equal g) = near-below (sym g)
-      by_less h (more g) = absurd (omega (arith, h, g))
+      by_less : q / 32 < p / 32 → (q / 32 + 1 ≡ p / 32) ⊎ ((q / 32 + 1 < p / 32) ⊎ (p / 32 < q / 32 + 1)) → Clear p q
+      by_less h (inl g) = near-below (sym g)
+      by_less h (inr (inl g)) = below (omega (arith, g))
+      by_less h (inr (inr g)) = absurd (omega (arith, h, g))
 
-      by-more : p / 32 < q / 32 → Side (p / 32 + 1) (q / 32) → Clear p q
-      by-more h (less g) = above (omega (arith, g))
-      by-more h (equal g) = near-above (sym g)
-      by-more h (more g) = absurd (omega (arith, h, g))
+      by-more : p / 32 < q / 32 → (p / 32 + 1 ≡ q / 32) ⊎ ((p / 32 + 1 < q / 32) ⊎ (q / 32 < p / 32 + 1)) → Clear p q
+      by-more h (inl g) = near-above (sym g)
+      by-more h (inr (inl g)) = above (omega (arith, g))
+      by-more h (inr (inr g)) = absurd (omega (arith, h, g))
 
-      by : Side (q / 32) (p / 32) → Clear p q
-      by (less h) = by_less h (side (q / 32 + 1) (p / 32))
-      by (equal h) = let z : 1 + q % 32 ≡ 0 = sym (at-eq (q / 32) (p / 32) (1 + q % 32) (mark_of (p / 32) qs) h) ∙ f.here in absurd (omega (arith, z))
-      by (more h) = by-more h (side (p / 32 + 1) (q / 32))
+      by : (q / 32 ≡ p / 32) ⊎ ((q / 32 < p / 32) ⊎ (p / 32 < q / 32)) → Clear p q
+      by (inl h) = let z : 1 + q % 32 ≡ 0 = sym (at-eq (q / 32) (p / 32) (1 + q % 32) (mark_of (p / 32) qs) h) ∙ f.here in absurd (omega (arith, z))
+      by (inr (inl h)) = by_less h (cases_order (q / 32 + 1) (p / 32))
+      by (inr (inr h)) = by-more h (cases_order (p / 32 + 1) (q / 32))
 
-  rest : ClearOf q qs → Free p qs
+  rest : All (Clear q) qs → Free p qs
   rest a =
       let none : (c : ℕ) → q / 32 ≡ c → mark_of c qs ≡ 0 = λ c e. ap (λ (x : ℕ). mark_of x qs) (sym e) ∙ (clear-free q qs a).here in
       record {
@@ -103,7 +85,7 @@ module _ (p q : ℕ) (qs : List ℕ) (f : Free p (q ∷ qs)) where
         high = unpick (λ (x : ℕ). 1 ≤ x → p % 32 < x) (q / 32) (p / 32 + 1) (1 + q % 32) (mark_of (p / 32 + 1) qs) f.high (λ g h. omega (arith, none (p / 32 + 1) g, h));
       }
 
-pub free-clear : (p : ℕ) (qs : List ℕ) → AllClear qs → Free p qs → ClearOf p qs
+pub free-clear : (p : ℕ) (qs : List ℕ) → Pairwise Clear qs → Free p qs → All (Clear p) qs
 free-clear p [] a f = tt
 free-clear p (q ∷ qs) a f = (this p q qs f, free-clear p qs a.1 (rest p q qs f a.0))
 
@@ -130,3 +112,9 @@ filled-set (y ∷ ys) zero x h e =
     let b : ◌≡◌ {A = ℕ} (cond (eqb y 0) 0 1) 0 = ap (λ (b : Bool). cond {A = ℕ} b 0 1) (eq-eqb y 0 e) in
     omega (arith, a, b)
 filled-set (y ∷ ys) (suc i) x h e = omega (arith, filled-set ys i x (omega (arith, h)) e)
+
+-- and one less where the first says nothing
+pub filled-front : (xs : List ℕ) → 1 ≤ length xs → get_or xs 0 0 ≡ 0 → filled xs + 1 ≤ length xs
+filled-front [] h e = absurd (omega (arith, h))
+filled-front (x ∷ xs) h e =
+    let a : ◌≡◌ {A = ℕ} (cond (eqb x 0) 0 1) 0 = ap (λ (b : Bool). cond {A = ℕ} b 0 1) (eq-eqb x 0 e) in omega (arith, a, filled-le xs)

@@ -1,5 +1,6 @@
 -- Mending, by where the chain is cut: the theorems.
 -- Assumes nothing.
+use Rattle.std.specs.Prelude.{Result, Ok, Err, Option, Some, None}
 use Prim.Native.Nat.{ℕ, zero, suc, ◌%◌}
 use mathlib.Core.Path.{◌≡◌, refl, sym, ap, subst, ◌∙◌}
 use mathlib.Core.Logic.{◌≢◌}
@@ -12,20 +13,17 @@ use Rattle.words.specs.Slices.{AllBytes}
 use Rattle.bus.specs.declared.Refusal.{Refusal}
 use Rattle.bus.specs.declared.Refusal.TheVariants.{BadWindow, NothingToKeep}
 use Rattle.bus.specs.declared.Window.{Window}
-use Rattle.bus.specs.declared.CheckedWindow.{CheckedWindow}
-use Rattle.bus.specs.declared.CheckedWindow.TheVariants as checked
+use Rattle.bus.specs.Refusal.{answer_number}
 use Rattle.bus.specs.Window.{keeps_limits, in_window, located_of, checked_of}
 use Rattle.bus.proofs.Limits.{checked-is}
 use Rattle.descriptor.specs.Looking.{spot_of, stands}
 use Rattle.links.specs.declared.mending.Change.{Change}
-use Rattle.links.specs.declared.mending.Mended.{Mended}
-use Rattle.links.specs.declared.mending.Mended.TheVariants as mended
-use Rattle.links.specs.declared.Verdict.{Verdict}
-use Rattle.links.specs.declared.Verdict.TheVariants as verdict
+use Rattle.links.specs.declared.Kind.{Kind}
+use Rattle.links.specs.declared.Kind.TheVariants.{Sound, Misaligned, Outside, Overlaps}
 use Rattle.links.specs.Form.{link_after, Form}
-use Rattle.links.specs.Verdicts.{window_at, verdict_of, position_of, Front, Reached, Means}
+use Rattle.links.specs.Verdicts.{window_at, verdict_of, position_of, Front, Reached, KindMeans}
 use Rattle.links.specs.Theorems.{Limited, NothingExactly, SoundUntouched, OneBitDiffers, FrontKept, MendOnce}
-use Rattle.links.specs.Mending.{Cut, nowhere, before_all, behind, cut_at, cut_by, cut_of, control_place, change_of, cleared_at, mended_by, left_by, mended_of, left_of, mended_in, left_in, mended_number, WasMended, OneBit, Kept}
+use Rattle.links.specs.Mending.{Cut, nowhere, before_all, behind, cut_at, cut_for, cut_by, cut_of, control_place, change_of, cleared_at, mended_by, left_by, mended_of, left_of, mended_in, left_in, WasMended, OneBit, Kept}
 use Rattle.links.specs.Helpers.Cuts.{WasCut}
 use Rattle.links.proofs.Meaning.{means, after-at, form-steady, front-steady, sound-from}
 use Rattle.links.proofs.Windows.{limited}
@@ -61,43 +59,41 @@ module _ (w : Window) (m : List ℕ) (p : ℕ) where
   at zero f e h = first (h refl)
   at (suc k) f e h = later k f e
 
-  where-by : (v : Verdict) → verdict_of w m p ≡ v → Front w m p (position_of v) → Means w m p v → Where (cut_by w m p v)
-  unfolding cut_by
-  where-by (verdict.Sound s) e f x = whole s.position x.form
-  where-by (verdict.Misaligned s) e f x =
-      at s.position f (ap position_of e)
-      (λ z. first-misaligned w p (subst (λ (b : ℕ). b % 4 ≢ 0) (pointed s.position s.address z x.reached) x.here))
-  where-by (verdict.Outside s) e f x =
-      at s.position f (ap position_of e)
-      (λ z. let b = pointed s.position s.address z x.reached in
+  where-by : (f : Kind) (k a : ℕ) → position_of (verdict_of w m p) ≡ k → Front w m p k → KindMeans f w m p k a → Where (cut_for f (cut_at w m p k))
+  where-by Sound k a e f x = whole k x.form
+  where-by Misaligned k a e f x =
+      at k f e (λ z. first-misaligned w p (subst (λ (b : ℕ). b % 4 ≢ 0) (pointed k a z x.reached) x.here))
+  where-by Outside k a e f x =
+      at k f e
+      (λ z. let b = pointed k a z x.reached in
       first-outside w p (subst (λ (b : ℕ). b % 4 ≡ 0) b x.aligned) (subst (λ (b : ℕ). in_window w b 32 ≡ false) b x.here))
-  where-by (verdict.Overlaps s) e f x = at s.position f (ap position_of e) (λ z. let h = x.before in absurd (omega (arith, z, h)))
-  where-by (verdict.Refused why) e f x = absurd x
+  where-by Overlaps k a e f x = at k f e (λ z. let h = x.before in absurd (omega (arith, z, h)))
 
   module _ (lim : Limited w) where
     cut-where : Where (cut_of w m p)
-    cut-where = where-by (verdict_of w m p) refl (front-is w m lim p) (means w m lim p)
+    unfolding cut_by
+    cut-where = where-by _ _ _ refl (front-is w m lim p) (means w m lim p)
 
     -- ---- nothing to keep
 
-    nothing-by : (x : Cut) → Where x → mended_by w m x ≡ mended.Refused NothingToKeep → stands (spot_of w p) ≡ false
-    nothing-by nowhere (whole k f) g = absurd (let z : ◌≡◌ {A = ℕ} 0 1 = cc in omega arith)
+    nothing-by : (x : Cut) → Where x → mended_by w m x ≡ Err NothingToKeep → stands (spot_of w p) ≡ false
+    nothing-by nowhere (whole k f) g = absurd (cc)
     nothing-by before_all (first h) g = h
-    nothing-by (behind b) (later k f e) g = absurd (let z : ◌≡◌ {A = ℕ} 0 1 = cc in omega arith)
+    nothing-by (behind b) (later k f e) g = absurd (cc)
 
-    nothing-from : (x : Cut) → Where x → stands (spot_of w p) ≡ false → mended_by w m x ≡ mended.Refused NothingToKeep
+    nothing-from : (x : Cut) → Where x → stands (spot_of w p) ≡ false → mended_by w m x ≡ Err NothingToKeep
     nothing-from nowhere (whole k f) g =
         let s = form-steady w m p k f in absurd (true≢false (sym (first-stands w p s.0.aligned s.0.inside) ∙ g))
     nothing-from before_all (first h) g = refl
     nothing-from (behind b) (later k f e) g =
         let s = front-steady w m p (suc k) f in absurd (true≢false (sym (first-stands w p s.0.aligned s.0.inside) ∙ g))
 
-    number_by : (x : Cut) → Where x → mended_number (mended_by w m x) ≡ cond (stands (spot_of w p)) 0 23
+    number_by : (x : Cut) → Where x → answer_number (mended_by w m x) ≡ cond (stands (spot_of w p)) 0 23
     number_by nowhere (whole k f) = let s = form-steady w m p k f in rw (first-stands w p s.0.aligned s.0.inside)
     number_by before_all (first h) = rw h
     number_by (behind b) (later k f e) = let s = front-steady w m p (suc k) f in rw (first-stands w p s.0.aligned s.0.inside)
 
-    untouched : (k : ℕ) → Form w m p k → (mended_of w m p ≡ mended.Sound) × (left_of w m p ≡ m)
+    untouched : (k : ℕ) → Form w m p k → (mended_of w m p ≡ Ok None) × (left_of w m p ≡ m)
     unfolding cut_by
     untouched k f =
         let e : cut_of w m p ≡ nowhere = ap (cut_by w m p) (sound-from w m lim p k f) in
@@ -106,9 +102,9 @@ module _ (w : Window) (m : List ℕ) (p : ℕ) where
     module _ (size : length m ≡ w.length) where
       -- ---- one that is cut
 
-      kept_by : (x : Cut) → Where x → (c : Change) → mended_by w m x ≡ mended.Changed c → (k : ℕ) × Kept w m p k c (left_by w m x)
-      kept_by nowhere (whole k f) c g = absurd (let z : ◌≡◌ {A = ℕ} 0 1 = cc in omega arith)
-      kept_by before_all (first h) c g = absurd (let z : ◌≡◌ {A = ℕ} 0 1 = cc in omega arith)
+      kept_by : (x : Cut) → Where x → (c : Change) → mended_by w m x ≡ Ok (Some c) → (k : ℕ) × Kept w m p k c (left_by w m x)
+      kept_by nowhere (whole k f) c g = absurd (cc)
+      kept_by before_all (first h) c g = absurd (cc)
       kept_by (behind b) (later k f e) c g =
           let same : change_of w m b ≡ c = cc in (
             k,
@@ -116,9 +112,9 @@ module _ (w : Window) (m : List ℕ) (p : ℕ) where
                 (subst (λ (y : ℕ). Kept w m p k (change_of w m y) (cleared_at w m y)) (sym (after-at w m p k)) (the_kept w m lim size p k f e)),
           )
 
-      bit-by : (x : Cut) → Where x → (c : Change) → AllBytes m → mended_by w m x ≡ mended.Changed c → OneBit m (control_place w c.address) c (left_by w m x)
-      bit-by nowhere (whole k f) c b g = absurd (let z : ◌≡◌ {A = ℕ} 0 1 = cc in omega arith)
-      bit-by before_all (first h) c b g = absurd (let z : ◌≡◌ {A = ℕ} 0 1 = cc in omega arith)
+      bit-by : (x : Cut) → Where x → (c : Change) → AllBytes m → mended_by w m x ≡ Ok (Some c) → OneBit m (control_place w c.address) c (left_by w m x)
+      bit-by nowhere (whole k f) c b g = absurd (cc)
+      bit-by before_all (first h) c b g = absurd (cc)
       bit-by (behind y) (later k f e) c b g =
           let same : change_of w m y ≡ c = cc in
           subst (λ (d : Change). OneBit m (control_place w d.address) d (cleared_at w m y)) same
@@ -127,28 +123,25 @@ module _ (w : Window) (m : List ℕ) (p : ℕ) where
 -- ---- the answer of mending
 
 module _ (m : List ℕ) (base p : ℕ) where
-  pub mended-number : mended_number (mended_in (checked_of base (length m)) m p) ≡ cond (keeps_limits base (length m)) (cond (stands (spot_of (window_at base m) p)) 0 23) 3
+  pub mended-number : answer_number (mended_in (checked_of base (length m)) m p) ≡ cond (keeps_limits base (length m)) (cond (stands (spot_of (window_at base m) p)) 0 23) 3
   unfolding checked_of
   mended-number = by (keeps_limits base (length m)) refl
     where
-      by : (b : Bool) → keeps_limits base (length m) ≡ b → mended_number (mended_in (cond b (checked.Good (window_at base m)) (checked.Refused BadWindow)) m p)
+      by : (b : Bool) → keeps_limits base (length m) ≡ b → answer_number (mended_in (cond b (Ok (window_at base m)) (Err BadWindow)) m p)
           ≡ cond b (cond (stands (spot_of (window_at base m) p)) 0 23) 3
       by true k = number_by (window_at base m) m p k (cut_of (window_at base m) m p) (cut-where (window_at base m) m p k)
       by false k = refl
 
-  was-mended : (r : Mended) (m' : List ℕ) → r ≡ mended_in (checked_of base (length m)) m p → m' ≡ left_in (checked_of base (length m)) m p
-      → WasMended m base p r m'
-  was-mended r m' e f = record { answer = e; number = ap mended_number e ∙ mended-number; lent = f }
-
-  pub no-dump : (why : Refusal) → checked_of base (length m) ≡ checked.Refused why → WasMended m base p (mended.Refused why) m
-  no-dump why e =
-      was-mended (mended.Refused why) m (sym (ap (λ (x : CheckedWindow). mended_in x m p) e)) (sym (ap (λ (x : CheckedWindow). left_in x m p) e))
-
-  pub a-dump : (w : Window) (r : Mended) (m' : List ℕ) → checked_of base (length m) ≡ checked.Good w → WasCut w m (cut_of w m p) r m' → WasMended m base p r m'
+  pub a-dump : (w : Window) (r : Result (Option Change) Refusal) (m' : List ℕ) → checked_of base (length m) ≡ Ok w → WasCut w m (cut_of w m p) r m' → WasMended m base p r m'
   a-dump w r m' e c =
-      was-mended r m' (c.answer ∙ sym (ap (λ (x : CheckedWindow). mended_in x m p) e)) (c.lent ∙ sym (ap (λ (x : CheckedWindow). left_in x m p) e))
+      let f = c.answer ∙ sym (ap (λ (x : Result Window Refusal). mended_in x m p) e) in
+      record {
+        answer = f;
+        number = ap (answer_number {A = Option Change}) f ∙ mended-number;
+        lent = c.lent ∙ sym (ap (λ (x : Result Window Refusal). left_in x m p) e);
+      }
 
-  pub lent-whole : (w : Window) → checked_of base (length m) ≡ checked.Good w → length m ≡ w.length
+  pub lent-whole : (w : Window) → checked_of base (length m) ≡ Ok w → length m ≡ w.length
   lent-whole w e = sym (ap (λ (x : Window). x.length) (checked-is base (length m) w e).1)
 
 -- ---- the theorems
@@ -183,12 +176,12 @@ left-size w m nowhere = refl
 left-size w m before_all = refl
 left-size w m (behind b) = length-set m (control_place w b) (get_or m (control_place w b) 0 % 128)
 
-once_by : (x : CheckedWindow) (m : List ℕ) (base p : ℕ) → checked_of base (length m) ≡ x
+once_by : (x : Result Window Refusal) (m : List ℕ) (base p : ℕ) → checked_of base (length m) ≡ x
     → left_in (checked_of base (length (left_in x m p))) (left_in x m p) p ≡ left_in x m p
-once_by (checked.Refused why) m base p e = ap (λ (y : CheckedWindow). left_in y m p) e
-once_by (checked.Good w) m base p e =
+once_by (Err why) m base p e = ap (λ (y : Result Window Refusal). left_in y m p) e
+once_by (Ok w) m base p e =
     ap (λ (n : ℕ). left_in (checked_of base n) (left_of w m p) p) (left-size w m (cut_of w m p))
-    ∙ ap (λ (y : CheckedWindow). left_in y (left_of w m p) p) e ∙ again w m p (limited base (length m) w e) (lent-whole m base p w e)
+    ∙ ap (λ (y : Result Window Refusal). left_in y (left_of w m p) p) e ∙ again w m p (limited base (length m) w e) (lent-whole m base p w e)
 
 pub mend-once : MendOnce
 mend-once m base p r s after more x y =

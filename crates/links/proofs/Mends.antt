@@ -2,29 +2,30 @@
 -- Assumes nothing.
 use Prim.Native.Nat.{ℕ, zero, suc, ◌+◌, ◌-◌, ◌/◌, ◌%◌, ◌≤◌, ◌<◌}
 use mathlib.Core.Path.{◌≡◌, refl, sym, ap, subst, ◌∙◌}
-use mathlib.Core.Bool.{Bool, true, false, ◌&&◌, true≢false, false≢true}
+use mathlib.Core.Bool.{true, false, false≢true}
 use mathlib.Core.List.{List, [], ◌∷◌}
 use native.Mathlib.Omega.{arith}
-use lib.Dec.{ltb}
 use lib.ListN.{length, get_or, set, take, drop, length-set}
 use lib.Seq.{drop-set-lt, drop-set-add, take-set-le, get_or-set_same, get_or-set_other}
-use borrow.Author.Tests.{eqb-true, ltb-false, ne_eqb}
+use borrow.Author.Tests.{eqb-true, ne_eqb}
 use Rattle.words.specs.declared.Order.TheVariants.{LeastFirst}
 use Rattle.words.specs.Orders.{number_of}
 use Rattle.words.specs.Slices.{part, AllBytes}
 use Rattle.words.proofs.Slices.{elements-part, part-part}
+use Rattle.std.proofs.lemmas.Bool.{false_from_ne_true, or_parts}
 use Rattle.bus.specs.declared.Window.{Window}
 use Rattle.bus.specs.Window.{in_window, place_of}
 use Rattle.descriptor.specs.declared.Descriptor.{Descriptor}
 use Rattle.descriptor.specs.Layout.{owned, descriptor_of, descriptor_at}
 use Rattle.descriptor.proofs.Reading.{there, by-offset}
-use Rattle.links.specs.declared.Verdict.TheVariants as verdict
+use Rattle.links.specs.declared.Kind.TheVariants.{Sound}
 use Rattle.links.specs.Form.{Link, link_at, links_from, link_after, Form}
-use Rattle.links.specs.Verdicts.{meets, meets_any, stop, verdict_of, position_of, Front}
+use Rattle.links.specs.Verdicts.{meets, meets_any, stop, verdict, verdict_of, position_of, Front}
 use Rattle.links.specs.Theorems.{Limited}
+use Rattle.links.specs.Helpers.Cells.{Clear, below, above}
 use Rattle.links.specs.Mending.{control_place, change_of, cleared_at, unowned, OneBit, Kept}
 use Rattle.links.proofs.Looks.{next, owned_at, address_after, seen_after, after_is, Stands, Steady, AllOwned}
-use Rattle.links.proofs.Placing.{neither, In, in_is, steady-last, steady-more}
+use Rattle.links.proofs.Placing.{meets-clear, In, in_is, steady-last, steady-more}
 use Rattle.links.proofs.Meaning.{still, after-at, steady-form, front-steady, sound-from}
 use Rattle.links.proofs.Bytes.{says_same}
 
@@ -38,14 +39,11 @@ set-behind xs k x at n h =
     let i : k ≡ at + (k - at) = omega (arith, h) in
     ap (λ (j : ℕ). take n (drop at (set xs j x))) i ∙ ap (take n) (drop-set-add at xs (k - at) x) ∙ take-set-le n (drop at xs) (k - at) x (omega (arith, h))
 
-one_byte : (b : ℕ) → number_of LeastFirst (b ∷ []) ≡ b
-one_byte b = omega arith
-
 control-is : (xs : List ℕ) (at : ℕ) → at + 32 ≤ length xs → (descriptor_at xs at).control.0 ≡ get_or xs (at + 31) 0
 control-is xs at h =
     ap (λ (d : Descriptor). d.control.0) (there xs at h ∙ by-offset (part xs at 32))
     ∙ ap (number_of LeastFirst) (part-part xs at 32 31 1 (omega arith) ∙ sym (elements-part xs (at + 31) 1 (omega (arith, h))))
-    ∙ one_byte (get_or xs (at + 31) 0)
+    ∙ omega arith
 
 fields : {s d n l a t c s' d' n' l' a' t' c' : ℕ} → s ≡ s' → d ≡ d' → n ≡ n' → l ≡ l' → a ≡ a' → t ≡ t' → c ≡ c'
     → ◌≡◌ {A = Descriptor}
@@ -153,28 +151,20 @@ module _ (w : Window) (m : List ℕ) (a x : ℕ) (i : In w a) where
   untouched : (b : ℕ) → In w b → meets a b ≡ false
       → descriptor_at (set m (control_place w a) x) (place_of w b) ≡ descriptor_at m (place_of w b)
   untouched b j e =
-      says_same (set m (control_place w a) x) m (place_of w b) (by (ltb a (b + 32)) refl (ltb b (a + 32)) refl e)
+      says_same (set m (control_place w a) x) m (place_of w b) (by (meets-clear a b e))
     where
-      by : (p : Bool) → ltb a (b + 32) ≡ p → (q : Bool) → ltb b (a + 32) ≡ q → (p && q) ≡ false
-          → part (set m (control_place w a) x) (place_of w b) 32 ≡ part m (place_of w b) 32
-      by true f true g z = absurd (true≢false z)
-      by true f false g z =
-          let k = ltb-false b (a + 32) g in set_before m (control_place w a) x (place_of w b) 32 (omega (arith, k, i.low, j.low))
-      by false f q g z =
-          let k = ltb-false a (b + 32) f in set-behind m (control_place w a) x (place_of w b) 32 (omega (arith, k, i.low, j.low))
+      by : Clear a b → part (set m (control_place w a) x) (place_of w b) 32 ≡ part m (place_of w b) 32
+      by (below k) = set-behind m (control_place w a) x (place_of w b) 32 (omega (arith, k, i.low, j.low))
+      by (above k) = set_before m (control_place w a) x (place_of w b) 32 (omega (arith, k, i.low, j.low))
 
   not-before : (n : ℕ) (seen : List ℕ) (b : ℕ) → meets_any a (seen_after w m seen b n) ≡ false → meets_any a seen ≡ false
-  not-before n seen b e = by (meets_any a seen) refl
-    where
-      by : (t : Bool) → meets_any a seen ≡ t → t ≡ false
-      by true g = absurd (false≢true (sym e ∙ still w m n a seen b g))
-      by false g = refl
+  not-before n seen b e = false_from_ne_true (meets_any a seen) (λ g. false≢true (sym e ∙ still w m n a seen b g))
 
   stays_same : (n : ℕ) (seen : List ℕ) (b : ℕ) → Steady w m seen b n → meets_any a (seen_after w m seen b n) ≡ false
       → Same w m (set m (control_place w a) x) n b
   stays_same zero seen b s e = tt
   stays_same (suc n) seen b s e = (
-    untouched b (in_is w b s.0.inside) (neither (meets a b) (meets_any a seen) (not-before n (b ∷ seen) (next w m b) e)).0,
+    untouched b (in_is w b s.0.inside) (or_parts (meets a b) (meets_any a seen) (not-before n (b ∷ seen) (next w m b) e)).0,
     stays_same n (b ∷ seen) (next w m b) s.1 e,
   )
 
@@ -241,7 +231,7 @@ module _ (w : Window) (m : List ℕ) (lim : Limited w) (whole : length m ≡ w.l
         address_is = sym (after-at w m p k);
         first_k = same-links w m o k p the_same;
         end_is = end_is;
-        sound = sound-from w o lim p k cut-form ∙ ap (λ (x : ℕ). verdict.Sound (stop k x)) stays;
+        sound = sound-from w o lim p k cut-form ∙ ap (λ (x : ℕ). verdict Sound (stop k x)) stays;
       }
     where
       one : suc k ≡ k + 1

@@ -1,50 +1,56 @@
 -- A steady walk is over descriptors that are placed, and is no longer than there are cells.
 -- Assumes nothing.
-use Prim.Native.Nat.{ℕ, zero, suc, ◌+◌, ◌-◌, ◌≤◌, ◌<◌}
+use Prim.Native.Nat.{ℕ, zero, suc, ◌+◌, ◌-◌, ◌≤◌}
 use mathlib.Core.Path.{◌≡◌, refl, ap}
-use mathlib.Core.Logic.{◌≢◌}
-use mathlib.Core.Bool.{Bool, true, false, ◌&&◌, ◌||◌, true≢false}
-use mathlib.Core.List.{List, [], ◌∷◌}
+use mathlib.Core.Logic.{◌⊎◌, inl, inr}
+use mathlib.Core.Bool.{true, false}
+use mathlib.Core.List.{List, [], ◌∷◌, map}
 use native.Mathlib.Omega.{arith}
-use lib.Dec.{ltb, leb}
+use lib.Dec.{ltb}
 use lib.ListN.{length}
-use borrow.Author.Tests.{ltb-true, ltb-false, leb-true, leb-false, le-ltb}
+use borrow.Author.Tests.{ltb-true, ltb-false, le-ltb, lt-ltb}
+use Rattle.std.proofs.lemmas.Bool.{false_from_ne_true, and_cases, and_parts, and_left, and_right, or_parts, or_from}
 use Rattle.bus.specs.declared.Window.{Window}
 use Rattle.bus.specs.Window.{in_window}
 use Rattle.bus.proofs.Limits.{in_bounds}
-use Rattle.links.specs.Helpers.Cells as cells
-use Rattle.links.specs.Form.{All, Link, link_at, links_from, every_from, Apart, Placed}
-use Rattle.links.specs.Verdicts.{meets, meets_any}
+use Rattle.links.specs.Helpers.Cells.{Clear, below, above}
+use Rattle.links.specs.Form.{All, Link, link_at, links_from, every_from, Pairwise, Apart, Placed}
+use Rattle.links.specs.Verdicts.{meets, meets_any, Shares}
 use Rattle.links.proofs.Looks.{next, address_after, seen_after, Stands, Steady}
 
 -- ---- a byte in common
 
-pub meets-apart : (a b : ℕ) → meets b a ≡ false → (i : ℕ) → i < 32 → (j : ℕ) → j < 32 → a + i ≢ b + j
-meets-apart a b e i h j g = by (ltb b (a + 32)) refl (ltb a (b + 32)) refl e
+pub meets-clear : (a b : ℕ) → meets a b ≡ false → Clear a b
+meets-clear a b e = by (and_cases (ltb a (b + 32)) (ltb b (a + 32)) e)
   where
-    by : (p : Bool) → ltb b (a + 32) ≡ p → (q : Bool) → ltb a (b + 32) ≡ q → (p && q) ≡ false → a + i ≢ b + j
-    by true x true y z = absurd (true≢false z)
-    by true x false y z = λ s. let k = ltb-false a (b + 32) y in omega (arith, k, s, h, g)
-    by false x q y z = λ s. let k = ltb-false b (a + 32) x in omega (arith, k, s, h, g)
+    by : (ltb a (b + 32) ≡ false) ⊎ (ltb b (a + 32) ≡ false) → Clear a b
+    by (inl f) = below (ltb-false a (b + 32) f)
+    by (inr f) = above (ltb-false b (a + 32) f)
 
-pub apart-meets : (a b : ℕ) → ((i : ℕ) → i < 32 → (j : ℕ) → j < 32 → a + i ≢ b + j) → meets b a ≡ false
-apart-meets a b f = by (ltb b (a + 32)) refl (ltb a (b + 32)) refl
+clear-meets : (a b : ℕ) → Clear a b → meets a b ≡ false
+clear-meets a b (below h) = and_left _ (ltb b (a + 32)) (le-ltb a (b + 32) h)
+clear-meets a b (above h) = and_right (ltb a (b + 32)) _ (le-ltb b (a + 32) h)
+
+pub meets-shares : (l m : Link) → meets m.at l.at ≡ true → Shares l m
+meets-shares l m e =
+    let near = and_parts (ltb m.at (l.at + 32)) (ltb l.at (m.at + 32)) e in
+    let h = ltb-true m.at (l.at + 32) near.0 in
+    let g = ltb-true l.at (m.at + 32) near.1 in
+    record { i = m.at - l.at; i_is = omega (arith, h); j = l.at - m.at; j_is = omega (arith, g); same = omega arith }
+
+pub shares-meets : (l m : Link) → Shares l m → meets m.at l.at ≡ true
+shares-meets l m s =
+    rw (lt-ltb m.at (l.at + 32) (omega (arith, s.i_is, s.same)), lt-ltb l.at (m.at + 32) (omega (arith, s.j_is, s.same)))
+
+meets-apart : (l m : Link) → meets m.at l.at ≡ false → Apart l m
+meets-apart l m e i h j g s = by (meets-clear m.at l.at e)
   where
-    near : b < a + 32 → a < b + 32 → (t : Bool) → leb a b ≡ t → ⊥
-    near h g true e = let k = leb-true a b e in f (b - a) (omega (arith, h, k)) 0 (omega arith) (omega (arith, k))
-    near h g false e = let k = leb-false a b e in f 0 (omega arith) (a - b) (omega (arith, g, k)) (omega (arith, k))
+    by : Clear m.at l.at → ⊥
+    by (below k) = omega (arith, k, s, h, g)
+    by (above k) = omega (arith, k, s, h, g)
 
-    by : (p : Bool) → ltb b (a + 32) ≡ p → (q : Bool) → ltb a (b + 32) ≡ q → (p && q) ≡ false
-    by true x true y = absurd (near (ltb-true b (a + 32) x) (ltb-true a (b + 32) y) (leb a b) refl)
-    by true x false y = refl
-    by false x q y = refl
-
-pub neither : (p q : Bool) → (p || q) ≡ false → (p ≡ false) × (q ≡ false)
-neither true q e = absurd (true≢false e)
-neither false q e = (refl, e)
-
-pub both-not : (p q : Bool) → p ≡ false → q ≡ false → (p || q) ≡ false
-both-not p q e f = rw (e, f)
+pub apart-meets : (l m : Link) → Apart l m → meets m.at l.at ≡ false
+apart-meets l m f = false_from_ne_true _ (λ e. let s = meets-shares l m e in f s.i s.i_is s.j s.j_is s.same)
 
 pub map-all : (P Q : Link → Type 0) → ((l : Link) → P l → Q l) → (ls : List Link) → All P ls → All Q ls
 map-all P Q f [] t = tt
@@ -70,7 +76,7 @@ module _ (w : Window) (mem : List ℕ) where
             map-all
                 (λ l. meets_any l.at (a ∷ seen) ≡ false)
                 (λ l. Apart (link_at w mem a) l)
-                (λ l e. meets-apart a l.at (neither (meets l.at a) (meets_any l.at seen) e).0)
+                (λ l e. meets-apart (link_at w mem a) l (or_parts (meets l.at a) (meets_any l.at seen) e).0)
                 ls
                 r.1,
             r.0.apart,
@@ -81,7 +87,7 @@ module _ (w : Window) (mem : List ℕ) where
           map-all
               (λ l. meets_any l.at (a ∷ seen) ≡ false)
               (λ l. meets_any l.at seen ≡ false)
-              (λ l e. (neither (meets l.at a) (meets_any l.at seen) e).1)
+              (λ l e. (or_parts (meets l.at a) (meets_any l.at seen) e).1)
               ls
               r.1,
         ),
@@ -102,7 +108,7 @@ module _ (w : Window) (mem : List ℕ) where
             (λ l. Apart (link_at w mem a) l)
             (λ l. meets_any l.at seen ≡ false)
             (λ l. meets_any l.at (a ∷ seen) ≡ false)
-            (λ l x y. both-not (meets l.at a) (meets_any l.at seen) (apart-meets a l.at x) y)
+            (λ l x y. or_from (meets l.at a) (meets_any l.at seen) (apart-meets (link_at w mem a) l x) y)
             ls
             p.apart.0
             f.1),
@@ -137,48 +143,35 @@ module _ (w : Window) where
   place_in a = a - w.base + 32
 
   abbrev pub places : List ℕ → List ℕ
-  places [] = []
-  places (b ∷ bs) = place_in b ∷ places bs
+  places bs = map place_in bs
 
   pub record In (b : ℕ) : Type 0 where
     pub low : w.base ≤ b
     pub high : b + 32 ≤ w.base + w.length
 
-  abbrev pub AllIn : List ℕ → Type 0
-  AllIn [] = Unit {0}
-  AllIn (b ∷ bs) = In b × AllIn bs
-
   pub in_is : (a : ℕ) → in_window w a 32 ≡ true → In a
   in_is a e = let b = in_bounds w a 32 e in record { low = b.0; high = b.1 }
 
   pub record Good (seen : List ℕ) : Type 0 where
-    pub within : AllIn seen
-    pub apart : cells.AllClear (places seen)
+    pub within : All In seen
+    pub apart : Pairwise Clear (places seen)
 
-  meets-clear : (a b : ℕ) → In a → In b → meets a b ≡ false → cells.Clear (place_in a) (place_in b)
-  meets-clear a b x y e = by (ltb a (b + 32)) refl (ltb b (a + 32)) refl e
-    where
-      by : (p : Bool) → ltb a (b + 32) ≡ p → (q : Bool) → ltb b (a + 32) ≡ q → (p && q) ≡ false → cells.Clear (place_in a) (place_in b)
-      by true f true g z = absurd (true≢false z)
-      by true f false g z = let k = ltb-false b (a + 32) g in cells.above (omega (arith, k, x.low, y.low))
-      by false f q g z = let k = ltb-false a (b + 32) f in cells.below (omega (arith, k, x.low, y.low))
+  shifted : (a b : ℕ) → In a → In b → Clear a b → Clear (place_in a) (place_in b)
+  shifted a b x y (below h) = below (omega (arith, h, x.low, y.low))
+  shifted a b x y (above h) = above (omega (arith, h, x.low, y.low))
 
-  clear-meets : (a b : ℕ) → In a → In b → cells.Clear (place_in a) (place_in b) → meets a b ≡ false
-  clear-meets a b x y (cells.below h) = rw (le-ltb a (b + 32) (omega (arith, h, x.low, y.low)))
-  clear-meets a b x y (cells.above h) = by (ltb a (b + 32))
-    where
-      by : (p : Bool) → (p && ltb b (a + 32)) ≡ false
-      by true = le-ltb b (a + 32) (omega (arith, h, x.low, y.low))
-      by false = refl
+  back : (a b : ℕ) → In a → In b → Clear (place_in a) (place_in b) → Clear a b
+  back a b x y (below h) = below (omega (arith, h, x.low, y.low))
+  back a b x y (above h) = above (omega (arith, h, x.low, y.low))
 
-  pub apart-clear : (a : ℕ) (seen : List ℕ) → In a → AllIn seen → meets_any a seen ≡ false → cells.ClearOf (place_in a) (places seen)
+  pub apart-clear : (a : ℕ) (seen : List ℕ) → In a → All In seen → meets_any a seen ≡ false → All (Clear (place_in a)) (places seen)
   apart-clear a [] x y e = tt
   apart-clear a (b ∷ bs) x y e =
-      let n = neither (meets a b) (meets_any a bs) e in (meets-clear a b x y.0 n.0, apart-clear a bs x y.1 n.1)
+      let n = or_parts (meets a b) (meets_any a bs) e in (shifted a b x y.0 (meets-clear a b n.0), apart-clear a bs x y.1 n.1)
 
-  pub clear_apart : (a : ℕ) (seen : List ℕ) → In a → AllIn seen → cells.ClearOf (place_in a) (places seen) → meets_any a seen ≡ false
+  pub clear_apart : (a : ℕ) (seen : List ℕ) → In a → All In seen → All (Clear (place_in a)) (places seen) → meets_any a seen ≡ false
   clear_apart a [] x y f = refl
-  clear_apart a (b ∷ bs) x y f = both-not (meets a b) (meets_any a bs) (clear-meets a b x y.0 f.0) (clear_apart a bs x y.1 f.1)
+  clear_apart a (b ∷ bs) x y f = or_from (meets a b) (meets_any a bs) (clear-meets a b (back a b x y.0 f.0)) (clear_apart a bs x y.1 f.1)
 
 module _ (w : Window) (mem : List ℕ) where
   pub grown : (a : ℕ) (seen : List ℕ) → Stands w mem seen a → Good w seen → Good w (a ∷ seen)

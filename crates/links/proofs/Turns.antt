@@ -1,31 +1,32 @@
 -- The loop of the check: what holds before each turn, and each way out of one.
 -- Assumes nothing.
+use Rattle.std.specs.Prelude.{Result, Ok, Err, Some, ◌↔◌}
 use Prim.Native.Nat.{ℕ, zero, suc, ◌+◌, ◌-◌, ◌/◌, ◌%◌, ◌≤◌, ◌<◌}
 use mathlib.Core.Path.{◌≡◌, refl, sym, ap, subst, ◌∙◌}
-use mathlib.Core.Logic.{◌≢◌}
 use mathlib.Core.Bool.{Bool, true, false, ◌&&◌, ◌||◌, false≢true}
 use mathlib.Core.List.{List, [], ◌∷◌}
 use native.Mathlib.Omega.{arith}
 use lib.Dec.{eqb, ltb, leb}
 use lib.ListN.{length, get_or, set, replicate, length-set, length-replicate, get_or-replicate}
-use borrow.Author.Tests.{eqb-true, eqb-false, ltb-true, leb-true, eq-eqb, lt-ltb, le-leb}
+use Rattle.std.proofs.lemmas.Bool.Decides.{nat_tests}
+use Rattle.std.proofs.lemmas.Bool.{true_from_ne_false}
 use Rattle.bus.specs.declared.Window.{Window}
 use Rattle.bus.specs.declared.Place.{Place}
 use Rattle.bus.specs.Window.{in_window, place_of}
 use Rattle.descriptor.specs.declared.Descriptor.{Descriptor}
-use Rattle.descriptor.specs.declared.Spot.{Spot}
-use Rattle.descriptor.specs.declared.Spot.TheVariants as spot
+use Rattle.descriptor.specs.declared.Miss.{Miss}
+use Rattle.descriptor.specs.declared.Miss.TheVariants as miss
 use Rattle.descriptor.specs.Layout.{owned, descriptor_at}
 use Rattle.descriptor.specs.Looking.{spot_of}
-use Rattle.links.specs.declared.Verdict.{Verdict}
-use Rattle.links.specs.declared.Verdict.TheVariants as verdict
+use Rattle.links.specs.declared.Kind.{Kind}
+use Rattle.links.specs.declared.Kind.TheVariants.{Sound, Misaligned, Outside, Overlaps}
 use Rattle.links.specs.Form.{link_at}
 use Rattle.links.specs.Helpers.Cells.{mark_of, Free, free_in}
 use Rattle.links.specs.Helpers.Walks.{last_before, Walks}
 use Rattle.links.specs.Theorems.{Limited}
-use Rattle.links.specs.Verdicts.{meets_any, Met, misaligned, outside, overlaps, end, stop, told, verdict_of}
+use Rattle.links.specs.Verdicts.{meets_any, stop, verdict, kind_of}
 use Rattle.links.proofs.CellLaws.{clear-free, free-clear}
-use Rattle.links.proofs.Looks.{Spotted, unaligned, out, there, spotted, next, owned_at, address_after, seen_after, Stands, Steady, AllOwned, View, see-misaligned, see-outside, see-overlaps, see-end, Last}
+use Rattle.links.proofs.Looks.{Spotted, unaligned, out, there, spotted, next, owned_at, address_after, seen_after, Stands, Steady, AllOwned, View, see-misaligned, see-outside, see-overlaps, see-end}
 use Rattle.links.proofs.Placing.{place_in, places, In, in_is, Good, apart-clear, clear_apart, good-after, steady-more}
 use Rattle.links.proofs.Pigeons.{limit, marked}
 use Rattle.links.proofs.Meaning.{verdict-goes, after-at, steady-most}
@@ -35,9 +36,12 @@ use Rattle.links.proofs.Meaning.{verdict-goes, after-at, steady-most}
 abbrev pub Tells : List ℕ → List ℕ → Type 0
 Tells xs qs = (c : ℕ) → c < 2050 → get_or xs c 0 ≡ mark_of c qs
 
-both : (p q : Bool) → (p && q) ≡ true → (p ≡ true) × (q ≡ true)
-both true q e = (refl, e)
-both false q e = absurd (false≢true e)
+-- what three looks at cells tell
+looks : (a b c r : ℕ) → ((eqb a 0 && leb b (r + 1) && (eqb c 0 || ltb r c)) ≡ true) ↔ ((a ≡ 0) × ((b ≤ r + 1) × (1 ≤ c → r < c)))
+looks a b c r = (
+  λ e. (grind (arith, nat_tests), (grind (arith, nat_tests), λ h. grind (arith, nat_tests))),
+  λ f. let g = f.1.1 in grind (arith, nat_tests),
+)
 
 module _ (xs qs : List ℕ) (p : ℕ) (t : Tells xs qs) (l : 32 ≤ p) (h : p ≤ 65536) where
   here-is : get_or xs (p / 32) 0 ≡ mark_of (p / 32) qs
@@ -50,41 +54,24 @@ module _ (xs qs : List ℕ) (p : ℕ) (t : Tells xs qs) (l : 32 ≤ p) (h : p �
   high_is = t (p / 32 + 1) (omega (arith, h))
 
   pub free-is : free_in xs p ≡ true → Free p qs
-  unfolding free_in
   free-is e =
-      let a = both (eqb (get_or xs (p / 32) 0) 0 && leb (get_or xs (p / 32 - 1) 0) (p % 32 + 1)) (eqb (get_or xs (p / 32 + 1) 0) 0 || ltb (p % 32) (get_or xs (p / 32 + 1) 0)) e in
-      let b = both (eqb (get_or xs (p / 32) 0) 0) (leb (get_or xs (p / 32 - 1) 0) (p % 32 + 1)) a.0 in
+      let f = (looks (get_or xs (p / 32) 0) (get_or xs (p / 32 - 1) 0) (get_or xs (p / 32 + 1) 0) (p % 32)).0 e in
       record {
-        here = sym here-is ∙ eqb-true (get_or xs (p / 32) 0) 0 b.0;
-        low = λ c g. subst (λ (x : ℕ). x ≤ p % 32 + 1) (low-is c g) (leb-true (get_or xs (p / 32 - 1) 0) (p % 32 + 1) b.1);
-        high = subst (λ (x : ℕ). 1 ≤ x → p % 32 < x) high_is (up (get_or xs (p / 32 + 1) 0) a.1);
+        here = sym here-is ∙ f.0;
+        low = λ c g. subst (λ (x : ℕ). x ≤ p % 32 + 1) (low-is c g) f.1.0;
+        high = subst (λ (x : ℕ). 1 ≤ x → p % 32 < x) high_is f.1.1;
       }
-    where
-      up : (x : ℕ) → (eqb x 0 || ltb (p % 32) x) ≡ true → 1 ≤ x → p % 32 < x
-      up x g k = by (eqb x 0) refl g
-        where
-          by : (b : Bool) → eqb x 0 ≡ b → (b || ltb (p % 32) x) ≡ true → p % 32 < x
-          by true y z = let i = eqb-true x 0 y in absurd (omega (arith, k, i))
-          by false y z = ltb-true (p % 32) x z
 
   pub free-makes : Free p qs → free_in xs p ≡ true
-  unfolding free_in
   free-makes f =
-      rw (
-        eq-eqb (get_or xs (p / 32) 0) 0 (here-is ∙ f.here),
-        le-leb (get_or xs (p / 32 - 1) 0) (p % 32 + 1) low,
-        high (get_or xs (p / 32 + 1) 0) (subst (λ (x : ℕ). 1 ≤ x → p % 32 < x) (sym high_is) f.high),
+      let i : p / 32 ≡ p / 32 - 1 + 1 = omega (arith, l) in
+      (looks (get_or xs (p / 32) 0) (get_or xs (p / 32 - 1) 0) (get_or xs (p / 32 + 1) 0) (p % 32)).1 (
+        here-is ∙ f.here,
+        (
+          subst (λ (x : ℕ). x ≤ p % 32 + 1) (sym (low-is (p / 32 - 1) i)) (f.low (p / 32 - 1) i),
+          subst (λ (x : ℕ). 1 ≤ x → p % 32 < x) (sym high_is) f.high,
+        ),
       )
-    where
-      low : get_or xs (p / 32 - 1) 0 ≤ p % 32 + 1
-      low = let i : p / 32 ≡ p / 32 - 1 + 1 = omega (arith, l) in subst (λ (x : ℕ). x ≤ p % 32 + 1) (sym (low-is (p / 32 - 1) i)) (f.low (p / 32 - 1) i)
-
-      high : (x : ℕ) → (1 ≤ x → p % 32 < x) → (eqb x 0 || ltb (p % 32) x) ≡ true
-      high x g = by (eqb x 0) refl
-        where
-          by : (b : Bool) → eqb x 0 ≡ b → (b || ltb (p % 32) x) ≡ true
-          by true y = refl
-          by false y = lt-ltb (p % 32) x (g (omega (arith, eqb-false x 0 y)))
 
 -- ---- the turns
 
@@ -103,7 +90,6 @@ module _ (w : Window) (mem : List ℕ) where
 
   -- before the turn at a position
   pub record Turn (p : ℕ) (xs : List ℕ) (last address position : ℕ) : Type 0 where
-    pub few : position ≤ 2049
     pub long : length xs ≡ 2050
     pub last_is : last ≡ last_before w mem p position
     pub address_is : address ≡ address_after w mem p position
@@ -114,7 +100,6 @@ module _ (w : Window) (mem : List ℕ) where
   pub first-turn : (p : ℕ) → Turn p (replicate 2050 0) p p 0
   first-turn p =
       record {
-        few = omega arith;
         long = length-replicate {A = ℕ} 2050 0;
         last_is = refl;
         address_is = refl;
@@ -123,26 +108,24 @@ module _ (w : Window) (mem : List ℕ) where
         tells = λ c h. get_or-replicate {A = ℕ} 2050 c 0 0 h;
       }
 
-  way_out : {p i a : ℕ} {xs : List ℕ} {b : ℕ} → Turn p xs b a i → i < 2049 → (x : Met) → View w mem (seen_after w mem [] p i) a x → Last w mem x
-      → (v : Verdict) → told (stop i a) v x ≡ verdict_of w mem p
-  way_out {p} {i} t h x y l v =
-      ap (λ (b : ℕ). told (stop i b) v x) t.address_is
-      ∙ sym (verdict-goes w mem p i v h t.steady t.all-owned x (subst (λ (b : ℕ). View w mem (seen_after w mem [] p i) b x) t.address_is y) l)
+  way_out : {p i a : ℕ} {xs : List ℕ} {b : ℕ} → Turn p xs b a i → i < 2049 → (f : Kind) → View w mem (seen_after w mem [] p i) a (Some f)
+      → Walks w mem p (record { verdict = verdict f (stop i a); last = b })
+  way_out {p} {i} t h f y =
+      record {
+        verdict_is = ap (λ (b : ℕ). verdict f (stop i b)) t.address_is
+            ∙ sym (verdict-goes w mem p i h t.steady t.all-owned f (subst (λ (b : ℕ). View w mem (seen_after w mem [] p i) b (Some f)) t.address_is y));
+        last_is = t.last_is;
+      }
 
--- the two ways out that the look at the address gives
-module _ {w : Window} {mem : List ℕ} {p : ℕ} {xs : List ℕ} {b a i : ℕ} (t : Turn w mem p xs b a i) (h : i < 2049) where
-  pub out-misaligned : spot_of w a ≡ spot.Misaligned → Walks w mem p (record { verdict = verdict.Misaligned (stop i a); last = b })
-  out-misaligned e =
-      record { verdict_is = way_out w mem t h misaligned (see-misaligned (by (subst (Spotted w a) e (spotted w a)))) tt (verdict_of w mem p); last_is = t.last_is }
-    where
-      by : Spotted w a spot.Misaligned → a % 4 ≢ 0
-      by (unaligned f) = f
-
-  pub out-outside : spot_of w a ≡ spot.Outside → Walks w mem p (record { verdict = verdict.Outside (stop i a); last = b })
-  out-outside e = record { verdict_is = way_out w mem t h outside (by (subst (Spotted w a) e (spotted w a))) tt (verdict_of w mem p); last_is = t.last_is }
-    where
-      by : Spotted w a spot.Outside → View w mem (seen_after w mem [] p i) a outside
-      by (out f g) = see-outside f g
+-- the way out where the look at the address finds no place
+pub out-missed : {w : Window} {mem : List ℕ} {p : ℕ} {xs : List ℕ} {b a i : ℕ} → Turn w mem p xs b a i → i < 2049
+    → (m : Miss) → spot_of w a ≡ Err m → {f : Kind} → f ≡ kind_of m → Walks w mem p (record { verdict = verdict f (stop i a); last = b })
+out-missed {w} {mem} {p} {b = b} {a = a} {i = i} t h m e f =
+    subst (λ (x : Kind). Walks w mem p (record { verdict = verdict x (stop i a); last = b })) (sym f) (by m (subst (Spotted w a) e (spotted w a)))
+  where
+    by : (m : Miss) → Spotted w a (Err m) → Walks w mem p (record { verdict = verdict (kind_of m) (stop i a); last = b })
+    by miss.Misaligned (unaligned f) = way_out w mem t h Misaligned (see-misaligned f)
+    by miss.Outside (out f g) = way_out w mem t h Outside (see-outside f g)
 
 -- where it finds a place: that of an address which is aligned and in the window
 pub record Found (w : Window) (a n : ℕ) : Type 0 where
@@ -150,18 +133,12 @@ pub record Found (w : Window) (a n : ℕ) : Type 0 where
   pub inside : in_window w a 32 ≡ true
   pub place_is : n ≡ place_of w a
 
-pub found : (w : Window) (a : ℕ) (q : Place) (n : ℕ) → spot_of w a ≡ spot.At q → n ≡ q.0 → Found w a n
+pub found : (w : Window) (a : ℕ) (q : Place) (n : ℕ) → spot_of w a ≡ Ok q → n ≡ q.0 → Found w a n
 found w a q n e f = by (spot_of w a) (spotted w a) e
   where
-    place_in_spot : Spot → ℕ
-    place_in_spot spot.Misaligned = 0
-    place_in_spot spot.Outside = 0
-    place_in_spot (spot.At r) = r.0
-
-    by : (s : Spot) → Spotted w a s → s ≡ spot.At q → Found w a n
-    by spot.Misaligned y g = absurd (let z : ◌≡◌ {A = ℕ} 0 1 = cc in omega arith)
-    by spot.Outside y g = absurd (let z : ◌≡◌ {A = ℕ} 0 1 = cc in omega arith)
-    by (spot.At r) (there h i) g = record { aligned = h; inside = i; place_is = f ∙ ap place_in_spot (sym g) }
+    by : (s : Result Place Miss) → Spotted w a s → s ≡ Ok q → Found w a n
+    by (Err m) y g = absurd (cc)
+    by (Ok r) (there h i) g = record { aligned = h; inside = i; place_is = cc }
 
 -- a turn that has found one
 pub record Here (w : Window) (mem : List ℕ) (p : ℕ) (xs : List ℕ) (last address position n : ℕ) : Type 0 where
@@ -193,25 +170,18 @@ module _ {w : Window} {mem : List ℕ} {p : ℕ} {xs : List ℕ} {b a i n : ℕ}
       (free-clear (place_in w a) (places w seen) good.apart (subst (λ (x : ℕ). Free x (places w seen)) place_here g))
 
   met-yes : free_in xs (n + 32) ≡ false → meets_any a seen ≡ true
-  met-yes f = by (meets_any a seen) refl
-    where
-      by : (b : Bool) → meets_any a seen ≡ b → b ≡ true
-      by true g = refl
-      by false g =
-          let o = clear-free (place_in w a) (places w seen) (apart-clear w a seen in_window_lem good.within g) in
-          let m = free-makes xs (places w seen) (n + 32) here.turn.tells (omega arith) low-enough
-          (subst (λ (x : ℕ). Free x (places w seen)) (sym place_here) o) in
-          absurd (false≢true (sym f ∙ m))
+  met-yes f =
+      true_from_ne_false (meets_any a seen)
+      (λ g. let o = clear-free (place_in w a) (places w seen) (apart-clear w a seen in_window_lem good.within g) in
+      let m = free-makes xs (places w seen) (n + 32) here.turn.tells (omega arith) low-enough
+      (subst (λ (x : ℕ). Free x (places w seen)) (sym place_here) o) in
+      false≢true (sym f ∙ m))
 
   stands : free_in xs (n + 32) ≡ true → Stands w mem seen a
   stands f = record { aligned = here.place.aligned; inside = here.place.inside; apart = met-no f }
 
-  pub out-overlaps : free_in xs (n + 32) ≡ false → Walks w mem p (record { verdict = verdict.Overlaps (stop i a); last = b })
-  out-overlaps f =
-      record {
-        verdict_is = way_out w mem here.turn here.early overlaps (see-overlaps here.place.aligned here.place.inside (met-yes f)) tt (verdict_of w mem p);
-        last_is = here.turn.last_is;
-      }
+  pub out-overlaps : free_in xs (n + 32) ≡ false → Walks w mem p (record { verdict = verdict Overlaps (stop i a); last = b })
+  out-overlaps f = way_out w mem here.turn here.early Overlaps (see-overlaps here.place.aligned here.place.inside (met-yes f))
 
   -- the descriptor that is read there
   module _ (f : free_in xs (n + 32) ≡ true) (d : Descriptor) (says : d ≡ descriptor_at mem n) where
@@ -221,9 +191,8 @@ module _ {w : Window} {mem : List ℕ} {p : ℕ} {xs : List ℕ} {b a i n : ℕ}
     owned-is : {u : Bool} → owned d.control.0 ≡ u → owned_at w mem a ≡ u
     owned-is o = ap (λ (x : Descriptor). owned x.control.0) (sym says_is) ∙ o
 
-    pub out-sound : owned d.control.0 ≡ false → Walks w mem p (record { verdict = verdict.Sound (stop i a); last = b })
-    out-sound o =
-        record { verdict_is = way_out w mem here.turn here.early end (see-end (stands f) (owned-is o)) tt (verdict_of w mem p); last_is = here.turn.last_is }
+    pub out-sound : owned d.control.0 ≡ false → Walks w mem p (record { verdict = verdict Sound (stop i a); last = b })
+    out-sound o = way_out w mem here.turn here.early Sound (see-end (stands f) (owned-is o))
 
     pub turned : owned d.control.0 ≡ true → Turn w mem p (set xs ((n + 32) / 32) ((n + 32) % 32 + 1)) a d.next (i + 1)
     turned o =
@@ -231,7 +200,6 @@ module _ {w : Window} {mem : List ℕ} {p : ℕ} {xs : List ℕ} {b a i n : ℕ}
         (λ (j : ℕ). Turn w mem p (set xs ((n + 32) / 32) ((n + 32) % 32 + 1)) a d.next j)
         one
         (record {
-          few = omega (arith, here.early);
           long = length-set xs ((n + 32) / 32) ((n + 32) % 32 + 1) ∙ here.turn.long;
           last_is = here.turn.address_is ∙ sym (after-at w mem p i);
           address_is = ap (λ (x : Descriptor). x.next) says_is ∙ ap (next w mem) here.turn.address_is ∙ sym (after-suc w mem i p);

@@ -1,53 +1,51 @@
 -- What the check promises, and the C calls of the check and of mending.
 -- Assumes nothing.
-use Rattle.std.specs.Prelude.{ℕ, ◌≡◌, cond, not, List, [], ◌∷◌, eqb, length, if◌then◌else◌}
+use Rattle.std.specs.Prelude.{ℕ, ◌≡◌, cond, not, List, [], ◌∷◌, eqb, length, if◌then◌else◌, Result, Ok, Err, Option, Some, None}
 use Rattle.std.proofs.Common.{sym, ◌∙◌}
 use Rattle.words.specs.declared.Order.TheVariants.{MostFirst}
 use Rattle.words.specs.Orders.{row_bytes}
 use Rattle.words.specs.Promise.{Answers, answers-unique}
 use Rattle.bus.specs.declared.Refusal.TheVariants.{BadSize, BadWindow}
-use Rattle.bus.specs.declared.CheckedWindow.{CheckedWindow}
-use Rattle.bus.specs.declared.CheckedWindow.TheVariants as checked
-use Rattle.bus.specs.Refusal.{refusal_number}
+use Rattle.bus.specs.declared.Window.{Window}
+use Rattle.bus.specs.declared.Refusal.{Refusal}
+use Rattle.bus.specs.Refusal.{refusal_number, answer_number}
 use Rattle.bus.specs.Window.{keeps_limits, checked_of}
 use Rattle.links.specs.declared.Stop.{Stop}
 use Rattle.links.specs.declared.Verdict.{Verdict}
-use Rattle.links.specs.declared.Verdict.TheVariants as verdict
+use Rattle.links.specs.declared.Kind.{Kind}
+use Rattle.links.specs.declared.Kind.TheVariants.{Sound, Misaligned, Outside, Overlaps}
 use Rattle.links.specs.declared.mending.Change.{Change}
-use Rattle.links.specs.declared.mending.Mended.{Mended}
-use Rattle.links.specs.declared.mending.Mended.TheVariants as mended
-use Rattle.links.specs.Mending.{mended_in, left_in, mended_number}
+use Rattle.links.specs.Mending.{mended_in, left_in}
 use Rattle.links.specs.Verdicts.{window_at, verdict_of}
 
 -- "3 for a bad window; the verdicts are its answers"
-abbrev pub verdict_in : CheckedWindow → List ℕ → (pointer : ℕ) → Verdict
-verdict_in (checked.Refused why) memory pointer = verdict.Refused why
-verdict_in (checked.Good window) memory pointer = verdict_of window memory pointer
-
--- the paper's number of each answer
-abbrev pub verdict_number : Verdict → ℕ
-verdict_number (verdict.Sound s) = 0
-verdict_number (verdict.Misaligned s) = 0
-verdict_number (verdict.Outside s) = 0
-verdict_number (verdict.Overlaps s) = 0
-verdict_number (verdict.Refused why) = refusal_number why
+abbrev pub verdict_in : Result Window Refusal → List ℕ → (pointer : ℕ) → Result Verdict Refusal
+verdict_in (Err why) memory pointer = Err why
+verdict_in (Ok window) memory pointer = Ok (verdict_of window memory pointer)
 
 -- ---- check
 
-pub record WasChecked (memory : List ℕ) (base pointer : ℕ) (r : Verdict) : Type 0 where
+pub record WasChecked (memory : List ℕ) (base pointer : ℕ) (r : Result Verdict Refusal) : Type 0 where
   pub answer : r ≡ verdict_in (checked_of base (length memory)) memory pointer
-  pub number : verdict_number r ≡ cond (keeps_limits base (length memory)) 0 3
+  pub number : answer_number r ≡ cond (keeps_limits base (length memory)) 0 3
 
-pub was-checked-unique : {memory : List ℕ} {base pointer : ℕ} {r s : Verdict}
+pub was-checked-unique : {memory : List ℕ} {base pointer : ℕ} {r s : Result Verdict Refusal}
     → WasChecked memory base pointer r → WasChecked memory base pointer s → r ≡ s
 was-checked-unique p q = p.answer ∙ sym q.answer
 
 -- ---- check_chain: 7, 3
 
+-- the numbers of the verdicts
+abbrev pub kind_number : Kind → ℕ
+kind_number Sound = 0
+kind_number Misaligned = 1
+kind_number Outside = 2
+kind_number Overlaps = 3
+
 -- how many bytes each number of its answer has, in order
 abbrev pub verdict_widths : List ℕ
 verdict_widths =
-    2  -- the verdict: 0 sound, 1 misaligned, 2 outside, 3 overlaps
+    2  -- the verdict, by its `kind_number`
     ∷ 4  -- k, or the position of the defect
     ∷ 4  -- the address of the end, or of the defect
     ∷ []
@@ -55,13 +53,8 @@ verdict_widths =
 abbrev pub stop_bytes : (kind : ℕ) → Stop → List ℕ
 stop_bytes kind s = row_bytes MostFirst verdict_widths (kind ∷ s.position ∷ s.address ∷ [])
 
--- a walk is never refused, and then there is no answer
 abbrev pub verdict_bytes : Verdict → List ℕ
-verdict_bytes (verdict.Sound s) = stop_bytes 0 s
-verdict_bytes (verdict.Misaligned s) = stop_bytes 1 s
-verdict_bytes (verdict.Outside s) = stop_bytes 2 s
-verdict_bytes (verdict.Overlaps s) = stop_bytes 3 s
-verdict_bytes (verdict.Refused why) = []
+verdict_bytes v = stop_bytes (kind_number v.kind) v.stop
 
 unfoldable pub check_number : (memory : List ℕ) (base : ℕ) (answer : List ℕ) → ℕ
 check_number memory base answer =
@@ -88,16 +81,16 @@ change_widths =
 abbrev pub change_bytes : (mended : ℕ) → Change → List ℕ
 change_bytes n c = row_bytes MostFirst change_widths (n ∷ c.address ∷ c.before ∷ c.after ∷ [])
 
--- all zero where the chain was sound
-abbrev pub mended_bytes : Mended → List ℕ
-mended_bytes mended.Sound = change_bytes 0 (record { address = 0; before = 0; after = 0 })
-mended_bytes (mended.Changed c) = change_bytes 1 c
-mended_bytes (mended.Refused why) = []
+-- all zero where the chain was sound; none where mending is refused
+abbrev pub mended_bytes : Result (Option Change) Refusal → List ℕ
+mended_bytes (Ok None) = change_bytes 0 (record { address = 0; before = 0; after = 0 })
+mended_bytes (Ok (Some c)) = change_bytes 1 c
+mended_bytes (Err why) = []
 
 unfoldable pub mend_number : (memory : List ℕ) (base pointer : ℕ) (answer : List ℕ) → ℕ
 mend_number memory base pointer answer =
     if not (eqb (length answer) 8) then refusal_number BadSize
-    else mended_number (mended_in (checked_of base (length memory)) memory pointer)
+    else answer_number (mended_in (checked_of base (length memory)) memory pointer)
 
 -- the number, and every byte of the window and of the answer after the call
 pub record ChainMended (memory : List ℕ) (base pointer : ℕ) (answer : List ℕ) (r : ℕ) (memory' answer' : List ℕ) : Type 0 where

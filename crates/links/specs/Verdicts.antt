@@ -1,15 +1,17 @@
 -- Order 8: "Check the chain before the bench starts." What is said of a chain, and what it means.
 -- Assumes nothing.
-use Rattle.std.specs.Prelude.{ℕ, zero, suc, ◌+◌, ◌%◌, ◌<◌, ◌≡◌, ◌≢◌, Bool, true, false, ◌&&◌, ◌||◌, List, [], ◌∷◌, ltb, length, if◌then◌else◌}
+use Rattle.std.specs.Prelude.{ℕ, zero, suc, ◌+◌, ◌%◌, ◌<◌, ◌≡◌, ◌≢◌, Bool, true, false, ◌&&◌, ◌||◌, List, [], ◌∷◌, ltb, length, if◌then◌else◌, Result, Ok, Err, Option, Some, None}
 use Rattle.bus.specs.declared.Window.{Window}
 use Rattle.bus.specs.Window.{in_window}
-use Rattle.descriptor.specs.declared.Spot.{Spot}
-use Rattle.descriptor.specs.declared.Spot.TheVariants as spot
+use Rattle.bus.specs.declared.Place.{Place}
+use Rattle.descriptor.specs.declared.Miss.{Miss}
+use Rattle.descriptor.specs.declared.Miss.TheVariants as miss
 use Rattle.descriptor.specs.Layout.{owned}
 use Rattle.descriptor.specs.Looking.{spot_of}
 use Rattle.links.specs.declared.Stop.{Stop}
+use Rattle.links.specs.declared.Kind.{Kind}
+use Rattle.links.specs.declared.Kind.TheVariants.{Sound, Misaligned, Outside, Overlaps}
 use Rattle.links.specs.declared.Verdict.{Verdict}
-use Rattle.links.specs.declared.Verdict.TheVariants as verdict
 use Rattle.links.specs.Form.{All, Link, link_at, links_from, link_after, Placed, Form}
 
 -- ---- the walk
@@ -23,39 +25,35 @@ abbrev pub meets_any : ℕ → List ℕ → Bool
 meets_any a [] = false
 meets_any a (b ∷ bs) = meets a b || meets_any a bs
 
--- what is met at an address
-pub data Met : Type 0 where
-  misaligned : Met
-  outside : Met
-  overlaps : Met
-  onward : Met
-  end : Met
+-- a look that finds no place tells one of this kind
+abbrev pub kind_of : Miss → Kind
+kind_of miss.Misaligned = Misaligned
+kind_of miss.Outside = Outside
 
--- "misaligned, outside, or overlaps an earlier one, the first of these three causes being named"; else an owned descriptor leads on, and
--- an unowned one is the end
-abbrev pub met_by : Spot → (overlapping owned : Bool) → Met
-met_by spot.Misaligned overlapping owned = misaligned
-met_by spot.Outside overlapping owned = outside
-met_by (spot.At p) overlapping owned = if overlapping then overlaps else if owned then onward else end
+-- the kind that is told where the walk stops: "misaligned, outside, or overlaps an earlier one, the first of these three causes being
+-- named", or the end, which is unowned; none where an owned descriptor leads on
+abbrev pub met_by : Result Place Miss → (overlapping owned : Bool) → Option Kind
+met_by (Err m) overlapping owned = Some (kind_of m)
+met_by (Ok p) overlapping owned = if overlapping then Some Overlaps else if owned then None else Some Sound
 
 -- at the address a, those before it being at `seen`
-unfoldable pub met_at : Window → List ℕ → (seen : List ℕ) (a : ℕ) → Met
+unfoldable pub met_at : Window → List ℕ → (seen : List ℕ) (a : ℕ) → Option Kind
 met_at window memory seen a = met_by (spot_of window a) (meets_any a seen) (owned (link_at window memory a).says.control.0)
 
 abbrev pub stop : (position address : ℕ) → Stop
 stop position address = record { position = position; address = address }
 
+abbrev pub verdict : Kind → Stop → Verdict
+verdict kind s = record { kind = kind; stop = s }
+
 -- what is told of the one at a stop, and further on what the rest of the walk tells
-abbrev pub told : Stop → (rest : Verdict) → Met → Verdict
-told s rest misaligned = verdict.Misaligned s
-told s rest outside = verdict.Outside s
-told s rest overlaps = verdict.Overlaps s
-told s rest onward = rest
-told s rest end = verdict.Sound s
+abbrev pub told : Stop → (rest : Verdict) → Option Kind → Verdict
+told s rest (Some kind) = verdict kind s
+told s rest None = rest
 
 -- a walk that looks at n descriptors at most, the first of them at a, position i
 unfoldable pub walk : Window → List ℕ → (seen : List ℕ) (n i a : ℕ) → Verdict
-walk window memory seen zero i a = verdict.Overlaps (stop i a)
+walk window memory seen zero i a = verdict Overlaps (stop i a)
 walk window memory seen (suc n) i a =
     told (stop i a) (walk window memory (a ∷ seen) n (i + 1) (link_at window memory a).says.next) (met_at window memory seen a)
 
@@ -110,26 +108,28 @@ pub record IsSound (window : Window) (memory : List ℕ) (pointer k address : �
   pub form : Form window memory pointer k
   pub end_is : address ≡ (link_after window memory pointer k).at
 
--- what each verdict says of a chain; a walk is never refused
+-- what a verdict of each kind says of a chain
+abbrev pub KindMeans : Kind → Window → List ℕ → (pointer position address : ℕ) → Type 0
+KindMeans Sound window memory pointer k a = IsSound window memory pointer k a
+KindMeans Misaligned window memory pointer k a = IsMisaligned window memory pointer k a
+KindMeans Outside window memory pointer k a = IsOutside window memory pointer k a
+KindMeans Overlaps window memory pointer k a = IsOverlapping window memory pointer k a
+
+-- and so what a verdict says
 abbrev pub Means : Window → List ℕ → (pointer : ℕ) → Verdict → Type 0
-Means window memory pointer (verdict.Sound s) = IsSound window memory pointer s.position s.address
-Means window memory pointer (verdict.Misaligned s) = IsMisaligned window memory pointer s.position s.address
-Means window memory pointer (verdict.Outside s) = IsOutside window memory pointer s.position s.address
-Means window memory pointer (verdict.Overlaps s) = IsOverlapping window memory pointer s.position s.address
-Means window memory pointer (verdict.Refused why) = ⊥
+Means window memory pointer v = KindMeans v.kind window memory pointer v.stop.position v.stop.address
 
 -- the position that a verdict tells
 abbrev pub position_of : Verdict → ℕ
-position_of (verdict.Sound s) = s.position
-position_of (verdict.Misaligned s) = s.position
-position_of (verdict.Outside s) = s.position
-position_of (verdict.Overlaps s) = s.position
-position_of (verdict.Refused why) = 0
+position_of v = v.stop.position
 
--- how many descriptors are read for it: a defect is known by its address, an end is read
+-- how many descriptors are read up to a position: a defect is known by its address, an end is read
+abbrev pub read_to : Kind → (position : ℕ) → ℕ
+read_to Sound k = k + 1
+read_to Misaligned k = k
+read_to Outside k = k
+read_to Overlaps k = k
+
+-- and for a verdict
 abbrev pub read_for : Verdict → ℕ
-read_for (verdict.Sound s) = s.position + 1
-read_for (verdict.Misaligned s) = s.position
-read_for (verdict.Outside s) = s.position
-read_for (verdict.Overlaps s) = s.position
-read_for (verdict.Refused why) = 0
+read_for v = read_to v.kind v.stop.position

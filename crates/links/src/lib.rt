@@ -5,29 +5,63 @@ pub mod calls;
 pub mod mending;
 
 ghost use Rattle.std.specs.Prelude.{◌≡◌, ◌≤◌};
-ghost use Rattle.links.specs.Calls.{WasChecked};
+ghost use Rattle.words.specs.Promise.{Gives};
+ghost use Rattle.links.specs.Calls.{kind_number, WasChecked};
 ghost use Rattle.links.specs.Helpers.Cells.{free_in};
 ghost use Rattle.links.specs.Helpers.Walks.{Walks};
 ghost use Rattle.links.specs.Theorems.{Limited};
+ghost use Rattle.links.specs.Verdicts.{verdict, kind_of};
 
-use bus::{BusAddress, CheckedWindow, Refusal, Window};
-use descriptor::{DescControl, Spot, raw_in, spot_of};
+use bus::{BusAddress, Refusal, Window};
+use descriptor::{DescControl, Miss, raw_in, spot_of};
 
 // Where a walk along a chain stops: the position of that descriptor, from 0, and its address.
-#[derive(Clone, Copy)]
+#[derive(Clone, Copy, Debug, PartialEq, Eq)]
 pub struct Stop {
     pub position: u32,
     pub address: u32,
 }
 
-// What the check says of a chain: sound, with its end; or its first defect.
-#[derive(Clone, Copy)]
-pub enum Verdict {
-    Sound(Stop),
-    Misaligned(Stop),
-    Outside(Stop),
-    Overlaps(Stop),
-    Refused(Refusal),
+// The kinds of verdict: a sound chain, and what its first defect can be.
+#[derive(Clone, Copy, Debug, PartialEq, Eq)]
+pub enum Kind {
+    Sound,
+    Misaligned,
+    Outside,
+    Overlaps,
+}
+
+// The number that an answer in bytes tells.
+impl From<Kind> for u16 {
+    ghost from_gives = { λ kind n. Gives (kind_number kind) n };
+
+    fn from(kind: Kind) -> u16 {
+        match kind {
+            Kind::Sound => 0,
+            Kind::Misaligned => 1,
+            Kind::Outside => 2,
+            Kind::Overlaps => 3,
+        }
+    }
+}
+
+// A descriptor whose 32 bytes stand nowhere is a defect.
+impl From<Miss> for Kind {
+    ghost from_gives = { λ miss kind. Gives (kind_of miss) kind };
+
+    fn from(miss: Miss) -> Kind {
+        match miss {
+            Miss::Misaligned => Kind::Misaligned,
+            Miss::Outside => Kind::Outside,
+        }
+    }
+}
+
+// What the check says of a chain: the kind, and the stop at its end or its first defect.
+#[derive(Clone, Copy, Debug, PartialEq, Eq)]
+pub struct Verdict {
+    pub kind: Kind,
+    pub stop: Stop,
 }
 
 // A walk's verdict, and the address of the descriptor just before the one that it tells of; the pointer where there is none.
@@ -59,57 +93,52 @@ fn free(cells: &[u8; 2050], place: usize) -> bool
     (here == 0) & (low <= first + 1) & ((high == 0) | (first < high))
 }
 
+// A walk that stops with a verdict of this kind.
+fn stopped(kind: Kind, stop: Stop, last: u32) -> Walked
+    ensures { Gives (record { verdict = verdict kind stop; last = last }) result }
+{
+    let verdict = Verdict { kind, stop };
+    Walked { verdict, last }
+}
+
 // The walk along a chain. Places are counted from 32 on, so that a cell is below each.
+// Its three arguments stay apart: mending lends the bytes to the walk, and then changes them, so a struct would have to be made twice.
 fn walk(bytes: &[u8], window: Window, pointer: u32) -> Walked
     requires { Limited window }
     ensures { Walks window bytes.now pointer result }
 {
+    // A rule of the project: no heap. So the cells are an array of the greatest size, with one more at either end.
     let mut cells = [0u8; 2050];
     let mut last = pointer;
     let mut address = pointer;
-    let mut position: u32 = 0;
-    while position < 2049 {
+    for position in 0..2049 {
         let stop = Stop { position, address };
-        let spot = spot_of(window, on_bus(address));
-        let place = match spot {
-            Spot::Misaligned => {
-                let verdict = Verdict::Misaligned(stop);
-                return Walked { verdict, last };
-            }
-            Spot::Outside => {
-                let verdict = Verdict::Outside(stop);
-                return Walked { verdict, last };
-            }
-            Spot::At(place) => place,
+        let place = match spot_of(window, on_bus(address)) {
+            Ok(place) => place,
+            Err(miss) => return stopped(miss.into(), stop, last),
         };
         let at = place.index();
         let p = at + 32;
         if !free(&cells, p) {
-            let verdict = Verdict::Overlaps(stop);
-            return Walked { verdict, last };
+            return stopped(Kind::Overlaps, stop, last);
         }
         let d = raw_in(bytes, at).named();
         if !d.control.has(DescControl::OWNED_BY_HW) {
-            let verdict = Verdict::Sound(stop);
-            return Walked { verdict, last };
+            return stopped(Kind::Sound, stop, last);
         }
         cells[p / 32] = (p % 32 + 1) as u8;
         last = address;
         address = d.next;
-        position += 1;
     }
     // No walk comes here: 2,049 descriptors are never apart in a window.
-    let verdict = Verdict::Overlaps(Stop { position, address });
-    Walked { verdict, last }
+    let position = 2049;
+    stopped(Kind::Overlaps, Stop { position, address }, last)
 }
 
 // Checks the chain from `pointer` on, in a window at `base` whose bytes are lent.
-pub fn check(window: &[u8], base: u64, pointer: u32) -> Verdict
+pub fn check(window: &[u8], base: u64, pointer: u32) -> Result<Verdict, Refusal>
     ensures { WasChecked window.now base pointer result }
 {
-    let checked = Window::checked(base, window.len() as u64);
-    match checked {
-        CheckedWindow::Refused(why) => Verdict::Refused(why),
-        CheckedWindow::Good(place) => walk(window, place, pointer).verdict,
-    }
+    let place = Window::checked(base, window.len() as u64)?;
+    Ok(walk(window, place, pointer).verdict)
 }

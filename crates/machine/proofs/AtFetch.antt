@@ -1,5 +1,6 @@
 -- The cases of Fetch, by the tests that led there.
 -- Assumes nothing.
+use Rattle.std.specs.Prelude.{Err, Some, None}
 use Prim.Native.Nat.{ℕ}
 use mathlib.Core.Path.{◌≡◌, refl, sym, ap, ◌∙◌}
 use mathlib.Core.Bool.{Bool, true, false, ◌&&◌}
@@ -7,18 +8,15 @@ use mathlib.Core.List.{List}
 use lib.Dec.{eqb}
 use Rattle.words.specs.Promise.{Gives}
 use Rattle.descriptor.specs.declared.Descriptor.{Descriptor}
-use Rattle.descriptor.specs.declared.Look.{Look}
-use Rattle.descriptor.specs.declared.Look.TheVariants.{Misaligned, Outside}
+use Rattle.descriptor.specs.declared.Miss.TheVariants as miss
 use Rattle.descriptor.specs.Layout.{owned}
-use Rattle.descriptor.specs.Looking.{look_at}
+use Rattle.descriptor.specs.Looking.{look_at, Look}
 use Rattle.regs.specs.Control.{run}
 use Rattle.machine.specs.declared.Core.{Core}
-use Rattle.machine.specs.declared.Slot.{Slot}
-use Rattle.machine.specs.declared.Slot.TheVariants.{Empty, Ahead}
 use Rattle.machine.specs.declared.fetch.Fetched.{Fetched}
 use Rattle.machine.specs.declared.Phase.{Phase}
 use Rattle.machine.specs.declared.Phase.TheVariants.{Rest, Fetch, Move}
-use Rattle.machine.specs.State.{misaligned, descriptor_outside, no_length, home, rested, with_phase, with_pointer, with_busy, settled}
+use Rattle.machine.specs.State.{misaligned, descriptor_outside, no_length, home, rested, with_phase, with_pointer, with_busy, settled, Slot}
 use Rattle.machine.specs.Step.{World, stored, holding, settle, rest_step, wants_length, begun, ended, fetched, seen, meets, fetch_step}
 use Rattle.machine.specs.Helpers.Worlds.{in_fault}
 use Rattle.machine.specs.Helpers.Turns.{Looks, Begun}
@@ -27,7 +25,7 @@ use Rattle.machine.proofs.Waiting.{at-phase}
 
 -- nothing is read ahead
 abbrev pub alone : Core → Fetched
-alone c = record { core = c; slot = Empty }
+alone c = record { core = c; slot = None }
 
 module _ (m : Core) (r : Fetched) (slot : Slot) (memory : List ℕ) where
   pub not-running : {c : Core} → run m.control ≡ false → c ≡ rested m → r ≡ alone c → Looks fetch_step m slot memory r
@@ -40,10 +38,10 @@ module _ (m : Core) (r : Fetched) (slot : Slot) (memory : List ℕ) where
   unfolding fetch_step
   running e f s = λ w. rw (e, sym (f w)) (s w)
 
-  pub no_address : {c : Core} → c ≡ in_fault m misaligned m.pointer.0 → r ≡ alone c → Looks (λ (w : World). meets w Misaligned) m slot memory r
+  pub no_address : {c : Core} → c ≡ in_fault m misaligned m.pointer.0 → r ≡ alone c → Looks (λ (w : World). meets w (Err miss.Misaligned)) m slot memory r
   no_address g f = λ w. rw (f, g)
 
-  pub no-descriptor : {c : Core} → c ≡ in_fault m descriptor_outside m.pointer.0 → r ≡ alone c → Looks (λ (w : World). meets w Outside) m slot memory r
+  pub no-descriptor : {c : Core} → c ≡ in_fault m descriptor_outside m.pointer.0 → r ≡ alone c → Looks (λ (w : World). meets w (Err miss.Outside)) m slot memory r
   no-descriptor g f = λ w. rw (f, g)
 
 -- of a descriptor; OWNED and whether a length is wanted are told
@@ -59,7 +57,7 @@ module _ (m : Core) {c : Core} (r : Fetched) (d : Descriptor) (slot : Slot) (mem
     no_length_lem f g h = λ w. rw (sym t.value ∙ e, both u refl f, h, g)
 
     pub begins : (l && eqb d.length 0) ≡ false → c ≡ with_phase (Move (begun m.pointer.0 d)) (with_pointer d.next m)
-        → {next : Look} → next ≡ look_at (home m) memory d.next → r ≡ record { core = c; slot = Ahead next }
+        → {next : Look} → next ≡ look_at (home m) memory d.next → r ≡ record { core = c; slot = Some next }
         → Looks (λ (w : World). fetched w d) m slot memory r
     unfolding fetched
     begins f g n h = λ w. rw (sym t.value ∙ e, both u refl f, h, g, n)

@@ -18,12 +18,11 @@ use Rattle.machine.specs.declared.Core.{Core}
 use Rattle.machine.specs.declared.Work.{Work}
 use Rattle.machine.specs.declared.Phase.{Phase}
 use Rattle.machine.specs.declared.Phase.TheVariants.{Move, WriteBack}
-use Rattle.machine.specs.declared.steps.Reached.{Reached}
 use Rattle.machine.specs.State.{source_outside, destination_outside, with_phase}
 use Rattle.machine.specs.Step.{World, whole, source_of, destination_of, with_byte, onward, copy_step, beat_for, send_step, receive_from}
-use Rattle.machine.specs.Helpers.Worlds.{reached_as, in_fault}
+use Rattle.machine.specs.Helpers.Worlds.{Reached, reached_as, in_fault}
 use Rattle.machine.specs.Helpers.Turns.{Still, Went}
-use Rattle.machine.proofs.Streams.{beat-made}
+use Rattle.machine.proofs.Beats.{beat-made}
 use Rattle.machine.proofs.Turning.{went-none}
 
 -- when L bytes are moved or a taken beat had EOP

@@ -1,5 +1,6 @@
 -- WriteBack: a step that makes one record, and where the code puts it.
 -- Assumes nothing.
+use Rattle.std.specs.Prelude.{None}
 use Prim.Native.Nat.{ℕ, zero, suc, ◌+◌, ◌-◌, ◌*◌, ◌/◌, ◌≤◌, ◌<◌}
 use mathlib.Core.Path.{◌≡◌, sym, ap, ◌∙◌}
 use mathlib.Core.Bool.{Bool, true, cond}
@@ -14,7 +15,6 @@ use Rattle.ledger.proofs.Rows.{capacity-le}
 use Rattle.machine.specs.declared.Core.{Core}
 use Rattle.machine.specs.declared.Work.{Work}
 use Rattle.machine.specs.declared.Phase.TheVariants.{WriteBack}
-use Rattle.machine.specs.declared.steps.Wait.TheVariants.{Go}
 use Rattle.machine.specs.Step.{World, taken, stored, noted, holding, entry_for, back_to, write_back_step, settle, step}
 use Rattle.machine.specs.State.{settled}
 use Rattle.machine.specs.Helpers.Waiting.{wait_of}
@@ -26,7 +26,7 @@ unfolding write_back_step
 is-back w k e = at-phase w e
 
 module _ (w : World) (k : Work) {m' : Core} {window' : List ℕ} (b : Backs w.core k w.memory m' window') where
-  back_by : (left : ℕ) → wait_of (back_to w k left) ≡ Go
+  back_by : (left : ℕ) → wait_of (back_to w k left) ≡ None
       → (0 < left) × (back_to w k left ≡ taken (noted (stored w m' window') (w.records ++ entry_for w.run k ∷ []) (left - 1)))
   back_by zero can = absurd (never-goes can)
   back_by (suc n) can =
@@ -34,7 +34,7 @@ module _ (w : World) (k : Work) {m' : Core} {window' : List ℕ} (b : Backs w.co
       (omega arith, b w n ∙ ap (λ (i : ℕ). taken (noted (stored w m' window') (w.records ++ entry_for w.run k ∷ []) i)) one)
 
   -- where it can be taken there is room for its record
-  pub back-goes : w.core.phase ≡ WriteBack k → wait_of (step w) ≡ Go
+  pub back-goes : w.core.phase ≡ WriteBack k → wait_of (step w) ≡ None
       → (0 < w.left)
       × (step w ≡ taken (holding (noted (stored w m' window') (w.records ++ entry_for w.run k ∷ []) (w.left - 1)) (settled m'.phase w.slot)))
   back-goes e can =

@@ -25,8 +25,7 @@ use Rattle.machine.specs.declared.Core.{Core}
 use Rattle.machine.specs.declared.Work.{Work}
 use Rattle.machine.specs.declared.Phase.{Phase}
 use Rattle.machine.specs.declared.Phase.TheVariants.{Move, WriteBack}
-use Rattle.machine.specs.declared.Slot.{Slot}
-use Rattle.machine.specs.State.{with_phase, settled}
+use Rattle.machine.specs.State.{with_phase, settled, Slot}
 use Rattle.machine.specs.Step.{World, taken, laid, became, stored, received, sent, holding, settle, step, whole, source_of, destination_of, with_byte, onward, copy_step, send_step, receive_from, move_step, beat_for}
 use Rattle.machine.specs.Helpers.Turns.{steps_on, steps}
 use Rattle.machine.specs.Helpers.AtOnce.{moved_by, Moving, Row, Unmarked}

@@ -1,7 +1,7 @@
 pub mod Writes
 pub mod Answers
 pub mod Places
-pub mod Streams
+pub mod Beats
 pub mod Turning
 pub mod AtFetch
 pub mod AtMove

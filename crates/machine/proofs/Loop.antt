@@ -1,12 +1,12 @@
 -- A run by its turns: where it stops, and how it goes on after steps that were taken at once.
 -- Assumes nothing.
+use Rattle.std.specs.Prelude.{Some, None}
 use Prim.Native.Nat.{ℕ, zero, suc, ◌+◌}
 use mathlib.Core.Path.{◌≡◌, refl, sym, ap, ◌∙◌}
 use native.Mathlib.Nat.{zero-add, add_assoc}
 use native.Mathlib.Omega.{arith}
 use Rattle.machine.specs.declared.Reason.{Reason}
 use Rattle.machine.specs.declared.Reason.TheVariants as reason
-use Rattle.machine.specs.declared.steps.Wait.TheVariants.{Go, Stop}
 use Rattle.machine.specs.Step.{World, Answer, taken, stopped, step}
 use Rattle.machine.specs.Run.{Report, one_more_of, run_on, run}
 use Rattle.machine.specs.Helpers.Waiting.{wait_of}
@@ -19,22 +19,22 @@ report w n r = record { reason = r; steps = n; world = w }
 abbrev pub more_by : ℕ → Report → Report
 more_by n r = record { reason = r.reason; steps = n + r.steps; world = r.world }
 
-stops-by : (budget : ℕ) (w : World) (a : Answer) (r : Reason) → wait_of a ≡ Stop r → run_on budget w a ≡ report w 0 r
+stops-by : (budget : ℕ) (w : World) (a : Answer) (r : Reason) → wait_of a ≡ Some r → run_on budget w a ≡ report w 0 r
 stops-by budget w (taken v) r e = absurd (let z : ◌≡◌ {A = ℕ} 0 1 = cc in omega arith)
 stops-by zero w (stopped q) r e = let same : q ≡ r = cc in ap (λ (x : Reason). report w 0 x) same
 stops-by (suc n) w (stopped q) r e = let same : q ≡ r = cc in ap (λ (x : Reason). report w 0 x) same
 
 -- the reason is the one found there
-pub run-stops : (budget : ℕ) (w : World) (r : Reason) → wait_of (step w) ≡ Stop r → run budget w ≡ report w 0 r
+pub run-stops : (budget : ℕ) (w : World) (r : Reason) → wait_of (step w) ≡ Some r → run budget w ≡ report w 0 r
 unfolding run
 run-stops budget w r e = stops-by budget w (step w) r e
 
-out-by : (w : World) (a : Answer) → wait_of a ≡ Go → run_on 0 w a ≡ report w 0 reason.Budget
+out-by : (w : World) (a : Answer) → wait_of a ≡ None → run_on 0 w a ≡ report w 0 reason.Budget
 out-by w (taken v) e = refl
 out-by w (stopped q) e = absurd (let z : ◌≡◌ {A = ℕ} 0 1 = cc in omega arith)
 
 -- Budget where another step was possible
-pub run_out : (w : World) → wait_of (step w) ≡ Go → run 0 w ≡ report w 0 reason.Budget
+pub run_out : (w : World) → wait_of (step w) ≡ None → run 0 w ≡ report w 0 reason.Budget
 unfolding run
 run_out w e = out-by w (step w) e
 

@@ -1,5 +1,7 @@
 -- What a step and a run promise, from what the code found.
 -- Assumes nothing.
+use Rattle.bus.specs.Refusal.{answer_number}
+use Rattle.std.specs.Prelude.{Result, Ok, Err}
 use Prim.Native.Nat.{ℕ, ◌-◌, ◌*◌, ◌/◌, ◌%◌, ◌≤◌}
 use mathlib.Core.Path.{◌≡◌, refl, sym, ap, subst, subst⁻¹, ◌∙◌}
 use mathlib.Core.Bool.{Bool, true, false, cond, ◌&&◌}
@@ -19,16 +21,12 @@ use Rattle.flow.proofs.Streams.{length-beats, length-beat-bytes}
 use Rattle.machine.specs.declared.Machine.{Machine}
 use Rattle.machine.specs.declared.Ran.{Ran}
 use Rattle.machine.specs.declared.StepAnswer.{StepAnswer}
-use Rattle.machine.specs.declared.StepAnswer.TheVariants as one
-use Rattle.machine.specs.declared.RunAnswer.{RunAnswer}
-use Rattle.machine.specs.declared.RunAnswer.TheVariants as many
 use Rattle.machine.specs.Saved.{keeps}
 use Rattle.machine.specs.Step.{World, Answer, taken, stopped, step}
 use Rattle.machine.specs.Run.{one_more_of, run_on, run, Lent, Returned, Served, serves, refused, even, served_if, served_of, world_of, returned}
-use Rattle.machine.specs.Run.{stepped_as, world_after, step_answer, ran_as, run_answer, step_number, served_number, Stepped, HasRun}
+use Rattle.machine.specs.Run.{stepped_as, world_after, step_answer, ran_as, run_answer, served_number, Stepped, HasRun}
 use Rattle.machine.specs.Helpers.Resume.{RunsIf, ready_of, Ready, stepped_in}
 use Rattle.machine.specs.Theorems.{ResumedRuns}
-use Rattle.machine.proofs.Answers.{stepped-number}
 use Rattle.machine.proofs.Readiness.{keeps-tested}
 
 -- ---- what is lent
@@ -57,7 +55,7 @@ good-ready good m l h e =
     subst⁻¹ (λ (n : ℕ). Ready m.core n) s.1 (h s.0)
 
 -- a run that is done was served, and tells what the run led to
-pub ran-serves : (given : Lent) (served : Served) (w : World) (budget : ℕ) (r : Ran) → many.Done r ≡ run_answer given served w budget
+pub ran-serves : (given : Lent) (served : Served) (w : World) (budget : ℕ) (r : Ran) → Ok r ≡ run_answer given served w budget
     → (served ≡ serves) × (r ≡ ran_as given.used w (run budget w))
 ran-serves given serves w budget r e = (refl, cc)
 ran-serves given (refused why) w budget r e = absurd (let z : ◌≡◌ {A = ℕ} 0 1 = cc in omega arith)
@@ -74,9 +72,9 @@ over out new = rw (zero-add, length-beat-bytes)
 
 -- ---- a step, which is a run of one
 
-abbrev pub as_step : RunAnswer → StepAnswer
-as_step (many.Done r) = stepped_in r
-as_step (many.Refused why) = one.Refused why
+abbrev pub as_step : Result Ran Refusal → Result StepAnswer Refusal
+as_step (Ok r) = Ok (stepped_in r)
+as_step (Err why) = Err why
 
 ends_there : (v : World) (a : Answer) → (run_on 0 v a).world ≡ v
 ends_there v (stopped r) = refl
@@ -98,14 +96,14 @@ module _ (used : ℕ) (w : World) where
 module _ (l : Lent) (w : World) where
   answers_one : (s : Served) → as_step (run_answer l s w 1) ≡ step_answer l s w
   unfolding run
-  answers_one serves = says-one l.used w (step w)
+  answers_one serves = ap Ok (says-one l.used w (step w))
   answers_one (refused why) = refl
 
-  numbers-one : (s : Served) → step_number (step_answer l s w) ≡ served_number s
-  numbers-one serves = stepped-number l.used w (step w)
+  numbers-one : (s : Served) → answer_number (step_answer l s w) ≡ served_number s
+  numbers-one serves = refl
   numbers-one (refused why) = refl
 
-pub run-of-one : {m : Machine} {l : Lent} {a c : RunAnswer} {r : StepAnswer} {b : Returned} → HasRun m l 1 a b → a ≡ c → r ≡ as_step c
+pub run-of-one : {m : Machine} {l : Lent} {a c : Result Ran Refusal} {r : Result StepAnswer Refusal} {b : Returned} → HasRun m l 1 a b → a ≡ c → r ≡ as_step c
     → Stepped m l r b
 unfolding run
 run-of-one {m} {l} h e told =
@@ -113,13 +111,13 @@ run-of-one {m} {l} h e told =
     let answer = told ∙ ap as_step (sym e ∙ h.answer) ∙ answers_one l w (served_of m l) in
     record {
       answer = answer;
-      number = ap step_number answer ∙ numbers-one l w (served_of m l);
+      number = ap (answer_number {A = StepAnswer}) answer ∙ numbers-one l w (served_of m l);
       back = h.back ∙ ap (λ (v : World). returned l (served_of m l) v) (one-after w (step w));
     }
 
 -- ---- a run by another test for the same good machines
 
-pub runs_as : (good good' : Bool) → good ≡ good' → {m : Machine} {l : Lent} {budget : ℕ} {r : RunAnswer} {b : Returned}
+pub runs_as : (good good' : Bool) → good ≡ good' → {m : Machine} {l : Lent} {budget : ℕ} {r : Result Ran Refusal} {b : Returned}
     → RunsIf good m l budget r b → RunsIf good' m l budget r b
 runs_as good good' e {m} {l} {budget} {r} {b} h = subst (λ (t : Bool). RunsIf t m l budget r b) e h
 

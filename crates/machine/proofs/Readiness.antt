@@ -1,7 +1,10 @@
 -- A machine that keeps the image rules is ready for a step, and a step leaves it ready for the next.
 -- Assumes nothing.
+use Rattle.std.specs.Prelude.{Result, Ok, Err, Some, None}
 use Prim.Native.Nat.{ℕ, zero, suc, ◌%◌, ◌≤◌, ◌<◌}
 use mathlib.Core.Path.{◌≡◌, refl, sym, ap, subst, subst⁻¹, ◌∙◌}
+use mathlib.Core.Logic.{◌⊎◌, inl, inr}
+use Rattle.machine.specs.declared.Fault.{Fault}
 use mathlib.Core.Bool.{Bool, true, false, not, cond, ◌&&◌, ◌||◌}
 use mathlib.Core.List.{List, [], ◌∷◌}
 use native.Mathlib.Omega.{arith}
@@ -9,15 +12,14 @@ use lib.Dec.{eqb, ltb}
 use borrow.Author.Tests.{eqb-true, eqb-false, ltb-true, lt-ltb, not-true}
 use Rattle.bus.specs.declared.Window.{Window}
 use Rattle.bus.specs.Window.{in_window}
-use Rattle.descriptor.specs.declared.Spot.{Spot}
-use Rattle.descriptor.specs.declared.Spot.TheVariants as spot
-use Rattle.descriptor.specs.Looking.{spot_of, stands}
+use Rattle.descriptor.specs.declared.Miss.{Miss}
+use Rattle.bus.specs.declared.Place.{Place}
+use Rattle.descriptor.specs.declared.Miss.TheVariants as miss
+use Rattle.descriptor.specs.Looking.{spot_of, stands, Look}
 use Rattle.image.specs.Slot.{descriptor, kind_at}
 use Rattle.image.specs.Slot.{kind_of as spot_kind}
 use Rattle.image.proofs.Windows.{stands_by}
 use Rattle.descriptor.specs.declared.Descriptor.{Descriptor}
-use Rattle.descriptor.specs.declared.Look.{Look}
-use Rattle.descriptor.specs.declared.Look.TheVariants.{Misaligned, Outside, There}
 use Rattle.descriptor.specs.Layout.{owned}
 use Rattle.descriptor.proofs.Looks.{Looked, misaligned, outside, there, looked}
 use Rattle.regs.specs.declared.Mode.{Mode}
@@ -36,13 +38,11 @@ use Rattle.machine.specs.declared.Phase.{Phase}
 use Rattle.machine.specs.declared.Phase.TheVariants.{Rest, Fetch, Move, WriteBack, Ended, Halted, Faulted}
 use Rattle.machine.specs.declared.Reason.{Reason}
 use Rattle.machine.specs.declared.Machine.{Machine}
-use Rattle.machine.specs.declared.Slot.{Slot}
-use Rattle.machine.specs.declared.Slot.TheVariants.{Empty, Ahead}
-use Rattle.machine.specs.State.{phase_number, home, with_pointer, with_phase, with_busy, settled}
+use Rattle.machine.specs.State.{phase_number, home, with_pointer, with_phase, with_busy, settled, Slot}
 use Rattle.machine.specs.Saved.{in_hand, fields_of, tail_with, tail_of, keeps}
 use Rattle.machine.specs.Step.{World, Answer, home_bytes, taken, stopped, laid, settle, step, step_in, rest_step, seen_in, seen, begun, meets, fetch_step, fetched, wants_length, move_step, copy_step, send_step, send_to, receive_from, back_to, write_back_step, completed, after_back, onward, with_byte, whole, source_of, destination_of}
 use Rattle.machine.specs.Helpers.Turns.{steps_on, steps}
-use Rattle.machine.specs.Helpers.Resume.{ready_in, core_ready, seated_in, ready_of, Left, Placed, SeatedAs, Seated, Ready}
+use Rattle.machine.specs.Helpers.Resume.{InMove, ready_in, core_ready, seated_in, ready_of, Left, Placed, SeatedAs, Seated, Ready}
 use Rattle.machine.proofs.InRows.{kept-onward}
 
 -- what a rule leads to is ready, with the slot as the phase leaves it
@@ -93,13 +93,13 @@ module _ (n : ℕ) (w : World) (s : w.core.window.length ≡ n) (t : Seated w.co
       (look-seats (with_phase (Move (begun w.core.pointer.0 d)) (with_pointer d.next w.core)) (home_bytes w) (looked (home w.core) (home_bytes w) d.next) refl)))
 
   met-stays : (l : Look) → SeatedAs w.core l → Stays n (meets w l)
-  met-stays Misaligned p = goes (record { size = s; left = tt; placed = tt }) tt
-  met-stays Outside p = goes (record { size = s; left = tt; placed = tt }) tt
-  met-stays (There r) p = fetched-stays _ p
+  met-stays (Err miss.Misaligned) p = goes (record { size = s; left = tt; placed = tt }) tt
+  met-stays (Err miss.Outside) p = goes (record { size = s; left = tt; placed = tt }) tt
+  met-stays (Ok r) p = fetched-stays _ p
 
   seen-seats : (slot : Slot) → Seated w.core slot → SeatedAs w.core (seen_in w slot)
-  seen-seats Empty p = look-seats w.core (home_bytes w) (looked (home w.core) (home_bytes w) w.core.pointer.0) refl
-  seen-seats (Ahead look) p = p
+  seen-seats None p = look-seats w.core (home_bytes w) (looked (home w.core) (home_bytes w) w.core.pointer.0) refl
+  seen-seats (Some look) p = p
 
   fetch-stays : Stays n (fetch_step w)
   unfolding fetch_step seen
@@ -128,13 +128,13 @@ unfolding onward
 onward-seated m k slot h = subst⁻¹ (λ (x : Slot). Seated (onward m k) x) (kept-onward m k slot) (same slot h)
   where
     same : (slot : Slot) → Seated m slot → Seated (onward m k) slot
-    same Empty h = tt
-    same (Ahead look) h = looks look h
+    same None h = tt
+    same (Some look) h = looks look h
       where
         looks : (look : Look) → SeatedAs m look → SeatedAs (onward m k) look
-        looks Misaligned h = tt
-        looks Outside h = tt
-        looks (There r) h = h
+        looks (Err miss.Misaligned) h = tt
+        looks (Err miss.Outside) h = tt
+        looks (Ok r) h = h
 
 module _ (n : ℕ) (w : World) (k : Work) (s : w.core.window.length ≡ n) (l : k.moved < whole w.core k)
     (p : in_window w.core.window k.at 32 ≡ true) (t : Seated w.core w.slot) where
@@ -177,6 +177,13 @@ whole_by false n h = h
 pub left_lt : (m : Core) (k : Work) → k.length ≤ 65535 → k.moved < whole m k → k.moved < 65535
 left_lt m k h l = omega (arith, whole_by (eqb (mode_number m.mode) 2 && eqb k.length 0) k.length h)
 
+pub one-more : {m : Core} {k : Work} {lent : ℕ} → k.length ≤ 65535 → InMove m k lent → k.moved < 65535
+one-more {m} {k} h p = left_lt m k h p.left.0
+
+-- what is ready in Move
+pub in-move : {m : Core} {k : Work} {lent : ℕ} → Ready m lent → m.phase ≡ Move k → InMove m k lent
+in-move {m} r e = record { size = r.size; phase = e; left = subst (λ (p : Phase). Left m p) e r.left }
+
 -- ---- the others
 
 after-left : (m : Core) (runs halts : Bool) → Left m (after_back runs halts)
@@ -207,10 +214,10 @@ completed-seated m k slot h =
     (after-seated m (run m.control) (not (eqb k.errors 0) && stop_dma_er m.control) slot h)
   where
     same : (slot : Slot) → Seated m slot → Seated (completed m k) slot
-    same Empty h = tt
-    same (Ahead Misaligned) h = tt
-    same (Ahead Outside) h = tt
-    same (Ahead (There r)) h = h
+    same None h = tt
+    same (Some (Err miss.Misaligned)) h = tt
+    same (Some (Err miss.Outside)) h = tt
+    same (Some (Ok r)) h = h
 
 back-stays : (n : ℕ) (w : World) (k : Work) → w.core.window.length ≡ n → Seated w.core w.slot → (left : ℕ) → Stays n (back_to w k left)
 back-stays n w k s t zero = stops
@@ -222,10 +229,10 @@ unfolding rest_step write_back_step
 phase-stays n Rest w s l p t = either n (run w.core.control) (λ e. goes (record { size = s; left = tt; placed = tt }) (started w.slot t)) (λ e. stops)
   where
     started : (slot : Slot) → Seated w.core slot → Seated (with_phase Fetch (with_busy true w.core)) slot
-    started Empty h = tt
-    started (Ahead Misaligned) h = tt
-    started (Ahead Outside) h = tt
-    started (Ahead (There r)) h = h
+    started None h = tt
+    started (Some (Err miss.Misaligned)) h = tt
+    started (Some (Err miss.Outside)) h = tt
+    started (Some (Ok r)) h = h
 phase-stays n Fetch w s l p t = fetch-stays n w s t
 phase-stays n (Move k) w s l p t = move-stays n w k s l.0 p t w.core.mode
 phase-stays n (WriteBack k) w s l p t = back-stays n w k s t w.left
@@ -289,10 +296,10 @@ keeps-ready m n e s =
 kind-inside : (w : Window) (a : ℕ) → kind_at w a ≡ descriptor → in_window w a 32 ≡ true
 kind-inside w a e = and_right (eqb (a % 4) 0) _ (sym (stands_by w a) ∙ by (spot_of w a) e)
   where
-    by : (s : Spot) → spot_kind s ≡ descriptor → stands s ≡ true
-    by spot.Misaligned h = absurd (omega arith)
-    by spot.Outside h = absurd (omega arith)
-    by (spot.At p) h = refl
+    by : (s : Result Place Miss) → spot_kind s ≡ descriptor → stands s ≡ true
+    by (Err miss.Misaligned) h = absurd (omega arith)
+    by (Err miss.Outside) h = absurd (omega arith)
+    by (Ok p) h = refl
 
 -- and what it has read ahead, if it is a descriptor, lies in the window
 pub keeps-seated : (m : Machine) → keeps m ≡ true → Seated m.core m.slot
@@ -300,12 +307,12 @@ unfolding keeps_rules
 keeps-seated m e = by m.slot (eqb-true _ _ e)
   where
     by : (s : Slot) → lowest_broken (fields_of m.core) (tail_with s m.core.pointer.0 m.run) ≡ 0 → Seated m.core s
-    by Empty z = tt
-    by (Ahead Misaligned) z = tt
-    by (Ahead Outside) z = tt
-    by (Ahead (There r)) z =
+    by None z = tt
+    by (Some (Err miss.Misaligned)) z = tt
+    by (Some (Err miss.Outside)) z = tt
+    by (Some (Ok r)) z =
         kind-inside m.core.window m.core.pointer.0
-        (sym (held-kind (fields_of m.core) (tail_with (Ahead (There r)) m.core.pointer.0 m.run) z refl))
+        (sym (held-kind (fields_of m.core) (tail_with (Some (Ok r)) m.core.pointer.0 m.run) z refl))
 
 -- ---- what a step needs, as a test
 
@@ -344,16 +351,16 @@ module _ (m : Core) where
   ready_by (Faulted f) l h = refl
 
   seats : (slot : Slot) → seated_in m slot ≡ true → Seated m slot
-  seats Empty e = tt
-  seats (Ahead Misaligned) e = tt
-  seats (Ahead Outside) e = tt
-  seats (Ahead (There r)) e = e
+  seats None e = tt
+  seats (Some (Err miss.Misaligned)) e = tt
+  seats (Some (Err miss.Outside)) e = tt
+  seats (Some (Ok r)) e = e
 
   seated-by : (slot : Slot) → Seated m slot → seated_in m slot ≡ true
-  seated-by Empty h = refl
-  seated-by (Ahead Misaligned) h = refl
-  seated-by (Ahead Outside) h = refl
-  seated-by (Ahead (There r)) h = h
+  seated-by None h = refl
+  seated-by (Some (Err miss.Misaligned)) h = refl
+  seated-by (Some (Err miss.Outside)) h = refl
+  seated-by (Some (Ok r)) h = h
 
 module _ (m : Machine) where
   pub tested-ready : ready_of m ≡ true → Ready m.core m.core.window.length
@@ -370,3 +377,12 @@ module _ (m : Machine) where
   keeps-tested k =
       let r = keeps-ready m m.core.window.length k refl in
       rw (seated-by m.core m.slot (keeps-seated m k)) (ready_by m.core m.core.phase r.left r.placed)
+
+-- a phase with no descriptor in hand is ready
+pub idle-ready : (m : Core) {p : Phase} → (p ≡ Rest) ⊎ ((p ≡ Fetch) ⊎ ((p ≡ Ended) ⊎ ((p ≡ Halted) ⊎ ((f : Fault) × (p ≡ Faulted f)))))
+    → ready_in m p ≡ true
+idle-ready m (inl e) = ap (ready_in m) e
+idle-ready m (inr (inl e)) = ap (ready_in m) e
+idle-ready m (inr (inr (inl e))) = ap (ready_in m) e
+idle-ready m (inr (inr (inr (inl e)))) = ap (ready_in m) e
+idle-ready m (inr (inr (inr (inr (f, e))))) = ap (ready_in m) e

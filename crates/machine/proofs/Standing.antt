@@ -1,5 +1,6 @@
 -- Where a run stands in the middle of what it is lent: what the loop keeps, and what it promises where it ends.
 -- Assumes nothing.
+use Rattle.std.specs.Prelude.{Result, Ok, Err, Option, Some, None}
 use Prim.Native.Nat.{ℕ, ◌+◌, ◌-◌, ◌*◌, ◌/◌, ◌≤◌, ◌<◌}
 use mathlib.Core.Bool.{Bool, true, false}
 use lib.Dec.{eqb}
@@ -21,26 +22,20 @@ use Rattle.machine.specs.declared.Core.{Core}
 use Rattle.machine.specs.declared.Work.{Work}
 use Rattle.machine.specs.declared.Phase.{Phase}
 use Rattle.machine.specs.declared.Phase.TheVariants.{Rest, Fetch, Move, WriteBack, Ended, Halted, Faulted}
-use Rattle.machine.specs.declared.Slot.{Slot}
 use Rattle.machine.specs.declared.Machine.{Machine}
-use Rattle.machine.specs.declared.runs.Advanced.{Advanced}
 use Rattle.machine.specs.declared.fetch.Fetched.{Fetched}
-use Rattle.machine.specs.State.{settled, machine_with}
+use Rattle.machine.specs.State.{settled, machine_with, Slot}
 use Rattle.machine.specs.declared.Ran.{Ran}
 use Rattle.machine.specs.declared.Reason.{Reason}
 use Rattle.machine.specs.declared.Reason.TheVariants as reason
-use Rattle.machine.specs.declared.RunAnswer.{RunAnswer}
-use Rattle.machine.specs.declared.RunAnswer.TheVariants as many
-use Rattle.machine.specs.declared.steps.Wait.{Wait}
-use Rattle.machine.specs.declared.steps.Wait.TheVariants.{Go, Stop}
 use Rattle.machine.specs.Step.{World, taken, noted, holding, entry_for, step}
-use Rattle.machine.specs.Run.{Report, run, Lent, Returned, back, as_lent, Served, serves, refused, world_of, output_over, returned}
+use Rattle.machine.specs.Run.{Report, run, Lent, Returned, lent, back, as_lent, Served, serves, refused, world_of, output_over, returned}
 use Rattle.machine.specs.Run.{ran_as, run_answer, served_number, Runs}
-use Rattle.machine.specs.Helpers.Worlds.{world_at, Within}
+use Rattle.machine.specs.Helpers.Worlds.{Reached, world_at, Within}
 use Rattle.machine.specs.Helpers.Waiting.{wait_of, halt_of}
 use Rattle.machine.specs.Helpers.Turns.{steps, Advances, Begun, Backs}
 use Rattle.machine.specs.Helpers.Resume.{Seated, Ready}
-use Rattle.machine.proofs.Streams.{beat-bytes-append, none_made}
+use Rattle.machine.proofs.Beats.{beat-bytes-append, none_made}
 use Rattle.machine.proofs.Readiness.{steps-ready}
 use Rattle.machine.proofs.Waiting.{never-goes, halt-go}
 use Rattle.machine.proofs.AtWriteBack.{back-goes, appended_one}
@@ -69,10 +64,17 @@ pub record Stands (m₀ : Machine) (l : Lent) (budget : ℕ) (b : Returned) (m :
       (world_at (holding (noted (world_of m₀ l) records (capacity (length b.ledger) - used)) (settled m.phase slot)) m b.window l.beats took output
       (length b.out / 2 - made)))
 
+-- of the same beats
+pub with-beats : {m₀ : Machine} {window beats beats' out ledger : List ℕ} {used₀ budget : ℕ} {b : Returned} {m : Core} {slot : Slot} {took made used count : ℕ}
+    → beats' ≡ beats → Stands m₀ (lent window beats out ledger used₀) budget b m slot took made used count
+    → Stands m₀ (lent window beats' out ledger used₀) budget b m slot took made used count
+with-beats {m₀} {window} {beats} {beats'} {out} {ledger} {used₀} {budget} {b} {m} {slot} {took} {made} {used} {count} e s =
+    subst⁻¹ (λ (x : List ℕ). Stands m₀ (lent window x out ledger used₀) budget b m slot took made used count) e s
+
 -- why, where it ends
-abbrev why : Wait → Reason
-why (Stop r) = r
-why Go = reason.Budget
+abbrev why : Option Reason → Reason
+why (Some r) = r
+why None = reason.Budget
 
 -- what a phase leaves of a slot in place is in place
 settled-seated : (m : Core) (p : Phase) (slot : Slot) → Seated m slot → Seated m (settled p slot)
@@ -105,6 +107,12 @@ module _ (m₀ : Machine) (l : Lent) (budget : ℕ) where
         used_in = u;
         same = rw (sub-zero budget, sub-zero (length l.out / 2)) (sym (more-none (run budget (world_of m₀ l))));
       }
+
+  pub stands-new : {took made : ℕ} → took ≡ 0 → made ≡ 0 → Ready m₀.core (length l.window) → Seated m₀.core m₀.slot → l.used ≤ length l.ledger / 12
+      → Stands m₀ l budget (as_lent l) m₀.core m₀.slot took made l.used 0
+  stands-new {took} {made} e f r t u =
+      subst⁻¹ (λ (n : ℕ). Stands m₀ l budget (as_lent l) m₀.core m₀.slot n made l.used 0) e
+      (subst⁻¹ (λ (n : ℕ). Stands m₀ l budget (as_lent l) m₀.core m₀.slot 0 n l.used 0) f (stands-first r t u))
 
   module _ (b : Returned) (m : Core) (slot : Slot) (took made used count : ℕ) (s : Stands m₀ l budget b m slot took made used count) where
     abbrev pub here : World
@@ -164,12 +172,12 @@ module _ (m₀ : Machine) (l : Lent) (budget : ℕ) where
         }
 
     -- in Move: no record, and what was read ahead stays beside it
-    pub stands-moved : (k : Work) (window' out' : List ℕ) (r : Advanced) → m.phase ≡ Move k → r.steps ≤ budget - count
+    pub stands-moved : (k : Work) (window' out' : List ℕ) (n : ℕ) (r : Reached) → m.phase ≡ Move k → n ≤ budget - count
         → length window' ≡ length b.window → length out' ≡ length b.out
-        → Advances m b.window l.beats took b.out made r window' out'
-        → Stands m₀ l budget (back window' out' b.ledger) r.core slot r.taken r.made used (count + r.steps)
-    stands-moved k window' out' r e h wl ol g =
-        stands_on r.steps (back window' out' b.ledger) r.core slot r.taken r.made used g.new [] h wl ol refl g.within g.counted g.wrote
+        → Advances m b.window l.beats took b.out made n r window' out'
+        → Stands m₀ l budget (back window' out' b.ledger) r.core slot r.taken r.made used (count + n)
+    stands-moved k window' out' n r e h wl ol g =
+        stands_on n (back window' out' b.ledger) r.core slot r.taken r.made used g.new [] h wl ol refl g.within g.counted g.wrote
         (sym (add-zero used)) (none_made b.ledger (12 * used)) s.used_in
         (g.goes here
         ∙ (λ x. taken (world_at (holding (noted (world_of m₀ l) (sym (append-nil s.records) x) (capacity (length b.ledger) - used))
@@ -188,7 +196,7 @@ module _ (m₀ : Machine) (l : Lent) (budget : ℕ) where
 
     -- in WriteBack: one record
     pub stands-back : (k : Work) (window' ledger' : List ℕ) (m' : Core) (used' : ℕ) → 1 ≤ budget - count
-        → length window' ≡ length b.window → length ledger' ≡ length b.ledger → m.phase ≡ WriteBack k → wait_of (step here) ≡ Go
+        → length window' ≡ length b.window → length ledger' ≡ length b.ledger → m.phase ≡ WriteBack k → wait_of (step here) ≡ None
         → {e : Entry} → e ≡ entry_for m₀.run k → Appended b.ledger used e used' ledger' → Backs m k b.window m' window'
         → Stands m₀ l budget (back window' b.out ledger') m' slot took made used' (count + 1)
     unfolding steps
@@ -206,7 +214,7 @@ module _ (m₀ : Machine) (l : Lent) (budget : ℕ) where
     abbrev pub ended : Reason → Ran
     ended r = record { machine = machine_with m slot m₀.run; reason = r; steps = count; taken = took; made = made; used = used }
 
-    ends : (r : Reason) → run (budget - count) here ≡ report here 0 r → Runs serves m₀ l budget (many.Done (ended r)) b
+    ends : (r : Reason) → run (budget - count) here ≡ report here 0 r → Runs serves m₀ l budget (Ok (ended r)) b
     ends r f =
         let w = world_of m₀ l in
         let full : run budget w ≡ report here count r = s.same ∙ ap (more_by count) f ∙ ap (λ (k : ℕ). report here k r) (add-zero count) in
@@ -215,50 +223,50 @@ module _ (m₀ : Machine) (l : Lent) (budget : ℕ) where
         λ x. record { machine = machine_with m slot m₀.run; reason = r; steps = count; taken = sym since x; made = s.counted x; used = s.kept x } in
         let out : b.out ≡ output_over here l.out = s.wrote ∙ over l.out s.output in
         record {
-          answer = ap many.Done tells ∙ sym (ap (λ (x : Report). many.Done (ran_as l.used w x)) full);
+          answer = ap Ok tells ∙ sym (ap (λ (x : Report). Ok (ran_as l.used w x)) full);
           number = refl;
           back = (λ x. back b.window (out x) (s.put_down x)) ∙ sym (ap (λ (x : Report). returned l serves x.world) full);
         }
 
     -- where no step can be taken
-    stands-stopped : (r : Reason) → wait_of (step here) ≡ Stop r → Runs serves m₀ l budget (many.Done (ended r)) b
+    stands-stopped : (r : Reason) → wait_of (step here) ≡ Some r → Runs serves m₀ l budget (Ok (ended r)) b
     stands-stopped r f = ends r (run-stops (budget - count) here r f)
 
     -- where the budget is spent, and one can
-    stands-out : wait_of (step here) ≡ Go → budget ≡ count → Runs serves m₀ l budget (many.Done (ended reason.Budget)) b
+    stands-out : wait_of (step here) ≡ None → budget ≡ count → Runs serves m₀ l budget (Ok (ended reason.Budget)) b
     stands-out f k =
         let none : budget - count ≡ 0 = omega arith in
         ends reason.Budget (ap (λ (k : ℕ). run k here) none ∙ run_out here f)
 
     -- in either case, by what the code asks
-    halted-by : (spent : Bool) (x : Wait) (r : Reason) → eqb budget count ≡ spent → wait_of (step here) ≡ x → halt_of spent x ≡ Stop r
-        → Runs serves m₀ l budget (many.Done (ended r)) b
-    halted-by spent (Stop q) r e f h = stands-stopped r (f ∙ h)
-    halted-by true Go r e f h =
-        subst (λ (x : Reason). Runs serves m₀ l budget (many.Done (ended x)) b) (ap why h) (stands-out f (eqb-true _ _ e))
-    halted-by false Go r e f h = absurd (never-goes (sym h))
+    halted-by : (spent : Bool) (x : Option Reason) (r : Reason) → eqb budget count ≡ spent → wait_of (step here) ≡ x → halt_of spent x ≡ Some r
+        → Runs serves m₀ l budget (Ok (ended r)) b
+    halted-by spent (Some q) r e f h = stands-stopped r (f ∙ h)
+    halted-by true None r e f h =
+        subst (λ (x : Reason). Runs serves m₀ l budget (Ok (ended x)) b) (ap why h) (stands-out f (eqb-true _ _ e))
+    halted-by false None r e f h = absurd (never-goes (sym h))
 
-    pub stands-halted : {r : Reason} {m' : Machine} {a : Ran} → halt_of (eqb budget count) (wait_of (step here)) ≡ Stop r
+    pub stands-halted : {r : Reason} {m' : Machine} {a : Ran} → halt_of (eqb budget count) (wait_of (step here)) ≡ Some r
         → m' ≡ machine_with m slot m₀.run → a ≡ record { machine = m'; reason = r; steps = count; taken = took; made = made; used = used }
-        → Runs serves m₀ l budget (many.Done a) b
+        → Runs serves m₀ l budget (Ok a) b
     stands-halted {r} h there tells =
-        subst⁻¹ (λ (a : Ran). Runs serves m₀ l budget (many.Done a) b)
+        subst⁻¹ (λ (a : Ran). Runs serves m₀ l budget (Ok a) b)
         (tells ∙ ap (λ (x : Machine). record { machine = x; reason = r; steps = count; taken = took; made = made; used = used }) there)
         (halted-by (eqb budget count) (wait_of (step here)) r refl refl h)
 
     -- and where it goes on
-    pub stands-going : halt_of (eqb budget count) (wait_of (step here)) ≡ Go → (wait_of (step here) ≡ Go) × (count < budget)
+    pub stands-going : halt_of (eqb budget count) (wait_of (step here)) ≡ None → (wait_of (step here) ≡ None) × (count < budget)
     stands-going h =
         let go = halt-go (eqb budget count) (wait_of (step here)) h in
         (go.0, omega (arith, s.spent, eqb-false budget count go.1))
 
 -- what is lent serves, or it is refused
-pub run-served : {served : Served} {m : Machine} {l : Lent} {budget : ℕ} {r : RunAnswer} {b : Returned} → served ≡ serves
+pub run-served : {served : Served} {m : Machine} {l : Lent} {budget : ℕ} {r : Result Ran Refusal} {b : Returned} → served ≡ serves
     → Runs serves m l budget r b → Runs served m l budget r b
 run-served {m = m} {l = l} {budget = budget} {r = r} {b = b} e h = subst⁻¹ (λ (x : Served). Runs x m l budget r b) e h
 
 pub run-refused : {served : Served} {m : Machine} {l : Lent} {budget : ℕ} {why : Refusal} → served ≡ refused why
-    → Runs served m l budget (many.Refused why) (as_lent l)
+    → Runs served m l budget (Err why) (as_lent l)
 run-refused {m = m} {l = l} {budget = budget} e =
     let w = world_of m l in
     record {

@@ -1,5 +1,6 @@
 -- The laws of a step: what it leaves of the machine and of what is lent, and which bytes of memory it names.
 -- Assumes nothing.
+use Rattle.std.specs.Prelude.{Ok, Err}
 use Prim.Native.Nat.{ℕ, zero, suc, ◌+◌, ◌-◌, ◌<◌}
 use mathlib.Core.Path.{◌≡◌, refl, sym, ap, subst, ◌∙◌}
 use mathlib.Core.Logic.{◌≢◌}
@@ -12,10 +13,9 @@ use lib.Dec.{eqb}
 use lib.ListN.{length, get_or, drop, length-append, length-set, length-drop}
 use lib.Seq.{drop-drop, get_or-set_other}
 use Rattle.bus.specs.Window.{in_window, place_of}
-use Rattle.descriptor.specs.declared.Look.{Look}
-use Rattle.descriptor.specs.declared.Look.TheVariants.{Misaligned, Outside, There}
+use Rattle.descriptor.specs.declared.Miss.TheVariants as miss
 use Rattle.descriptor.specs.Layout.{owned}
-use Rattle.descriptor.specs.Looking.{named_in}
+use Rattle.descriptor.specs.Looking.{named_in, Look}
 use Rattle.regs.specs.declared.Mode.{Mode}
 use Rattle.regs.specs.declared.Mode.TheVariants.{MemoryToMemory, MemoryToStream, StreamToMemory}
 use Rattle.regs.specs.Control.{run}
@@ -26,8 +26,7 @@ use Rattle.machine.specs.declared.Phase.{Phase}
 use Rattle.machine.specs.declared.Phase.TheVariants.{Rest, Fetch, Move, WriteBack, Ended, Halted, Faulted}
 use Rattle.machine.specs.declared.Reason.{Reason}
 use Rattle.machine.specs.declared.Reason.TheVariants as reason
-use Rattle.machine.specs.declared.Slot.{Slot}
-use Rattle.machine.specs.State.{settled}
+use Rattle.machine.specs.State.{settled, Slot}
 use Rattle.machine.specs.Step.{World, Answer, taken, stopped, became, stored, holding, settle, seen, entry_for, back_to, rest_step, fetched, meets, fetch_step, wants_length, source_of, destination_of, beat_for, copy_step, send_to, send_step, receive_from, move_step, onward, completed, written_back, write_back_step, step_in, step}
 use Rattle.machine.specs.Saved.{in_hand}
 use Rattle.machine.specs.Run.{reason_number, taken_since}
@@ -98,9 +97,9 @@ fetch-turns w P turns =
     either false p q = q
 
     met : (l : Look) → P (meets w l)
-    met Misaligned = turns _ refl refl refl w.slot
-    met Outside = turns _ refl refl refl w.slot
-    met (There r) =
+    met (Err miss.Misaligned) = turns _ refl refl refl w.slot
+    met (Err miss.Outside) = turns _ refl refl refl w.slot
+    met (Ok r) =
         either (not (owned (named_in r).control.0)) (turns _ refl refl refl w.slot)
         (either (wants_length w.core.mode && eqb (named_in r).length 0) (turns _ refl refl refl w.slot) (turns _ refl refl refl _))
 

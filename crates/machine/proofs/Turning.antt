@@ -9,13 +9,12 @@ use native.Mathlib.Omega.{arith}
 use lib.ListN.{length}
 use Rattle.regs.specs.Control.{run}
 use Rattle.machine.specs.declared.Core.{Core}
-use Rattle.machine.specs.declared.steps.Reached.{Reached}
 use Rattle.machine.specs.declared.Phase.TheVariants.{Fetch}
 use Rattle.machine.specs.State.{with_phase, with_busy}
 use Rattle.machine.specs.Step.{World, Answer, taken, became, rest_step}
-use Rattle.machine.specs.Helpers.Worlds.{world_at, midway, reached_as}
+use Rattle.machine.specs.Helpers.Worlds.{Reached, world_at, midway, reached_as}
 use Rattle.machine.specs.Helpers.Turns.{Still, Went}
-use Rattle.machine.proofs.Streams.{none_made}
+use Rattle.machine.proofs.Beats.{none_made}
 
 module _ (rule : World → Answer) (m m' : Core) (window window' beats : List ℕ) (took : ℕ) (out : List ℕ) (made : ℕ) where
   -- no beat made

@@ -1,5 +1,6 @@
 -- A register write, and a control write, by their cases.
 -- Assumes nothing.
+use Rattle.std.specs.Prelude.{Ok, Err}
 use Prim.Native.Nat.{ℕ, ◌%◌, ◌^◌}
 use mathlib.Core.Path.{◌≡◌, refl, ap, ◌∙◌}
 use mathlib.Core.Bool.{Bool, true, false, not, cond, ◌&&◌}
@@ -13,7 +14,6 @@ use Rattle.regs.proofs.Offsets.{at-status, at_none}
 use Rattle.regs.specs.Control.{run, clear_interrupt, as_control, reset_by, count_from}
 use Rattle.machine.specs.declared.Core.{Core}
 use Rattle.machine.specs.declared.Machine.{Machine}
-use Rattle.machine.specs.declared.registers.WroteRegister.TheVariants as wrote
 use Rattle.machine.specs.declared.Phase.{Phase}
 use Rattle.machine.specs.declared.Phase.TheVariants.{Rest, Fetch, Move, WriteBack, Ended, Halted, Faulted}
 use Rattle.machine.specs.Saved.{keeps, spoiled}
@@ -74,13 +74,13 @@ neither offset same control pointer f g = by (eqb offset 0) refl
     by false e = at_none same control pointer same offset (eqb-false offset 0 e) f g
 
 module _ (m : Machine) (offset v : ℕ) where
-  pub wrote_none : is_register offset ≡ false → wrote.Refused NoRegister ≡ wrote_to m offset v
+  pub wrote_none : is_register offset ≡ false → Err NoRegister ≡ wrote_to m offset v
   wrote_none r = rw r
 
-  pub wrote-done : {n : Machine} → is_register offset ≡ true → n ≡ written_to m offset v → wrote.Done n ≡ wrote_to m offset v
-  wrote-done r e = rw r (ap wrote.Done e)
+  pub wrote-done : {n : Machine} → is_register offset ≡ true → n ≡ written_to m offset v → Ok n ≡ wrote_to m offset v
+  wrote-done r e = rw r (ap Ok e)
 
-  pub write-broken : keeps m ≡ false → {why : Refusal} → why ≡ spoiled m → wrote.Refused why ≡ write_of m offset v
+  pub write-broken : keeps m ≡ false → {why : Refusal} → why ≡ spoiled m → Err why ≡ write_of m offset v
   unfolding write_of
   write-broken k e = rw (k, e)
 
@@ -89,11 +89,11 @@ module _ (m : Machine) (offset v : ℕ) where
   write_kept k = rw k
 
 -- a write that is done was made of a machine that keeps the rules
-pub was-done : (m n : Machine) (offset v : ℕ) → is_register offset ≡ true → wrote.Done n ≡ write_of m offset v
+pub was-done : (m n : Machine) (offset v : ℕ) → is_register offset ≡ true → Ok n ≡ write_of m offset v
     → (keeps m ≡ true) × (n ≡ written_to m offset v)
 unfolding write_of
 was-done m n offset v o e = by (keeps m) refl
   where
     by : (b : Bool) → keeps m ≡ b → (keeps m ≡ true) × (n ≡ written_to m offset v)
-    by true k = (k, let f : wrote.Done n ≡ wrote.Done (written_to m offset v) = e ∙ rw (k, o) in cc)
-    by false k = absurd (let f : wrote.Done n ≡ wrote.Refused (spoiled m) = e ∙ rw k in let z : ◌≡◌ {A = ℕ} 0 1 = cc in omega arith)
+    by true k = (k, let f : Ok n ≡ Ok (written_to m offset v) = e ∙ rw (k, o) in cc)
+    by false k = absurd (let f : Ok n ≡ Err (spoiled m) = e ∙ rw k in let z : ◌≡◌ {A = ℕ} 0 1 = cc in omega arith)

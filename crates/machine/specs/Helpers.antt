@@ -6,5 +6,6 @@ pub mod Worlds
 pub mod Waiting
 pub mod Turns
 pub mod AtOnce
+pub mod Lending
 pub mod Resume
 pub mod Put

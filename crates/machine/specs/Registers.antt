@@ -1,24 +1,18 @@
 -- The paper's "Registers".
 -- Assumes nothing.
-use Rattle.std.specs.Prelude.{ℕ, ◌+◌, ◌*◌, ◌%◌, ◌^◌, ◌≡◌, Bool, true, not, cond, ◌&&◌}
+use Rattle.std.specs.Prelude.{ℕ, ◌+◌, ◌*◌, ◌%◌, ◌^◌, ◌≡◌, Bool, true, not, cond, ◌&&◌, Result, Ok, Err, None}
 use Rattle.std.proofs.Common.{sym, ◌∙◌}
 use Rattle.bus.specs.declared.Refusal.TheVariants.{NoRegister}
-use Rattle.bus.specs.Refusal.{refusal_number}
-use Rattle.regs.specs.declared.ReadRegister.{ReadRegister}
-use Rattle.regs.specs.declared.ReadRegister.TheVariants as read
+use Rattle.bus.specs.Refusal.{answer_number}
+use Rattle.bus.specs.declared.Refusal.{Refusal}
 use Rattle.regs.specs.Status.{cleared_by}
 use Rattle.regs.specs.Control.{run, clear_interrupt, as_control, reset_by, count_from, run_from, line_up}
 use Rattle.regs.specs.Offsets.{chosen, is_register, register_at}
 use Rattle.image.specs.Rules.{lowest_broken}
 use Rattle.machine.specs.declared.Core.{Core}
-use Rattle.machine.specs.declared.Slot.TheVariants.{Empty}
 use Rattle.machine.specs.declared.Machine.{Machine}
 use Rattle.machine.specs.declared.Phase.{Phase}
 use Rattle.machine.specs.declared.Phase.TheVariants.{Rest, Fetch, Move, WriteBack, Ended, Halted, Faulted}
-use Rattle.machine.specs.declared.registers.WroteRegister.{WroteRegister}
-use Rattle.machine.specs.declared.registers.WroteRegister.TheVariants as wrote
-use Rattle.machine.specs.declared.registers.Line.{Line}
-use Rattle.machine.specs.declared.registers.Line.TheVariants as line
 use Rattle.machine.specs.State.{with_status, with_pointer, with_control, rested, fresh_core, machine_with}
 use Rattle.machine.specs.Saved.{fields_of, tail_of, keeps, spoiled}
 
@@ -56,42 +50,29 @@ core_written m offset v = chosen offset (status_written v m) (control_written v 
 -- and the machine: "reset and a host pointer write empty the slot"; a control write may begin a run
 abbrev pub written_to : Machine → (offset v : ℕ) → Machine
 written_to m offset v =
-    machine_with (core_written m.core offset v) (chosen offset m.slot m.slot Empty m.slot)
+    machine_with (core_written m.core offset v) (chosen offset m.slot m.slot None m.slot)
     (chosen offset m.run (run_from v m.core.control m.run) m.run m.run)
 
 -- 1 NoRegister: offset not 0, 4, 8
-abbrev pub wrote_to : Machine → (offset v : ℕ) → WroteRegister
-wrote_to m offset v = cond (is_register offset) (wrote.Done (written_to m offset v)) (wrote.Refused NoRegister)
+abbrev pub wrote_to : Machine → (offset v : ℕ) → Result Machine Refusal
+wrote_to m offset v = cond (is_register offset) (Ok (written_to m offset v)) (Err NoRegister)
 
 -- a machine that breaks a rule comes before an offset that is none
-unfoldable pub write_of : Machine → (offset v : ℕ) → WroteRegister
-write_of m offset v = cond (keeps m) (wrote_to m offset v) (wrote.Refused (spoiled m))
+unfoldable pub write_of : Machine → (offset v : ℕ) → Result Machine Refusal
+write_of m offset v = cond (keeps m) (wrote_to m offset v) (Err (spoiled m))
 
 -- ---- reading changes nothing
 
 -- a machine that breaks a rule comes before an offset that is none
-unfoldable pub reading_of : Machine → (offset : ℕ) → ReadRegister
-reading_of m offset = cond (keeps m) (register_at m.core.status m.core.control m.core.pointer offset) (read.Refused (spoiled m))
+unfoldable pub reading_of : Machine → (offset : ℕ) → Result ℕ Refusal
+reading_of m offset = cond (keeps m) (register_at m.core.status m.core.control m.core.pointer offset) (Err (spoiled m))
 
 -- ---- the line
 
-unfoldable pub line_of : Machine → Line
-line_of m = cond (keeps m) (cond (line_up m.core.control m.core.pending) line.Up line.Down) (line.Refused (spoiled m))
+unfoldable pub line_of : Machine → Result Bool Refusal
+line_of m = cond (keeps m) (Ok (line_up m.core.control m.core.pending)) (Err (spoiled m))
 
 -- ---- the paper's number of each answer
-
-abbrev pub register_read_number : ReadRegister → ℕ
-register_read_number (read.Value v) = 0
-register_read_number (read.Refused why) = refusal_number why
-
-abbrev pub register_wrote_number : WroteRegister → ℕ
-register_wrote_number (wrote.Done m) = 0
-register_wrote_number (wrote.Refused why) = refusal_number why
-
-abbrev pub line_number : Line → ℕ
-line_number line.Up = 0
-line_number line.Down = 0
-line_number (line.Refused why) = refusal_number why
 
 -- 8 BadImage with its field, then 1 NoRegister, else 0: the paper's numbers written out, so that `refusal_number` is held to them
 abbrev pub register_number : Machine → (known : Bool) → ℕ
@@ -99,23 +80,23 @@ register_number m known = cond (keeps m) (cond known 0 1) (8 + 256 * lowest_brok
 
 -- ---- the promises
 
-pub record RegisterWasRead (m : Machine) (offset : ℕ) (r : ReadRegister) : Type 0 where
+pub record RegisterWasRead (m : Machine) (offset : ℕ) (r : Result ℕ Refusal) : Type 0 where
   pub answer : r ≡ reading_of m offset
-  pub number : register_read_number r ≡ register_number m (is_register offset)
+  pub number : answer_number r ≡ register_number m (is_register offset)
 
-pub record WasWritten (m : Machine) (offset v : ℕ) (r : WroteRegister) : Type 0 where
+pub record WasWritten (m : Machine) (offset v : ℕ) (r : Result Machine Refusal) : Type 0 where
   pub answer : r ≡ write_of m offset v
-  pub number : register_wrote_number r ≡ register_number m (is_register offset)
+  pub number : answer_number r ≡ register_number m (is_register offset)
 
-pub record WasLine (m : Machine) (r : Line) : Type 0 where
+pub record WasLine (m : Machine) (r : Result Bool Refusal) : Type 0 where
   pub answer : r ≡ line_of m
-  pub number : line_number r ≡ register_number m true
+  pub number : answer_number r ≡ register_number m true
 
-pub reading-unique : {m : Machine} {offset : ℕ} {r s : ReadRegister} → RegisterWasRead m offset r → RegisterWasRead m offset s → r ≡ s
+pub reading-unique : {m : Machine} {offset : ℕ} {r s : Result ℕ Refusal} → RegisterWasRead m offset r → RegisterWasRead m offset s → r ≡ s
 reading-unique p q = p.answer ∙ sym q.answer
 
-pub written-unique : {m : Machine} {offset v : ℕ} {r s : WroteRegister} → WasWritten m offset v r → WasWritten m offset v s → r ≡ s
+pub written-unique : {m : Machine} {offset v : ℕ} {r s : Result Machine Refusal} → WasWritten m offset v r → WasWritten m offset v s → r ≡ s
 written-unique p q = p.answer ∙ sym q.answer
 
-pub line-unique : {m : Machine} {r s : Line} → WasLine m r → WasLine m s → r ≡ s
+pub line-unique : {m : Machine} {r s : Result Bool Refusal} → WasLine m r → WasLine m s → r ≡ s
 line-unique p q = p.answer ∙ sym q.answer

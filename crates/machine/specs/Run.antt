@@ -1,22 +1,21 @@
 -- The paper's run: steps until one cannot be taken or the budget is spent; and what a step and a run promise.
 -- Assumes nothing.
-use Rattle.std.specs.Prelude.{ℕ, zero, suc, ◌+◌, ◌-◌, ◌*◌, ◌/◌, ◌%◌, ◌≡◌, Bool, cond, ◌&&◌, List, ◌++◌, eqb, length, drop}
+use Rattle.std.specs.Prelude.{ℕ, zero, suc, ◌+◌, ◌-◌, ◌*◌, ◌/◌, ◌%◌, ◌≡◌, Bool, cond, ◌&&◌, List, ◌++◌, eqb, length, drop, Result, Ok, Err}
 use Rattle.std.proofs.Common.{sym, ◌∙◌}
 use Rattle.bus.specs.declared.Refusal.{Refusal}
 use Rattle.bus.specs.declared.Refusal.TheVariants.{OddStream, BadLedger, OtherWindow}
-use Rattle.bus.specs.Refusal.{refusal_number}
+use Rattle.bus.specs.Refusal.{refusal_number, answer_number}
 use Rattle.words.specs.Slices.{put}
 use Rattle.ledger.specs.Records.{ledger_bytes, capacity, is_ledger}
 use Rattle.flow.specs.Beats.{beats_in, beat_bytes}
 use Rattle.machine.specs.declared.Machine.{Machine}
+use Rattle.machine.specs.declared.Loan.{Loan}
 use Rattle.machine.specs.declared.Reason.{Reason}
 use Rattle.machine.specs.declared.Reason.TheVariants.{Rest, Ended, Halted, Faulted, NeedsInput, OutputFull, Budget, LedgerFull}
 use Rattle.machine.specs.declared.Progress.{Progress}
 use Rattle.machine.specs.declared.Ran.{Ran}
 use Rattle.machine.specs.declared.StepAnswer.{StepAnswer}
 use Rattle.machine.specs.declared.StepAnswer.TheVariants as one
-use Rattle.machine.specs.declared.RunAnswer.{RunAnswer}
-use Rattle.machine.specs.declared.RunAnswer.TheVariants as many
 use Rattle.machine.specs.Saved.{keeps, spoiled}
 use Rattle.machine.specs.Step.{World, Answer, taken, stopped, opened, machine_in, step}
 
@@ -73,6 +72,19 @@ pub record Returned : Type 0 where
 
 abbrev pub back : (window out ledger : List ℕ) → Returned
 back window out ledger = record { window = window; out = out; ledger = ledger }
+
+-- what stands in the slices of a loan
+abbrev pub lent_in : Loan → Lent
+lent_in l = lent l.window.now l.beats.now l.out.now l.ledger.now l.used
+
+abbrev pub back_in : Loan → Returned
+back_in l = back l.window.now l.out.now l.ledger.now
+
+-- a loan of the same slices
+pub record Held (l l' : Loan) : Type 0 where
+  pub window : l'.window.ghost_name ≡ l.window.ghost_name
+  pub out : l'.out.ghost_name ≡ l.out.ghost_name
+  pub ledger : l'.ledger.ghost_name ≡ l.ledger.ghost_name
 
 -- as it was lent
 abbrev pub as_lent : Lent → Returned
@@ -137,9 +149,9 @@ abbrev pub world_after : World → Answer → World
 world_after w (taken v) = v
 world_after w (stopped r) = w
 
-abbrev pub step_answer : Lent → Served → World → StepAnswer
-step_answer l serves w = stepped_as l.used w (step w)
-step_answer l (refused why) w = one.Refused why
+abbrev pub step_answer : Lent → Served → World → Result StepAnswer Refusal
+step_answer l serves w = Ok (stepped_as l.used w (step w))
+step_answer l (refused why) w = Err why
 
 -- ---- a run
 
@@ -154,46 +166,36 @@ ran_as used w r =
       used = used + length r.world.records;
     }
 
-abbrev pub run_answer : Lent → Served → World → (budget : ℕ) → RunAnswer
-run_answer l serves w budget = many.Done (ran_as l.used w (run budget w))
-run_answer l (refused why) w budget = many.Refused why
+abbrev pub run_answer : Lent → Served → World → (budget : ℕ) → Result Ran Refusal
+run_answer l serves w budget = Ok (ran_as l.used w (run budget w))
+run_answer l (refused why) w budget = Err why
 
--- the paper's number of each answer
-abbrev pub step_number : StepAnswer → ℕ
-step_number (one.Taken p) = 0
-step_number (one.Stopped r) = 0
-step_number (one.Refused why) = refusal_number why
-
-abbrev pub run_number : RunAnswer → ℕ
-run_number (many.Done r) = 0
-run_number (many.Refused why) = refusal_number why
-
--- and of what is lent: a step or a run is refused for that alone
+-- the paper's number of what is lent: a step or a run is refused for that alone
 abbrev pub served_number : Served → ℕ
 served_number serves = 0
 served_number (refused why) = refusal_number why
 
 -- ---- the promises
 
-pub record Stepped (m : Machine) (l : Lent) (r : StepAnswer) (b : Returned) : Type 0 where
+pub record Stepped (m : Machine) (l : Lent) (r : Result StepAnswer Refusal) (b : Returned) : Type 0 where
   pub answer : r ≡ step_answer l (served_of m l) (world_of m l)
-  pub number : step_number r ≡ served_number (served_of m l)
+  pub number : answer_number r ≡ served_number (served_of m l)
   pub back : b ≡ returned l (served_of m l) (world_after (world_of m l) (step (world_of m l)))
 
 -- a run, by whether what is lent serves
-pub record Runs (served : Served) (m : Machine) (l : Lent) (budget : ℕ) (r : RunAnswer) (b : Returned) : Type 0 where
+pub record Runs (served : Served) (m : Machine) (l : Lent) (budget : ℕ) (r : Result Ran Refusal) (b : Returned) : Type 0 where
   pub answer : r ≡ run_answer l served (world_of m l) budget
-  pub number : run_number r ≡ served_number served
+  pub number : answer_number r ≡ served_number served
   pub back : b ≡ returned l served (run budget (world_of m l)).world
 
 -- run
-abbrev pub HasRun : Machine → Lent → (budget : ℕ) → RunAnswer → Returned → Type 0
+abbrev pub HasRun : Machine → Lent → (budget : ℕ) → Result Ran Refusal → Returned → Type 0
 HasRun m l budget r b = Runs (served_of m l) m l budget r b
 
-pub stepped-unique : {m : Machine} {l : Lent} {r s : StepAnswer} {b d : Returned} → Stepped m l r b → Stepped m l s d → (r ≡ s) × (b ≡ d)
+pub stepped-unique : {m : Machine} {l : Lent} {r s : Result StepAnswer Refusal} {b d : Returned} → Stepped m l r b → Stepped m l s d → (r ≡ s) × (b ≡ d)
 stepped-unique p q = (p.answer ∙ sym q.answer, p.back ∙ sym q.back)
 
 -- of `HasRun`, and of `Resumed` (Helpers/Resume.antt)
-pub run-unique : {served : Served} {m : Machine} {l : Lent} {budget : ℕ} {r s : RunAnswer} {b d : Returned}
+pub run-unique : {served : Served} {m : Machine} {l : Lent} {budget : ℕ} {r s : Result Ran Refusal} {b d : Returned}
     → Runs served m l budget r b → Runs served m l budget s d → (r ≡ s) × (b ≡ d)
 run-unique p q = (p.answer ∙ sym q.answer, p.back ∙ sym q.back)

@@ -1,40 +1,29 @@
 -- The machine as the fields of its image, and back; what load and save promise.
 -- Assumes nothing.
-use Rattle.std.specs.Prelude.{ℕ, ◌≡◌, Bool, false, List, [], ◌∷◌, get_or}
+use Rattle.std.specs.Prelude.{ℕ, ◌≡◌, Bool, false, List, [], ◌∷◌, get_or, Result, Ok, Err, Some, None}
 use Rattle.std.proofs.Common.{sym, ◌∙◌}
 use Rattle.bus.specs.declared.Refusal.{Refusal}
 use Rattle.bus.specs.declared.Refusal.TheVariants.{BadImage}
-use Rattle.bus.specs.Refusal.{refusal_number}
+use Rattle.bus.specs.Refusal.{answer_number}
 use Rattle.regs.specs.Modes.{mode_number, mode_of}
 use Rattle.regs.specs.Status.{status_number, status_of}
 use Rattle.regs.specs.Control.{sw_reset}
 use Rattle.descriptor.specs.declared.Raw.{Raw}
-use Rattle.descriptor.specs.declared.Look.{Look}
-use Rattle.descriptor.specs.declared.Look.TheVariants.{Misaligned, Outside, There}
-use Rattle.descriptor.specs.Looking.{raw_of}
+use Rattle.descriptor.specs.declared.Miss.TheVariants as miss
+use Rattle.descriptor.specs.Looking.{raw_of, Look}
 use Rattle.image.specs.declared.Fields.{Fields}
 use Rattle.image.specs.declared.Tail.{Tail}
 use Rattle.image.specs.Slot.{empty, descriptor, fault10, fault11}
 use Rattle.image.specs.Layout.{tail}
-use Rattle.image.specs.declared.ReadImage.{ReadImage}
-use Rattle.image.specs.declared.ReadImage.TheVariants as read
-use Rattle.image.specs.declared.WroteImage.{WroteImage}
-use Rattle.image.specs.declared.WroteImage.TheVariants as wrote
 use Rattle.image.specs.Rules.{lowest_broken, keeps_rules}
-use Rattle.image.specs.Promise.{read_of, wrote_of, image_over, image_read_number, image_wrote_number}
+use Rattle.image.specs.Promise.{read_of, wrote_of, image_over}
 use Rattle.machine.specs.declared.Core.{Core}
 use Rattle.machine.specs.declared.Machine.{Machine}
-use Rattle.machine.specs.declared.Slot.{Slot}
-use Rattle.machine.specs.declared.Slot.TheVariants.{Empty, Ahead}
 use Rattle.machine.specs.declared.Work.{Work}
 use Rattle.machine.specs.declared.Fault.{Fault}
 use Rattle.machine.specs.declared.Phase.{Phase}
 use Rattle.machine.specs.declared.Phase.TheVariants.{Rest, Fetch, Move, WriteBack, Ended, Halted, Faulted}
-use Rattle.machine.specs.declared.LoadedMachine.{LoadedMachine}
-use Rattle.machine.specs.declared.LoadedMachine.TheVariants.{Good, Refused}
-use Rattle.machine.specs.declared.SavedMachine.{SavedMachine}
-use Rattle.machine.specs.declared.SavedMachine.TheVariants as saved
-use Rattle.machine.specs.State.{phase_number}
+use Rattle.machine.specs.State.{phase_number, Slot}
 
 -- ---- a machine's fields
 
@@ -103,20 +92,20 @@ fields_of m =
 
 -- the slot's kind: empty, descriptor, fault 10, fault 11
 abbrev pub kind_of : Look → ℕ
-kind_of Misaligned = fault10
-kind_of Outside = fault11
-kind_of (There r) = descriptor
+kind_of (Err miss.Misaligned) = fault10
+kind_of (Err miss.Outside) = fault11
+kind_of (Ok r) = descriptor
 
 -- and its bytes; zeros where there are none
 abbrev pub bytes_of : Look → Raw
-bytes_of Misaligned = raw_of []
-bytes_of Outside = raw_of []
-bytes_of (There r) = r
+bytes_of (Err miss.Misaligned) = raw_of []
+bytes_of (Err miss.Outside) = raw_of []
+bytes_of (Ok r) = r
 
 -- what edition 2 adds: "an empty slot is all zero; a fault slot's bytes are zero; a held slot .. its address is the pointer"
 abbrev pub tail_with : Slot → (pointer run : ℕ) → Tail
-tail_with Empty pointer run = record { kind = empty; zero6 = 0; at = 0; raw = raw_of []; run = run }
-tail_with (Ahead look) pointer run = record { kind = kind_of look; zero6 = 0; at = pointer; raw = bytes_of look; run = run }
+tail_with None pointer run = record { kind = empty; zero6 = 0; at = 0; raw = raw_of []; run = run }
+tail_with (Some look) pointer run = record { kind = kind_of look; zero6 = 0; at = pointer; raw = bytes_of look; run = run }
 
 abbrev pub tail_of : Machine → Tail
 tail_of m = tail_with m.slot m.core.pointer.0 m.run
@@ -165,7 +154,7 @@ core_of f =
 
 -- a number above 2 is fault 11: its width leaves 3 alone
 abbrev pub slot_of : Tail → Slot
-slot_of t = get_or (Empty ∷ Ahead (There t.raw) ∷ Ahead Misaligned ∷ []) t.kind (Ahead Outside)
+slot_of t = get_or (None ∷ Some (Ok t.raw) ∷ Some (Err miss.Misaligned) ∷ []) t.kind (Some (Err miss.Outside))
 
 abbrev pub machine_of : Fields → Tail → Machine
 machine_of f t = record { core = core_of f; slot = slot_of t; run = t.run }
@@ -173,43 +162,30 @@ machine_of f t = record { core = core_of f; slot = slot_of t; run = t.run }
 -- ---- load and save
 
 -- an image loads exactly when it keeps the rules; else 7 or 8
-abbrev pub loaded_as : Tail → ReadImage → LoadedMachine
-loaded_as t (read.Good f) = Good (machine_of f t)
-loaded_as t (read.Refused why) = Refused why
+abbrev pub loaded_as : Tail → Result Fields Refusal → Result Machine Refusal
+loaded_as t (Ok f) = Ok (machine_of f t)
+loaded_as t (Err why) = Err why
 
-unfoldable pub load_of : List ℕ → LoadedMachine
+unfoldable pub load_of : List ℕ → Result Machine Refusal
 load_of xs = loaded_as (tail xs) (read_of xs)
 
-abbrev pub saved_as : WroteImage → SavedMachine
-saved_as wrote.Done = saved.Done
-saved_as (wrote.Refused why) = saved.Refused why
-
-unfoldable pub save_of : Machine → List ℕ → SavedMachine
-save_of m xs = saved_as (wrote_of (fields_of m.core) (tail_of m) xs)
-
--- the paper's number of each answer
-abbrev pub load_number : LoadedMachine → ℕ
-load_number (Good m) = 0
-load_number (Refused why) = refusal_number why
-
-abbrev pub save_number : SavedMachine → ℕ
-save_number saved.Done = 0
-save_number (saved.Refused why) = refusal_number why
+unfoldable pub save_of : Machine → List ℕ → Result Unit Refusal
+save_of m xs = wrote_of (fields_of m.core) (tail_of m) xs
 
 -- ---- the promises: the number is that of the image read or written
 
-pub record WasLoaded (xs : List ℕ) (r : LoadedMachine) : Type 0 where
+pub record WasLoaded (xs : List ℕ) (r : Result Machine Refusal) : Type 0 where
   pub answer : r ≡ load_of xs
-  pub number : load_number r ≡ image_read_number (read_of xs)
+  pub number : answer_number r ≡ answer_number (read_of xs)
 
-pub record WasSaved (m : Machine) (xs : List ℕ) (r : SavedMachine) (after : List ℕ) : Type 0 where
+pub record WasSaved (m : Machine) (xs : List ℕ) (r : Result Unit Refusal) (after : List ℕ) : Type 0 where
   pub answer : r ≡ save_of m xs
-  pub number : save_number r ≡ image_wrote_number (wrote_of (fields_of m.core) (tail_of m) xs)
+  pub number : answer_number r ≡ answer_number (wrote_of (fields_of m.core) (tail_of m) xs)
   pub lent : after ≡ image_over (fields_of m.core) (tail_of m) xs
 
-pub loaded-unique : {xs : List ℕ} {r s : LoadedMachine} → WasLoaded xs r → WasLoaded xs s → r ≡ s
+pub loaded-unique : {xs : List ℕ} {r s : Result Machine Refusal} → WasLoaded xs r → WasLoaded xs s → r ≡ s
 loaded-unique p q = p.answer ∙ sym q.answer
 
-pub saved-unique : {m : Machine} {xs ys zs : List ℕ} {r s : SavedMachine}
+pub saved-unique : {m : Machine} {xs ys zs : List ℕ} {r s : Result Unit Refusal}
     → WasSaved m xs r ys → WasSaved m xs s zs → (r ≡ s) × (ys ≡ zs)
 saved-unique p q = (p.answer ∙ sym q.answer, p.lent ∙ sym q.lent)

@@ -1,15 +1,14 @@
 -- The phases by number, the codes of the faults, the core with one part changed, and the machine around it: what was read ahead, and the
 -- run number.
 -- Assumes nothing.
-use Rattle.std.specs.Prelude.{ℕ, Bool, false, ◌||◌}
+use Rattle.descriptor.specs.Looking.{Look}
+use Rattle.std.specs.Prelude.{ℕ, Bool, false, ◌||◌, Option, None}
 use Rattle.bus.specs.declared.Window.{Window}
 use Rattle.regs.specs.declared.Mode.{Mode}
 use Rattle.regs.specs.declared.Status.{Status}
 use Rattle.regs.specs.declared.Control.{Control}
 use Rattle.regs.specs.declared.Pointer.{Pointer}
 use Rattle.machine.specs.declared.Core.{Core}
-use Rattle.machine.specs.declared.Slot.{Slot}
-use Rattle.machine.specs.declared.Slot.TheVariants.{Empty}
 use Rattle.machine.specs.declared.Machine.{Machine}
 use Rattle.machine.specs.declared.Phase.{Phase}
 use Rattle.machine.specs.declared.Phase.TheVariants.{Rest, Fetch, Move, WriteBack, Ended, Halted, Faulted}
@@ -111,15 +110,19 @@ fresh_core mode window =
 
 -- ---- what was read ahead
 
+-- what was read ahead: the look at the pointer, or nothing
+abbrev pub Slot : Type 0
+Slot = Option Look
+
 -- "Rest, Halted, Ended, Faulted .. empty the slot": what a phase leaves of it
 abbrev pub settled : Phase → Slot → Slot
-settled Rest slot = Empty
+settled Rest slot = None
 settled Fetch slot = slot
 settled (Move k) slot = slot
 settled (WriteBack k) slot = slot
-settled Ended slot = Empty
-settled Halted slot = Empty
-settled (Faulted f) slot = Empty
+settled Ended slot = None
+settled Halted slot = None
+settled (Faulted f) slot = None
 
 -- ---- the machine: its core, what was read ahead, the run number
 
@@ -127,4 +130,4 @@ abbrev pub machine_with : Core → Slot → (run : ℕ) → Machine
 machine_with core slot run = record { core = core; slot = settled core.phase slot; run = run }
 
 abbrev pub fresh : Mode → Window → Machine
-fresh mode window = machine_with (fresh_core mode window) Empty 0
+fresh mode window = machine_with (fresh_core mode window) None 0

@@ -6,15 +6,14 @@
 --   "Saved image"                       Saved.antt
 -- The machine and its parts are named in State.antt.
 -- Assumes nothing.
-use Rattle.std.specs.Prelude.{ℕ, zero, suc, ◌+◌, ◌%◌, ◌^◌, Bool, true, false, not, cond, ◌&&◌, ◌||◌, List, [], ◌∷◌, ◌++◌, eqb, get_or, set, if◌then◌else◌}
+use Rattle.std.specs.Prelude.{ℕ, zero, suc, ◌+◌, ◌%◌, ◌^◌, Bool, true, false, not, cond, ◌&&◌, ◌||◌, List, [], ◌∷◌, ◌++◌, eqb, get_or, set, if◌then◌else◌, Ok, Err, Some, None}
 use Rattle.std.specs.Int.Bits.{bit_or}
 use Rattle.words.specs.Slices.{put_at}
 use Rattle.bus.specs.Window.{in_window, place_of}
 use Rattle.descriptor.specs.declared.Descriptor.{Descriptor}
-use Rattle.descriptor.specs.declared.Look.{Look}
-use Rattle.descriptor.specs.declared.Look.TheVariants.{Misaligned, Outside, There}
+use Rattle.descriptor.specs.declared.Miss.TheVariants as miss
 use Rattle.descriptor.specs.Layout.{generate_eop, read_fixed, write_fixed, owned, last_four}
-use Rattle.descriptor.specs.Looking.{named_in, look_at}
+use Rattle.descriptor.specs.Looking.{named_in, look_at, Look}
 use Rattle.regs.specs.declared.Mode.{Mode}
 use Rattle.regs.specs.declared.Mode.TheVariants.{MemoryToMemory, MemoryToStream, StreamToMemory}
 use Rattle.regs.specs.declared.Count.{Count}
@@ -26,15 +25,13 @@ use Rattle.ledger.specs.declared.Entry.{Entry}
 use Rattle.flow.specs.Beats.{beat_error, beat_eop, beat_data, output_beat}
 use Rattle.flow.specs.Rows.{landing}
 use Rattle.machine.specs.declared.Core.{Core}
-use Rattle.machine.specs.declared.Slot.{Slot}
-use Rattle.machine.specs.declared.Slot.TheVariants.{Empty, Ahead}
 use Rattle.machine.specs.declared.Machine.{Machine}
 use Rattle.machine.specs.declared.Work.{Work}
 use Rattle.machine.specs.declared.Phase.{Phase}
 use Rattle.machine.specs.declared.Phase.TheVariants.{Rest, Fetch, Move, WriteBack, Ended, Halted, Faulted}
 use Rattle.machine.specs.declared.Reason.{Reason}
 use Rattle.machine.specs.declared.Reason.TheVariants as reason
-use Rattle.machine.specs.State.{misaligned, descriptor_outside, no_length, source_outside, destination_outside, home, remade, with_status, with_pointer, with_phase, with_busy, pend, rested, settled}
+use Rattle.machine.specs.State.{misaligned, descriptor_outside, no_length, source_outside, destination_outside, home, remade, with_status, with_pointer, with_phase, with_busy, pend, rested, settled, Slot}
 
 -- the world of a step: the machine, which is its core, what it has read ahead and the run number; the window's bytes; the beats not yet taken; the beats made, and the room for more;
 -- the records made, and the room for more
@@ -188,18 +185,18 @@ fetched w d =
     let a = w.core.pointer.0 in
     if not (owned d.control.0) then taken (became w (ended m))
     else if wants_length m.mode && eqb d.length 0 then faulted w no_length a
-    else taken (holding (became w (with_phase (Move (begun a d)) (with_pointer d.next m))) (Ahead (look_at (home m) (home_bytes w) d.next)))
+    else taken (holding (became w (with_phase (Move (begun a d)) (with_pointer d.next m))) (Some (look_at (home m) (home_bytes w) d.next)))
 
 -- what the look finds: misaligned, fault 10; not wholly in the window, fault 11; a descriptor
 abbrev pub meets : World → Look → Answer
-meets w Misaligned = faulted w misaligned w.core.pointer.0
-meets w Outside = faulted w descriptor_outside w.core.pointer.0
-meets w (There r) = fetched w (named_in r)
+meets w (Err miss.Misaligned) = faulted w misaligned w.core.pointer.0
+meets w (Err miss.Outside) = faulted w descriptor_outside w.core.pointer.0
+meets w (Ok r) = fetched w (named_in r)
 
 -- the look that a Fetch goes by: "the next Fetch uses the slot instead of memory"; where it is empty, 32 bytes at the pointer
 abbrev pub seen_in : World → Slot → Look
-seen_in w Empty = look_at (home w.core) (home_bytes w) w.core.pointer.0
-seen_in w (Ahead look) = look
+seen_in w None = look_at (home w.core) (home_bytes w) w.core.pointer.0
+seen_in w (Some look) = look
 
 unfoldable pub seen : World → Look
 seen w = seen_in w w.slot

@@ -1,6 +1,6 @@
 -- What is proved of steps and runs: each theorem's whole statement, under its name. A term of each stands in proofs/.
 -- Assumes nothing.
-use Rattle.std.specs.Prelude.{ℕ, suc, ◌+◌, ◌-◌, ◌≤◌, ◌<◌, ◌≡◌, true, false, List, ◌++◌, length, get_or, take, drop}
+use Rattle.std.specs.Prelude.{ℕ, suc, ◌+◌, ◌-◌, ◌≤◌, ◌<◌, ◌≡◌, true, false, List, ◌++◌, length, get_or, take, drop, Result}
 use Rattle.bus.specs.declared.Window.{Window}
 use Rattle.descriptor.specs.Layout.{read_fixed, write_fixed}
 use Rattle.regs.specs.declared.Mode.TheVariants.{MemoryToMemory, MemoryToStream, StreamToMemory}
@@ -10,7 +10,8 @@ use Rattle.machine.specs.declared.Core.{Core}
 use Rattle.machine.specs.declared.Machine.{Machine}
 use Rattle.machine.specs.declared.Work.{Work}
 use Rattle.machine.specs.declared.Reason.TheVariants.{Budget}
-use Rattle.machine.specs.declared.RunAnswer.{RunAnswer}
+use Rattle.machine.specs.declared.Ran.{Ran}
+use Rattle.bus.specs.declared.Refusal.{Refusal}
 use Rattle.machine.specs.Saved.{keeps}
 use Rattle.machine.specs.Step.{World, taken, became, stored, received, sent, source_of, destination_of, onward, step}
 use Rattle.machine.specs.Run.{run, Lent, Returned, HasRun}
@@ -37,7 +38,7 @@ BudgetOnly = (budget : ℕ) (w : World) → (run budget w).reason ≡ Budget
 
 -- A machine that keeps the rules is resumed as it is run.
 abbrev pub ResumedRuns : Type 0
-ResumedRuns = (m : Machine) (l : Lent) (budget : ℕ) (r : RunAnswer) (b : Returned)
+ResumedRuns = (m : Machine) (l : Lent) (budget : ℕ) (r : Result Ran Refusal) (b : Returned)
     → keeps m ≡ true → Resumed m l budget r b → HasRun m l budget r b
 
 -- ---- steps

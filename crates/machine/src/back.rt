@@ -6,7 +6,7 @@ ghost use Rattle.machine.specs.Step.{World, stored, written_control, written_bac
 ghost use Rattle.machine.specs.Helpers.Turns.{Backs};
 
 use crate::{Core, Phase, Work};
-use bus::{BusAddress, Located};
+use bus::BusAddress;
 use descriptor::DescControl;
 use ledger::Entry;
 use regs::{Control, Count};
@@ -76,8 +76,7 @@ impl Core {
         requires { in_window (home_of self) k.at 32 ≡ true }
         ensures { (w : World) → window.new ≡ written_back (stored w self window.old) k }
     {
-        let found = self.home().locate(BusAddress(k.at as u64), 32);
-        let Located::At(place) = found else {
+        let Some(place) = self.home().locate(BusAddress(k.at as u64), 32) else {
             return;
         };
         let control = self.written_control(k);

@@ -4,17 +4,18 @@ ghost use Rattle.descriptor.specs.Layout.{read_fixed, write_fixed};
 ghost use Rattle.regs.specs.declared.Mode.TheVariants.{MemoryToMemory, MemoryToStream, StreamToMemory};
 ghost use Rattle.machine.specs.Step.{source_of, destination_of};
 ghost use Rattle.machine.specs.Helpers.AtOnce.{Reaches, Bursts, Unmarked};
+ghost use Rattle.machine.specs.Helpers.Lending.{BurstsOn};
 
 use crate::Work;
-use bus::{BusAddress, Located, Window};
+use crate::streams::Streams;
+use bus::{BusAddress, Window};
 use descriptor::DescControl;
-use flow::{Absorbed, absorb, copy, send};
+use flow::{Absorbed, Row, absorb, copy, send};
 
-// How many bytes of the window are in reach, from which place on, and whether all at that one.
+// How many bytes of the window are in reach, and in which row of places. None are 0, and no `None`: the row moves as many, and asks no more.
 #[derive(Clone, Copy)]
 struct Reach {
-    fixed: bool,
-    at: usize,
+    row: Row,
     bytes: usize,
 }
 
@@ -34,23 +35,21 @@ fn in_reach(fixed: bool, place: Window, address: BusAddress) -> Reach
 {
     let found = place.locate(address, 1);
     match found {
-        Located::Outside => Reach {
-            fixed,
-            at: 0,
+        None => Reach {
+            row: Row { fixed, first: 0 },
             bytes: 0,
         },
-        Located::At(first) => {
-            let at = first.index();
+        Some(at) => {
+            let first = at.index();
             Reach {
-                fixed,
-                at,
-                bytes: span(fixed, place.size() as usize - at),
+                row: Row { fixed, first },
+                bytes: span(fixed, place.size() as usize - first),
             }
         }
     }
 }
 
-// The less of two.
+// The less of two: `min`, with what the bursts ask of it as clauses.
 pub(crate) fn least(a: usize, b: usize) -> usize
     ensures upper_bound { (result ≤ a) × (result ≤ b) }
     ensures lower_bound { 1 ≤ a → 1 ≤ b → 1 ≤ result }
@@ -93,7 +92,7 @@ impl Work {
         let from = self.reads(place);
         let to = self.writes(place);
         let n = least(most, least(from.bytes, to.bytes));
-        copy(window, from.fixed, from.at, to.fixed, to.at, n);
+        copy(window, from.row, to.row, n);
         n
     }
 
@@ -118,21 +117,20 @@ impl Work {
         self,
         place: Window,
         window: &[u8],
-        out: &mut [u8],
-        made: usize,
+        streams: &mut Streams,
         most: usize,
     ) -> usize
         requires length_value { place.length ≡ length window.now }
-        requires made_in_bounds { made ≤ length out.old / 2 }
         requires le_most { 1 ≤ most }
-        ensures upper_bound { (result ≤ most) × (made + result ≤ length out.old / 2) }
-        ensures by_index { (beats : List ℕ) (took : ℕ) → Bursts MemoryToStream place self most result self.errors
-            window.now beats took out.old made took (made + result) window.now out.new }
+        ensures upper_bound { result ≤ most }
+        ensures bursts { BurstsOn MemoryToStream place self most result self.errors window.now streams.old window.now streams.new }
     {
         let from = self.reads(place);
-        let room = least(from.bytes, out.len() / 2 - made);
+        let out = &mut *streams.out;
+        let room = least(from.bytes, out.len() / 2 - streams.made);
         let n = least(self.unmarked(most), room);
-        send(window, from.fixed, from.at, out, made, n);
+        send(window, from.row, out, streams.made, n);
+        streams.made += n;
         n
     }
 
@@ -141,26 +139,24 @@ impl Work {
         self,
         place: Window,
         window: &mut [u8],
-        beats: &[u8],
-        taken: usize,
+        streams: &mut Streams,
         most: usize,
     ) -> Absorbed
         requires length_value { place.length ≡ length window.old }
-        requires taken_in_bounds { taken ≤ length beats.now / 2 }
-        ensures count_le_most { (result.count ≤ most) × (taken + result.count ≤ length beats.now / 2) }
-        ensures by_index { (out : List ℕ) (made : ℕ) → Bursts StreamToMemory place self most result.count result.errors
-            window.old beats.now taken out made (taken + result.count) made window.new out }
+        ensures upper_bound { result.count ≤ most }
+        ensures bursts { BurstsOn StreamToMemory place self most result.count result.errors window.old streams.old window.new streams.new }
     {
         let to = self.writes(place);
-        let some = least(to.bytes, beats.len() / 2 - taken);
-        absorb(
+        let some = least(to.bytes, streams.beats.len() / 2 - streams.taken);
+        let a = absorb(
             window,
-            to.fixed,
-            to.at,
-            beats,
-            taken,
+            to.row,
+            streams.beats,
+            streams.taken,
             least(most, some),
             self.errors,
-        )
+        );
+        streams.taken += a.count;
+        a
     }
 }

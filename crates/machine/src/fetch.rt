@@ -1,15 +1,15 @@
 // Fetch: the descriptor at the pointer is begun, and the next one read ahead; or the chain ends.
-ghost use Rattle.std.specs.Prelude.{◌≡◌};
+ghost use Rattle.std.specs.Prelude.{◌≡◌, Result, Option, None};
 ghost use Rattle.machine.specs.declared.Phase.TheVariants.{Move};
-ghost use Rattle.machine.specs.State.{with_phase, with_pointer};
-ghost use Rattle.machine.specs.declared.Slot as code;
-ghost use Rattle.machine.specs.declared.Slot.TheVariants.{Empty};
+ghost use Rattle.machine.specs.State.{with_phase, with_pointer, Slot};
+ghost use Rattle.descriptor.specs.declared.Raw.{Raw};
+ghost use Rattle.descriptor.specs.declared.Miss.{Miss};
 ghost use Rattle.machine.specs.Step.{World, stored, holding, ended as ended_of, wants_length, begun as begun_of, fetched as fetched_of, seen as seen_of, fetch_step};
 ghost use Rattle.machine.specs.Helpers.Turns.{Looks};
 
 use crate::{Core, Fault, Phase, Slot, Work};
 use bus::BusAddress;
-use descriptor::{DescControl, Descriptor, Look, look_at};
+use descriptor::{DescControl, Descriptor, Look, Miss, look_at};
 use regs::{Control, Mode, Pointer};
 use words::has;
 
@@ -70,17 +70,17 @@ impl Core {
 
     // Nothing is read ahead.
     pub(crate) fn alone(self) -> Fetched
-        ensures { result ≡ record { core = self; slot = Empty } }
+        ensures { result ≡ record { core = self; slot = None } }
     {
         Fetched {
             core: self,
-            slot: Slot::Empty,
+            slot: None,
         }
     }
 
     // OWNED 0 ends the chain; length 0 in mode 0 or 1 is fault 12; otherwise it is begun, and the next one is read ahead.
     fn fetched(self, d: Descriptor, window: &[u8]) -> Fetched
-        ensures { (slot : code.Slot) → Looks (λ (w : World). fetched_of w d) self slot window.now result }
+        ensures { (slot : Slot) → Looks (λ (w : World). fetched_of w d) self slot window.now result }
     {
         let control = d.control;
         let mode = self.mode;
@@ -94,7 +94,7 @@ impl Core {
         let next = look_at(self.home(), window, BusAddress(d.next as u64));
         Fetched {
             core: self.begun(d),
-            slot: Slot::Ahead(next),
+            slot: Some(next),
         }
     }
 
@@ -103,8 +103,8 @@ impl Core {
         ensures { (w : World) → result ≡ seen_of (holding (stored w self window.now) slot) }
     {
         match slot {
-            Slot::Empty => look_at(self.home(), window, BusAddress(self.pointer.0 as u64)),
-            Slot::Ahead(look) => look,
+            None => look_at(self.home(), window, BusAddress(self.pointer.0 as u64)),
+            Some(look) => look,
         }
     }
 
@@ -118,9 +118,11 @@ impl Core {
         let pointer = self.pointer.0;
         let look = self.seen(window, slot);
         match look {
-            Look::Misaligned => self.faulted(Fault::MISALIGNED, pointer).alone(),
-            Look::Outside => self.faulted(Fault::DESCRIPTOR_OUTSIDE, pointer).alone(),
-            Look::There(raw) => self.fetched(raw.named(), window),
+            Ok(raw) => self.fetched(raw.named(), window),
+            Err(miss) => match miss {
+                Miss::Misaligned => self.faulted(Fault::MISALIGNED, pointer).alone(),
+                Miss::Outside => self.faulted(Fault::DESCRIPTOR_OUTSIDE, pointer).alone(),
+            },
         }
     }
 }

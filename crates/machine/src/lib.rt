@@ -10,13 +10,13 @@ pub mod registers;
 pub mod runs;
 pub mod saved;
 pub mod steps;
+pub mod streams;
 
 ghost use Rattle.words.specs.Promise.{Gives};
 ghost use Rattle.machine.specs.State.{phase_number};
 ghost use Rattle.machine.specs.Run.{reason_number};
-ghost use Rattle.machine.specs.Saved.{load_number};
 
-use bus::{Refusal, Window};
+use bus::Window;
 use descriptor::{DescControl, Look};
 use regs::{Control, Mode, Pointer, Status};
 
@@ -34,7 +34,8 @@ pub struct Work {
     pub eop: bool,
 }
 
-// Why the machine stands still until a reset: the address, and the paper's code, 10 to 14.
+// Why the machine stands still until a reset: the address, and the paper's code, 10 to 14. The code is a number and no enum, as an image
+// may hold one that is none: the rules of its field leave these.
 #[derive(Clone, Copy)]
 pub struct Fault {
     pub address: u32,
@@ -65,12 +66,12 @@ pub enum Phase {
     Faulted(Fault),
 }
 
-impl Phase {
-    // Its number in an image.
-    pub(crate) fn number(self) -> u8
-        ensures { Gives (phase_number self) result }
-    {
-        match self {
+// Its number in an image.
+impl From<Phase> for u8 {
+    ghost from_gives = { λ phase n. Gives (phase_number phase) n };
+
+    fn from(phase: Phase) -> u8 {
+        match phase {
             Phase::Rest => 0,
             Phase::Fetch => 1,
             Phase::Move(_) => 2,
@@ -95,12 +96,8 @@ pub struct Core {
     phase: Phase,
 }
 
-// The descriptor read ahead, or what the look at its address found in its place. Its address is the pointer.
-#[derive(Clone, Copy)]
-pub enum Slot {
-    Empty,
-    Ahead(Look),
-}
+// What was read ahead: the look at the pointer's address, or nothing.
+pub type Slot = Option<Look>;
 
 // The core, and beside it what it has read ahead, which Fetch alone sees, and the run number. Its parts are private, so that each machine
 // comes from `fresh`, `load` or a call on a machine, and keeps the image rules.
@@ -112,7 +109,7 @@ pub struct Machine {
 }
 
 // Why a run ends; numbered 0 to 7.
-#[derive(Clone, Copy)]
+#[derive(Clone, Copy, Debug, PartialEq, Eq)]
 pub enum Reason {
     Rest,
     Ended,
@@ -124,12 +121,12 @@ pub enum Reason {
     LedgerFull,
 }
 
-impl Reason {
-    // The paper's number.
-    pub fn number(self) -> u16
-        ensures { Gives (reason_number self) result }
-    {
-        match self {
+// The paper's number.
+impl From<Reason> for u16 {
+    ghost from_gives = { λ reason n. Gives (reason_number reason) n };
+
+    fn from(reason: Reason) -> u16 {
+        match reason {
             Reason::Rest => 0,
             Reason::Ended => 1,
             Reason::Halted => 2,
@@ -151,12 +148,22 @@ pub struct Progress {
     pub used: u32,
 }
 
-// What one step answers.
+// What is lent to a step or a run: the window, the beats, the room for output, and the ledger, of which so many records are used.
+#[derive(Drop)]
+pub struct Loan<'a> {
+    pub window: &'a mut [u8],
+    pub beats: &'a [u8],
+    pub out: &'a mut [u8],
+    pub ledger: &'a mut [u8],
+    pub used: u32,
+}
+
+// What one step answers: where it led, or why it cannot be taken. No `Result`, since a step that cannot be taken is no refusal: that is the
+// error of the `Result` in which this stands.
 #[derive(Clone, Copy)]
 pub enum StepAnswer {
     Taken(Progress),
     Stopped(Reason),
-    Refused(Refusal),
 }
 
 // The machine after a run, the reason found there, the steps, beats taken and beats made, and the records used then.
@@ -168,37 +175,4 @@ pub struct Ran {
     pub taken: usize,
     pub made: usize,
     pub used: u32,
-}
-
-// What a run answers.
-#[derive(Clone, Copy)]
-pub enum RunAnswer {
-    Done(Ran),
-    Refused(Refusal),
-}
-
-// The machine of an image, or why it is refused.
-#[derive(Clone, Copy)]
-pub enum LoadedMachine {
-    Good(Machine),
-    Refused(Refusal),
-}
-
-impl LoadedMachine {
-    // The paper's number.
-    pub fn number(self) -> u32
-        ensures { Gives (load_number self) result }
-    {
-        match self {
-            LoadedMachine::Good(_) => 0,
-            LoadedMachine::Refused(why) => why.number(),
-        }
-    }
-}
-
-// Whether a machine was saved, or why not.
-#[derive(Clone, Copy)]
-pub enum SavedMachine {
-    Done,
-    Refused(Refusal),
 }

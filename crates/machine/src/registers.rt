@@ -9,37 +9,24 @@ ghost use Rattle.machine.specs.Registers.{core_written, written_to, wrote_to, Re
 
 use crate::{Core, Machine, Phase, Slot};
 use bus::{Refusal, Window};
-use regs::{Control, Mode, Pointer, ReadRegister, Status, is_register, read};
+use regs::{Control, Mode, Pointer, Status, is_register, read};
 use words::has;
-
-// What a register write answers.
-#[derive(Clone, Copy)]
-pub enum WroteRegister {
-    Done(Machine),
-    Refused(Refusal),
-}
-
-// The interrupt line.
-#[derive(Clone, Copy)]
-pub enum Line {
-    Up,
-    Down,
-    Refused(Refusal),
-}
 
 impl Phase {
     // Ended and Halted, which stand until RUN is written 0.
     fn stands(self) -> bool
         ensures { result ≡ stands self }
     {
+        matches!(self, Phase::Ended | Phase::Halted)
+    }
+
+    // What it leaves of a slot: only Fetch, Move and WriteBack hold one.
+    pub(crate) fn settled(self, slot: Slot) -> Slot
+        ensures { result ≡ settled_of self slot }
+    {
         match self {
-            Phase::Ended => true,
-            Phase::Halted => true,
-            Phase::Rest => false,
-            Phase::Fetch => false,
-            Phase::Move(_) => false,
-            Phase::WriteBack(_) => false,
-            Phase::Faulted(_) => false,
+            Phase::Fetch | Phase::Move(_) | Phase::WriteBack(_) => slot,
+            Phase::Rest | Phase::Ended | Phase::Halted | Phase::Faulted(_) => None,
         }
     }
 }
@@ -52,13 +39,7 @@ impl Core {
         Core {
             mode,
             window,
-            status: Status {
-                error: false,
-                eop: false,
-                descriptor: false,
-                chain: false,
-                busy: false,
-            },
+            status: Status::default(),
             control: Control(0),
             pointer: Pointer(0),
             phase: Phase::Rest,
@@ -127,23 +108,6 @@ impl Core {
     }
 }
 
-impl Slot {
-    // What a phase leaves of it: only Fetch, Move and WriteBack hold one.
-    pub(crate) fn settled(self, phase: Phase) -> Slot
-        ensures { result ≡ settled_of phase self }
-    {
-        match phase {
-            Phase::Fetch => self,
-            Phase::Move(_) => self,
-            Phase::WriteBack(_) => self,
-            Phase::Rest => Slot::Empty,
-            Phase::Ended => Slot::Empty,
-            Phase::Halted => Slot::Empty,
-            Phase::Faulted(_) => Slot::Empty,
-        }
-    }
-}
-
 impl Machine {
     // The machine of a core, of what it has read ahead, which its phase may empty, and of a run number.
     pub(crate) fn of(core: Core, slot: Slot, run: u32) -> Machine
@@ -152,7 +116,7 @@ impl Machine {
         let phase = core.phase;
         Machine {
             core,
-            slot: slot.settled(phase),
+            slot: phase.settled(slot),
             run,
         }
     }
@@ -161,7 +125,7 @@ impl Machine {
     pub fn fresh(mode: Mode, window: Window) -> Machine
         ensures { Gives (fresh_of mode window) result }
     {
-        Machine::of(Core::fresh(mode, window), Slot::Empty, 0)
+        Machine::of(Core::fresh(mode, window), None, 0)
     }
 
     // A register written: a pointer write empties the slot.
@@ -171,7 +135,7 @@ impl Machine {
         let core = self.core;
         let next = core.written(offset, value);
         if offset == Pointer::OFFSET {
-            return Machine::of(next, Slot::Empty, self.run);
+            return Machine::of(next, None, self.run);
         }
         let slot = self.slot;
         if offset != Control::OFFSET {
@@ -185,7 +149,7 @@ impl Machine {
 // Registers and line of a machine that is known to keep the rules, as one that was loaded is.
 impl Machine {
     // The register at the offset, or NoRegister. Reading changes nothing.
-    pub fn register(self, offset: u32) -> ReadRegister
+    pub fn register(self, offset: u32) -> Result<u32, Refusal>
         ensures { Gives (register_at self.core.status self.core.control self.core.pointer offset) result }
     {
         let core = self.core;
@@ -205,43 +169,44 @@ impl Machine {
     }
 
     // The machine with the register at the offset written, or NoRegister.
-    pub fn write(self, offset: u32, value: u32) -> WroteRegister
+    pub fn write(self, offset: u32, value: u32) -> Result<Machine, Refusal>
         ensures { Gives (wrote_to self offset value) result }
     {
         if is_register(offset) {
-            WroteRegister::Done(self.written(offset, value))
+            Ok(self.written(offset, value))
         } else {
-            WroteRegister::Refused(Refusal::NoRegister)
+            Err(Refusal::NoRegister)
         }
     }
 }
 
 // Registers and line of any machine: 8 for one that breaks a rule, before 1.
 impl Machine {
-    pub fn read_register(self, offset: u32) -> ReadRegister
+    pub fn read_register(self, offset: u32) -> Result<u32, Refusal>
         ensures { RegisterWasRead self offset result }
     {
         if !self.keeps() {
-            return ReadRegister::Refused(self.spoiled());
+            return Err(self.spoiled());
         }
         self.register(offset)
     }
 
-    pub fn write_register(self, offset: u32, value: u32) -> WroteRegister
+    pub fn write_register(self, offset: u32, value: u32) -> Result<Machine, Refusal>
         ensures { WasWritten self offset value result }
     {
         if !self.keeps() {
-            return WroteRegister::Refused(self.spoiled());
+            return Err(self.spoiled());
         }
         self.write(offset, value)
     }
 
-    pub fn line(self) -> Line
+    // Whether the interrupt line is up.
+    pub fn line(self) -> Result<bool, Refusal>
         ensures { WasLine self result }
     {
         if !self.keeps() {
-            return Line::Refused(self.spoiled());
+            return Err(self.spoiled());
         }
-        if self.up() { Line::Up } else { Line::Down }
+        Ok(self.up())
     }
 }

@@ -1,19 +1,17 @@
 // A run: steps until one cannot be taken or the budget is spent; and one step, which is a run of one.
-ghost use Rattle.std.specs.Prelude.{◌≡◌, true, false, ◌+◌, ◌/◌, ◌≤◌, ◌<◌, length};
+ghost use Rattle.std.specs.Prelude.{◌≡◌, true, false, ◌+◌, ◌/◌, ◌≤◌, ◌<◌, length, Ok};
 ghost use Rattle.machine.specs.declared.Phase.TheVariants.{Move};
-ghost use Rattle.machine.specs.declared.RunAnswer.TheVariants.{Done};
 ghost use Rattle.machine.specs.Step.{whole as whole_of, onward as onward_of, step as step_of};
-ghost use Rattle.machine.specs.Run.{lent, back, serves, Runs, HasRun, Stepped};
-ghost use Rattle.machine.specs.Helpers.Worlds.{Within};
-ghost use Rattle.machine.specs.Helpers.Waiting.{Goes, Halts};
-ghost use Rattle.machine.specs.Helpers.Turns.{Advances};
+ghost use Rattle.machine.specs.Run.{lent, back, lent_in, back_in, Held, serves, Runs, HasRun, Stepped};
+ghost use Rattle.machine.specs.Helpers.Lending.{GoesOn, HaltsOn, AdvancesOn};
 ghost use Rattle.machine.specs.Helpers.AtOnce.{moved_by};
-ghost use Rattle.machine.specs.Helpers.Resume.{RunsIf, Ready, Seated, ready_of, stepped_in};
+ghost use Rattle.machine.specs.Helpers.Resume.{InMove, RunsIf, Ready, Seated, ready_of, stepped_in};
 
 use crate::bursts::least;
 use crate::moves::asked;
-use crate::steps::{Served, Wait};
-use crate::{Core, Machine, Phase, Progress, Ran, Reason, RunAnswer, StepAnswer, Work};
+use crate::streams::Streams;
+use crate::{Core, Loan, Machine, Phase, Progress, Ran, Reason, StepAnswer, Work};
+use bus::Refusal;
 use ledger::{append, has_room};
 use regs::Mode;
 
@@ -21,17 +19,15 @@ use regs::Mode;
 #[derive(Clone, Copy)]
 struct Advanced {
     core: Core,
-    taken: usize,
-    made: usize,
     steps: u32,
 }
 
 // Move: bytes moved at once, and one where none can be.
 impl Core {
     // Where so many bytes of the work in hand lead, with these errors.
-    fn moved(self, k: Work, n: usize, errors: u8, taken: usize, made: usize) -> Advanced
+    fn moved(self, k: Work, n: usize, errors: u8) -> Advanced
         requires { k.moved + n ≤ 65535 }
-        ensures { result ≡ record { core = onward_of self (moved_by k n errors); taken = taken; made = made; steps = n } }
+        ensures { result ≡ record { core = onward_of self (moved_by k n errors); steps = n } }
     {
         let work = Work {
             errors,
@@ -40,30 +36,16 @@ impl Core {
         };
         Advanced {
             core: self.with_work(work),
-            taken,
-            made,
             steps: n as u32,
         }
     }
 
     // Bytes of the work in hand, `left` at most, by the mode.
-    fn move_many(
-        self,
-        k: Work,
-        window: &mut [u8],
-        beats: &[u8],
-        taken: usize,
-        out: &mut [u8],
-        made: usize,
-        left: u32,
-    ) -> Advanced
-        requires length_value { self.window.length ≡ length window.old }
-        requires phase_value { self.phase ≡ Move k }
-        requires moved_bound { (k.moved < whole_of self k) × (k.eop ≡ false) }
-        requires within { Within beats.now out.old taken made }
+    fn move_many(self, k: Work, window: &mut [u8], streams: &mut Streams, left: u32) -> Advanced
+        requires in_move { InMove self k (length window.old) }
         requires le_left { 1 ≤ left }
         ensures steps_le_left { result.steps ≤ left }
-        ensures advances { Advances self window.old beats.now taken out.old made result window.new out.new }
+        ensures advances { AdvancesOn self window.old streams.old result.steps result.core window.new streams.new }
     {
         let mode = self.mode;
         let place = self.window;
@@ -71,76 +53,50 @@ impl Core {
         match mode {
             Mode::MemoryToMemory => {
                 let n = k.copy_many(place, window, most);
-                self.moved(k, n, k.errors, taken, made)
+                self.moved(k, n, k.errors)
             }
             Mode::MemoryToStream => {
-                let n = k.send_many(place, window, out, made, most);
-                self.moved(k, n, k.errors, taken, made + n)
+                let n = k.send_many(place, window, streams, most);
+                self.moved(k, n, k.errors)
             }
             Mode::StreamToMemory => {
-                let a = k.receive_many(place, window, beats, taken, most);
-                self.moved(k, a.count, a.errors, taken + a.count, made)
+                let a = k.receive_many(place, window, streams, most);
+                self.moved(k, a.count, a.errors)
             }
         }
     }
 
     // At least one step of Move, and `left` at most, where one can be taken: those at once, or else one.
-    fn move_on(
-        self,
-        k: Work,
-        window: &mut [u8],
-        beats: &[u8],
-        taken: usize,
-        out: &mut [u8],
-        made: usize,
-        left: u32,
-    ) -> Advanced
-        requires ready { Ready self (length window.old) }
-        requires phase_value { self.phase ≡ Move k }
-        requires within { Within beats.now out.old taken made }
-        requires goes { Goes step_of self window.old beats.now taken out.old made }
+    fn move_on(self, k: Work, window: &mut [u8], streams: &mut Streams, left: u32) -> Advanced
+        requires in_move { InMove self k (length window.old) }
+        requires goes { GoesOn step_of self window.old streams.old }
         requires le_left { 1 ≤ left }
         ensures le_steps { (1 ≤ result.steps) × (result.steps ≤ left) }
-        ensures advances { Advances self window.old beats.now taken out.old made result window.new out.new }
+        ensures advances { AdvancesOn self window.old streams.old result.steps result.core window.new streams.new }
     {
-        let b = self.move_many(k, window, beats, taken, out, made, left);
+        let b = self.move_many(k, window, streams, left);
         if b.steps != 0 {
             return b;
         }
-        let s = self.move_step(k, window, beats, taken, out, made);
-        let core = s.core;
-        Advanced {
-            core,
-            taken: s.taken,
-            made: s.made,
-            steps: 1,
-        }
+        let core = self.move_step(k, window, streams);
+        Advanced { core, steps: 1 }
     }
 }
 
 impl Core {
     // Why a run ends here, if it does: what a step waits for, and else that the budget is spent.
-    fn halts(
-        self,
-        beats: &[u8],
-        taken: usize,
-        out: &[u8],
-        made: usize,
-        ledger: &[u8],
-        used: u32,
-        spent: bool,
-    ) -> Wait
-        ensures { Halts self beats.now taken out.now made ledger.now used spent result }
+    fn halts(self, streams: &Streams, ledger: &[u8], used: u32, spent: bool) -> Option<Reason>
+        ensures { HaltsOn self streams.now ledger.now used spent result }
     {
         let room = has_room(ledger, used);
-        let wait = self.wait(taken < beats.len() / 2, made < out.len() / 2, room);
-        if let Wait::Stop(_) = wait {
+        let wait = self.wait(streams.more(), streams.room(), room);
+        if let Some(_) = wait {
             return wait;
         }
         if spent {
-            return Wait::Stop(Reason::Budget);
+            return Some(Reason::Budget);
         }
-        Wait::Go
+        None
     }
 }
 
@@ -159,7 +115,9 @@ impl Machine {
         }
     }
 
-    // A run of a machine that is served. Move sees the streams, WriteBack the ledger, Rest and Fetch the window alone.
+    // A run of a machine that is served. Move sees the streams, WriteBack the ledger, Rest and Fetch the window alone, so that a match on the
+    // phase is plainer than a table of steps.
+    // What is lent is no `Loan` here: each turn of the loop would have to say of its slices too that they are still the same ones.
     fn run_on(
         self,
         window: &mut [u8],
@@ -173,26 +131,23 @@ impl Machine {
         requires seated { Seated self.core self.slot }
         requires used_in_bounds { used ≤ length ledger.old / 12 }
         ensures { Runs serves self (lent window.old beats.now out.old ledger.old used)
-            budget (Done result) (back window.new out.new ledger.new) }
+            budget (Ok result) (back window.new out.new ledger.new) }
     {
         let run = self.run;
         let mut core = self.core;
         let mut slot = self.slot;
-        let mut taken: usize = 0;
-        let mut made: usize = 0;
+        let mut streams = Streams::new(beats, out);
         let mut filled: u32 = used;
         let mut steps: u32 = 0;
         let reason = loop {
-            let halts = core.halts(beats, taken, out, made, ledger, filled, budget == steps);
-            if let Wait::Stop(why) = halts {
+            let halts = core.halts(&streams, ledger, filled, budget == steps);
+            if let Some(why) = halts {
                 break why;
             }
             let phase = core.phase;
             if let Phase::Move(k) = phase {
-                let a = core.move_on(k, window, beats, taken, out, made, budget - steps);
+                let a = core.move_on(k, window, &mut streams, budget - steps);
                 core = a.core;
-                taken = a.taken;
-                made = a.made;
                 steps += a.steps;
             } else if let Phase::WriteBack(k) = phase {
                 filled = append(ledger, filled, k.entry(run));
@@ -205,89 +160,57 @@ impl Machine {
                 steps += 1;
             }
         };
-        Machine::of(core, slot, run).ran(reason, steps, taken, made, filled)
+        Machine::of(core, slot, run).ran(reason, steps, streams.taken, streams.made, filled)
     }
 
     // A run of a machine that is good, or not. Its answer is the reason found where it ended. One that takes no step ends before the loop.
-    fn run_if(
-        self,
-        good: bool,
-        window: &mut [u8],
-        beats: &[u8],
-        out: &mut [u8],
-        ledger: &mut [u8],
-        used: u32,
-        budget: u32,
-    ) -> RunAnswer
+    fn run_if(self, good: bool, loan: &mut Loan, budget: u32) -> Result<Ran, Refusal>
         requires ready { good ≡ true → Ready self.core self.core.window.length }
         requires seated { good ≡ true → Seated self.core self.slot }
-        ensures { RunsIf good self (lent window.old beats.now out.old ledger.old used)
-            budget result (back window.new out.new ledger.new) }
+        ensures held { Held loan.old loan.new }
+        ensures runs { RunsIf good self (lent_in loan.old) budget result (back_in loan.new) }
     {
-        let answer = self.served(good, window, beats, out, ledger, used);
-        if let Served::Refused(why) = answer {
-            return RunAnswer::Refused(why);
-        }
+        self.served(good, loan)?;
         let core = self.core;
         let slot = self.slot;
-        let halts = core.halts(beats, 0, out, 0, ledger, used, budget == 0);
+        let used = loan.used;
+        let beats = loan.beats;
+        let window = &mut *loan.window;
+        let out = &mut *loan.out;
+        let ledger = &mut *loan.ledger;
+        let halts = core.halts(&Streams::new(beats, out), ledger, used, budget == 0);
         match halts {
-            Wait::Stop(why) => {
+            Some(why) => {
                 let here = Machine::of(core, slot, self.run);
-                RunAnswer::Done(here.ran(why, 0, 0, 0, used))
+                Ok(here.ran(why, 0, 0, 0, used))
             }
-            Wait::Go => RunAnswer::Done(self.run_on(window, beats, out, ledger, used, budget)),
+            None => Ok(self.run_on(window, beats, out, ledger, used, budget)),
         }
     }
 
-    pub fn run(
-        self,
-        window: &mut [u8],
-        beats: &[u8],
-        out: &mut [u8],
-        ledger: &mut [u8],
-        used: u32,
-        budget: u32,
-    ) -> RunAnswer
-        ensures { HasRun self (lent window.old beats.now out.old ledger.old used)
-            budget result (back window.new out.new ledger.new) }
+    // A run of any machine: 8 for one that breaks a rule. It and `resume` are two calls, since their promises differ (HasRun, Resumed).
+    pub fn run(self, loan: &mut Loan, budget: u32) -> Result<Ran, Refusal>
+        ensures held { Held loan.old loan.new }
+        ensures runs { HasRun self (lent_in loan.old) budget result (back_in loan.new) }
     {
-        self.run_if(self.keeps(), window, beats, out, ledger, used, budget)
+        self.run_if(self.keeps(), loan, budget)
     }
 
     // One step, or why it cannot be taken: a run of one.
-    pub fn step(
-        self,
-        window: &mut [u8],
-        beats: &[u8],
-        out: &mut [u8],
-        ledger: &mut [u8],
-        used: u32,
-    ) -> StepAnswer
-        ensures { Stepped self (lent window.old beats.now out.old ledger.old used)
-            result (back window.new out.new ledger.new) }
+    pub fn step(self, loan: &mut Loan) -> Result<StepAnswer, Refusal>
+        ensures held { Held loan.old loan.new }
+        ensures stepped { Stepped self (lent_in loan.old) result (back_in loan.new) }
     {
-        let answer = self.run(window, beats, out, ledger, used, 1);
-        match answer {
-            RunAnswer::Refused(why) => StepAnswer::Refused(why),
-            RunAnswer::Done(r) => r.stepped(),
-        }
+        let ran = self.run(loan, 1)?;
+        Ok(ran.stepped())
     }
 
     // A run of a machine that is known to keep the rules, as one that was loaded is: it looks only at what a step needs.
-    pub fn resume(
-        self,
-        window: &mut [u8],
-        beats: &[u8],
-        out: &mut [u8],
-        ledger: &mut [u8],
-        used: u32,
-        budget: u32,
-    ) -> RunAnswer
-        ensures { RunsIf (ready_of self) self (lent window.old beats.now out.old ledger.old used)
-            budget result (back window.new out.new ledger.new) }
+    pub fn resume(self, loan: &mut Loan, budget: u32) -> Result<Ran, Refusal>
+        ensures held { Held loan.old loan.new }
+        ensures runs { RunsIf (ready_of self) self (lent_in loan.old) budget result (back_in loan.new) }
     {
-        self.run_if(self.ready(), window, beats, out, ledger, used, budget)
+        self.run_if(self.ready(), loan, budget)
     }
 }
 

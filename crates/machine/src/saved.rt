@@ -1,15 +1,14 @@
 // The machine as the fields of its image, and back; load and save.
-ghost use Rattle.std.specs.Prelude.{true, ◌≡◌};
+ghost use Rattle.std.specs.Prelude.{true, ◌≡◌, Ok};
 ghost use Rattle.bus.specs.Window.{keeps_limits};
 ghost use Rattle.regs.specs.Modes.{mode_of};
-ghost use Rattle.machine.specs.declared.LoadedMachine.TheVariants.{Good};
-ghost use Rattle.machine.specs.Saved.{in_hand, fault_in, fields_of, kind_of, bytes_of, tail_with, tail_of, keeps as keeps_of, spoiled as spoiled_of, work_of, phase_of, slot_of, machine_of, saved_as, WasLoaded, WasSaved};
+ghost use Rattle.machine.specs.Saved.{in_hand, fault_in, fields_of, kind_of, bytes_of, tail_with, tail_of, keeps as keeps_of, spoiled as spoiled_of, work_of, phase_of, slot_of, machine_of, WasLoaded, WasSaved};
 ghost use Rattle.machine.specs.Helpers.Put.{MachineWasPut};
 
-use crate::{Core, Fault, LoadedMachine, Machine, Phase, SavedMachine, Slot, Work};
-use bus::{CheckedWindow, Refusal, Window};
-use descriptor::{DescControl, Look, Raw};
-use image::{Fields, ReadImage, Tail, WroteImage};
+use crate::{Core, Fault, Machine, Phase, Slot, Work};
+use bus::{Refusal, Window};
+use descriptor::{DescControl, Look, Miss, Raw};
+use image::{Fields, Tail};
 use regs::{Control, Mode, Pointer, Status};
 use words::has;
 
@@ -34,13 +33,8 @@ fn in_hand(phase: Phase) -> Work
     ensures { result ≡ in_hand phase }
 {
     match phase {
-        Phase::Move(k) => k,
-        Phase::WriteBack(k) => k,
-        Phase::Rest => NONE,
-        Phase::Fetch => NONE,
-        Phase::Ended => NONE,
-        Phase::Halted => NONE,
-        Phase::Faulted(_) => NONE,
+        Phase::Move(k) | Phase::WriteBack(k) => k,
+        Phase::Rest | Phase::Fetch | Phase::Ended | Phase::Halted | Phase::Faulted(_) => NONE,
     }
 }
 
@@ -48,17 +42,14 @@ fn in_hand(phase: Phase) -> Work
 fn fault_in(phase: Phase) -> Fault
     ensures { result ≡ fault_in phase }
 {
-    match phase {
-        Phase::Faulted(f) => f,
-        Phase::Rest => NO_FAULT,
-        Phase::Fetch => NO_FAULT,
-        Phase::Move(_) => NO_FAULT,
-        Phase::WriteBack(_) => NO_FAULT,
-        Phase::Ended => NO_FAULT,
-        Phase::Halted => NO_FAULT,
+    if let Phase::Faulted(f) = phase {
+        f
+    } else {
+        NO_FAULT
     }
 }
 
+// Functions, and no `From`: they are total on what the rules leave, and an image may hold a phase or a mode that is none.
 fn work_of(f: Fields) -> Work
     ensures { result ≡ work_of f }
 {
@@ -77,8 +68,7 @@ fn work_of(f: Fields) -> Work
 fn phase_of(f: Fields) -> Phase
     ensures { result ≡ phase_of f }
 {
-    let n = f.phase;
-    match n {
+    match f.phase {
         0 => Phase::Rest,
         1 => Phase::Fetch,
         2 => Phase::Move(work_of(f)),
@@ -107,13 +97,11 @@ fn mode_of(n: u8) -> Mode
 fn slot_of(t: Tail) -> Slot
     ensures { result ≡ slot_of t }
 {
-    let raw = t.raw;
-    let n = t.kind;
-    match n {
-        0 => Slot::Empty,
-        1 => Slot::Ahead(Look::There(raw)),
-        2 => Slot::Ahead(Look::Misaligned),
-        _ => Slot::Ahead(Look::Outside),
+    match t.kind {
+        0 => None,
+        1 => Some(Ok(t.raw)),
+        2 => Some(Err(Miss::Misaligned)),
+        _ => Some(Err(Miss::Outside)),
     }
 }
 
@@ -122,20 +110,16 @@ fn kind_of(look: Look) -> u8
     ensures { result ≡ kind_of look }
 {
     match look {
-        Look::Misaligned => 2,
-        Look::Outside => 3,
-        Look::There(_) => 1,
+        Ok(_) => 1,
+        Err(Miss::Misaligned) => 2,
+        Err(Miss::Outside) => 3,
     }
 }
 
 fn bytes_of(look: Look) -> Raw
     ensures { result ≡ bytes_of look }
 {
-    match look {
-        Look::Misaligned => Raw::ZERO,
-        Look::Outside => Raw::ZERO,
-        Look::There(raw) => raw,
-    }
+    look.unwrap_or(Raw::ZERO)
 }
 
 // The fields that edition 2 adds.
@@ -143,14 +127,14 @@ fn tail_with(slot: Slot, pointer: u32, run: u32) -> Tail
     ensures { result ≡ tail_with slot pointer run }
 {
     match slot {
-        Slot::Empty => Tail {
+        None => Tail {
             kind: 0,
             zero6: 0,
             at: 0,
             raw: Raw::ZERO,
             run,
         },
-        Slot::Ahead(look) => Tail {
+        Some(look) => Tail {
             kind: kind_of(look),
             zero6: 0,
             at: pointer,
@@ -161,38 +145,26 @@ fn tail_with(slot: Slot, pointer: u32, run: u32) -> Tail
 }
 
 // The machine of fields whose window keeps the limits, so that it is never refused here.
-fn machine_of(f: Fields, t: Tail) -> LoadedMachine
+fn machine_of(f: Fields, t: Tail) -> Result<Machine, Refusal>
     requires { keeps_limits f.base f.window ≡ true }
-    ensures { result ≡ Good (machine_of f t) }
+    ensures { result ≡ Ok (machine_of f t) }
 {
-    let CheckedWindow::Good(window) = Window::checked(f.base as u64, f.window as u64) else {
-        return LoadedMachine::Refused(Refusal::BadWindow);
-    };
+    let window = Window::checked(f.base as u64, f.window as u64)?;
     let core = Core {
         mode: mode_of(f.mode),
         window,
-        status: Status::of(f.status as u32),
+        status: Status::from(f.status as u32),
         control: Control(f.control),
         pointer: Pointer(f.pointer),
         phase: phase_of(f),
         pending: f.pending,
         count: f.count,
     };
-    LoadedMachine::Good(Machine {
+    Ok(Machine {
         core,
         slot: slot_of(t),
         run: t.run,
     })
-}
-
-// What was done, as an answer of the machine's.
-fn saved_as(done: WroteImage) -> SavedMachine
-    ensures { result ≡ saved_as done }
-{
-    match done {
-        WroteImage::Done => SavedMachine::Done,
-        WroteImage::Refused(why) => SavedMachine::Refused(why),
-    }
 }
 
 impl Core {
@@ -209,12 +181,12 @@ impl Core {
         let control = self.control.0;
         Fields {
             edition: 2,
-            mode: mode.number(),
-            phase: phase.number(),
+            mode: mode.into(),
+            phase: phase.into(),
             armed: has(control, Control::SW_RESET),
             pending: self.pending,
             fault: fault.code,
-            status: status.number() as u8,
+            status: u32::from(status) as u8,
             count: self.count,
             control,
             pointer: self.pointer.0,
@@ -254,32 +226,29 @@ impl Machine {
     pub(crate) fn spoiled(self) -> Refusal
         ensures { result ≡ spoiled_of self }
     {
-        Refusal::BadImage(image::broken(self.core.fields(), self.tail()))
+        image::refused(self.core.fields(), self.tail())
     }
 
     // The machine of 85 bytes that keep the rules.
-    pub fn load(from: &[u8]) -> LoadedMachine
+    pub fn load(from: &[u8]) -> Result<Machine, Refusal>
         ensures { WasLoaded from.now result }
     {
-        let found = image::read(from);
-        match found {
-            ReadImage::Good(f) => machine_of(f, image::tail_in(from)),
-            ReadImage::Refused(why) => LoadedMachine::Refused(why),
-        }
+        let f = image::read(from)?;
+        machine_of(f, image::tail_in(from))
     }
 
     // Writes the 85 bytes of a machine that keeps the rules; where it is refused nothing is written.
-    pub fn save(self, to: &mut [u8]) -> SavedMachine
+    pub fn save(self, to: &mut [u8]) -> Result<(), Refusal>
         ensures { WasSaved self to.old result to.new }
     {
-        saved_as(image::write(self.core.fields(), self.tail(), to))
+        image::write(self.core.fields(), self.tail(), to)
     }
 
     // Writes the 85 bytes of a machine that is known to keep the rules. It looks at the size and the widths alone: where the
     // slice is not of 85 bytes or a number does not fit its width it is refused, and nothing is written.
-    pub fn put(self, to: &mut [u8]) -> SavedMachine
+    pub fn put(self, to: &mut [u8]) -> Result<(), Refusal>
         ensures { MachineWasPut self to.old result to.new }
     {
-        saved_as(image::put(self.core.fields(), self.tail(), to))
+        image::put(self.core.fields(), self.tail(), to)
     }
 }

@@ -3,41 +3,19 @@ ghost use Rattle.std.specs.Prelude.{◌≡◌, ◌%◌, ◌^◌};
 ghost use Rattle.bus.specs.Window.{in_window};
 ghost use Rattle.machine.specs.State.{home as home_of};
 ghost use Rattle.machine.specs.Step.{step as step_of};
-ghost use Rattle.machine.specs.Run.{lent, served_if};
-ghost use Rattle.machine.specs.Helpers.Worlds.{reached_as, in_fault, served_as};
+ghost use Rattle.machine.specs.Run.{lent_in, served_if};
+ghost use Rattle.machine.specs.Helpers.Worlds.{in_fault, served_as};
 ghost use Rattle.machine.specs.Helpers.Waiting.{Waits, Begins};
 ghost use Rattle.machine.specs.Helpers.Turns.{Begun};
 ghost use Rattle.machine.specs.Helpers.Resume.{seated_as, core_ready, ready_of};
 
 use crate::fetch::Fetched;
 use crate::moves::asked;
-use crate::{Core, Fault, Machine, Phase, Reason, Slot, Work};
-use bus::{BusAddress, Located, Refusal, Window};
+use crate::{Core, Fault, Loan, Machine, Phase, Reason, Slot, Work};
+use bus::{BusAddress, Refusal, Window};
 use descriptor::Look;
 use regs::Control;
 use words::has;
-
-// Whether a step can be taken, or why not.
-#[derive(Clone, Copy)]
-pub(crate) enum Wait {
-    Go,
-    Stop(Reason),
-}
-
-// The machine after a step, with the beats taken and made then.
-#[derive(Clone, Copy)]
-pub(crate) struct Reached {
-    pub core: Core,
-    pub taken: usize,
-    pub made: usize,
-}
-
-// Whether what is lent serves the machine, or the first refusal that applies.
-#[derive(Clone, Copy)]
-pub(crate) enum Served {
-    Serves,
-    Refused(Refusal),
-}
 
 // Where a step leads.
 impl Core {
@@ -54,17 +32,6 @@ impl Core {
     {
         self.faulted(code, (address.0 % 0x1_0000_0000) as u32)
     }
-
-    // The machine, where so many beats are taken and made.
-    pub(crate) fn at(self, taken: usize, made: usize) -> Reached
-        ensures { result ≡ reached_as self taken made }
-    {
-        Reached {
-            core: self,
-            taken,
-            made,
-        }
-    }
 }
 
 // What a step needs of the machine.
@@ -80,10 +47,7 @@ impl Core {
     fn holds(self, address: u32) -> bool
         ensures { result ≡ in_window (home_of self) address 32 }
     {
-        match self.home().locate(BusAddress(address as u64), 32) {
-            Located::At(_) => true,
-            Located::Outside => false,
-        }
+        self.home().locate(BusAddress(address as u64), 32).is_some()
     }
 
     // In Move a byte is left to move and no EOP was seen.
@@ -92,16 +56,12 @@ impl Core {
     {
         let phase = self.phase;
         match phase {
-            Phase::Rest => true,
-            Phase::Fetch => true,
             Phase::Move(k) => {
                 let mode = self.mode;
                 (k.moved < asked(mode, k.length)) & !k.eop & self.holds(k.at)
             }
             Phase::WriteBack(k) => self.holds(k.at),
-            Phase::Ended => true,
-            Phase::Halted => true,
-            Phase::Faulted(_) => true,
+            Phase::Rest | Phase::Fetch | Phase::Ended | Phase::Halted | Phase::Faulted(_) => true,
         }
     }
 }
@@ -112,9 +72,8 @@ impl Core {
         ensures { result ≡ seated_as self look }
     {
         match look {
-            Look::Misaligned => true,
-            Look::Outside => true,
-            Look::There(_) => self.holds(self.pointer.0),
+            Ok(_) => self.holds(self.pointer.0),
+            Err(_) => true,
         }
     }
 }
@@ -127,35 +86,36 @@ impl Machine {
         let core = self.core;
         let slot = self.slot;
         match slot {
-            Slot::Empty => core.ready(),
-            Slot::Ahead(look) => core.seats(look) & core.ready(),
+            None => core.ready(),
+            Some(look) => core.seats(look) & core.ready(),
         }
     }
 }
 
 // By the phase.
 impl Core {
-    // Where there is a beat to take, or not, and room for one, or not, and for a record, or not.
-    pub(crate) fn wait(self, more: bool, room: bool, keeps: bool) -> Wait
+    // What a step waits for, where there is a beat to take, or not, and room for one, or not, and for a record, or not; none, where it can
+    // be taken.
+    pub(crate) fn wait(self, more: bool, room: bool, keeps: bool) -> Option<Reason>
         ensures { Waits step_of self more room keeps result }
     {
         let phase = self.phase;
         match phase {
             Phase::Rest => if has(self.control.0, Control::RUN) {
-                Wait::Go
+                None
             } else {
-                Wait::Stop(Reason::Rest)
+                Some(Reason::Rest)
             },
-            Phase::Fetch => Wait::Go,
+            Phase::Fetch => None,
             Phase::Move(k) => self.move_wait(k, more, room, keeps),
             Phase::WriteBack(_) => if keeps {
-                Wait::Go
+                None
             } else {
-                Wait::Stop(Reason::LedgerFull)
+                Some(Reason::LedgerFull)
             },
-            Phase::Ended => Wait::Stop(Reason::Ended),
-            Phase::Halted => Wait::Stop(Reason::Halted),
-            Phase::Faulted(_) => Wait::Stop(Reason::Faulted),
+            Phase::Ended => Some(Reason::Ended),
+            Phase::Halted => Some(Reason::Halted),
+            Phase::Faulted(_) => Some(Reason::Faulted),
         }
     }
 
@@ -178,30 +138,22 @@ impl Core {
 impl Machine {
     // 8 where the machine is not good, with the field; 9 where beats, in or out, have an odd number of bytes; 19 where the ledger is not whole
     // records, or fewer than are said to be used; 4 where the window's length is not the machine's.
-    pub(crate) fn served(
-        self,
-        good: bool,
-        window: &[u8],
-        beats: &[u8],
-        out: &[u8],
-        ledger: &[u8],
-        used: u32,
-    ) -> Served
-        ensures { served_as result ≡ served_if good self (lent window.now beats.now out.now ledger.now used) }
+    pub(crate) fn served(self, good: bool, loan: &Loan) -> Result<(), Refusal>
+        ensures { served_as result ≡ served_if good self (lent_in loan.now) }
     {
         if !good {
-            return Served::Refused(self.spoiled());
+            return Err(self.spoiled());
         }
-        let even = (beats.len() % 2 == 0) & (out.len() % 2 == 0);
+        let even = (loan.beats.len() % 2 == 0) & (loan.out.len() % 2 == 0);
         if !even {
-            return Served::Refused(Refusal::OddStream);
+            return Err(Refusal::OddStream);
         }
-        if !ledger::serves(ledger, used) {
-            return Served::Refused(Refusal::BadLedger);
+        if !ledger::serves(loan.ledger, loan.used) {
+            return Err(Refusal::BadLedger);
         }
-        if window.len() != self.core.window.size() as usize {
-            return Served::Refused(Refusal::OtherWindow);
+        if loan.window.len() != self.core.window.size() as usize {
+            return Err(Refusal::OtherWindow);
         }
-        Served::Serves
+        Ok(())
     }
 }

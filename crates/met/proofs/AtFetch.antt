@@ -1,5 +1,6 @@
 -- A step in Fetch.
 -- Assumes nothing.
+use Rattle.std.specs.Prelude.{Result, Ok, Err, Some, None}
 use Prim.Native.Nat.{ℕ, ◌%◌, ◌<◌}
 use mathlib.Core.Path.{◌≡◌, refl, sym, ap, ◌∙◌}
 use mathlib.Core.Bool.{Bool, true, false, not, ◌&&◌}
@@ -11,12 +12,11 @@ use Rattle.words.specs.Slices.{AllBytes}
 use Rattle.bus.specs.declared.Window.{Window}
 use Rattle.bus.specs.Window.{in_window}
 use Rattle.descriptor.specs.declared.Descriptor.{Descriptor}
-use Rattle.descriptor.specs.declared.Spot.{Spot}
-use Rattle.descriptor.specs.declared.Spot.TheVariants as spot
-use Rattle.descriptor.specs.declared.Look.{Look}
-use Rattle.descriptor.specs.declared.Look.TheVariants.{Misaligned, Outside, There}
+use Rattle.bus.specs.declared.Place.{Place}
+use Rattle.descriptor.specs.declared.Miss.{Miss}
+use Rattle.descriptor.specs.declared.Miss.TheVariants as miss
 use Rattle.descriptor.specs.Layout.{owned}
-use Rattle.descriptor.specs.Looking.{spot_of, stands, named_in, look_in, look_at, WordsFit}
+use Rattle.descriptor.specs.Looking.{spot_of, stands, named_in, look_in, look_at, WordsFit, Look}
 use Rattle.descriptor.specs.RoundTrip.{Typed, job_of}
 use Rattle.descriptor.proofs.Looks.{no-words-fit, raw-fits}
 use Rattle.image.specs.Slot.{descriptor, kind_at}
@@ -29,10 +29,8 @@ use Rattle.regs.specs.Control.{run}
 use Rattle.image.specs.Rules.{asked, fault_code}
 use Rattle.image.proofs.Tests.{and_left, and_right}
 use Rattle.machine.specs.declared.Core.{Core}
-use Rattle.machine.specs.declared.Slot.{Slot}
-use Rattle.machine.specs.declared.Slot.TheVariants.{Empty, Ahead}
 use Rattle.machine.specs.declared.Phase.TheVariants.{Rest, Move}
-use Rattle.machine.specs.State.{phase_number, home, with_phase, with_pointer}
+use Rattle.machine.specs.State.{phase_number, home, with_phase, with_pointer, Slot}
 use Rattle.machine.specs.Saved.{kind_of, bytes_of}
 use Rattle.machine.specs.Step.{World, home_bytes, taken, became, holding, ended, wants_length, begun, fetched, seen_in, seen, meets, fetch_step}
 use Rattle.met.proofs.Kept.{RulesKept, LookKept, HoldsIn, on}
@@ -72,28 +70,28 @@ look-kind : (w : Window) (xs : List ℕ) (a : ℕ) → kind_of (look_at w xs a) 
 unfolding look_at
 look-kind w xs a = by (spot_of w a)
   where
-    by : (s : Spot) → kind_of (look_in xs s) ≡ spot_kind s
-    by spot.Misaligned = refl
-    by spot.Outside = refl
-    by (spot.At p) = refl
+    by : (s : Result Place Miss) → kind_of (look_in xs s) ≡ spot_kind s
+    by (Err miss.Misaligned) = refl
+    by (Err miss.Outside) = refl
+    by (Ok p) = refl
 
 look-fits : (w : Window) (xs : List ℕ) (a : ℕ) → AllBytes xs → WordsFit (bytes_of (look_at w xs a))
 unfolding look_at
 look-fits w xs a g = by (spot_of w a)
   where
-    by : (s : Spot) → WordsFit (bytes_of (look_in xs s))
-    by spot.Misaligned = no-words-fit
-    by spot.Outside = no-words-fit
-    by (spot.At p) = raw-fits xs p.0 g
+    by : (s : Result Place Miss) → WordsFit (bytes_of (look_in xs s))
+    by (Err miss.Misaligned) = no-words-fit
+    by (Err miss.Outside) = no-words-fit
+    by (Ok p) = raw-fits xs p.0 g
 
 -- a descriptor's kind is that of an address that is aligned and in the window
 kind-stands : (w : Window) (a : ℕ) → kind_at w a ≡ descriptor → (eqb (a % 4) 0 && in_window w a 32) ≡ true
 kind-stands w a e = sym (stands_by w a) ∙ by (spot_of w a) e
   where
-    by : (s : Spot) → spot_kind s ≡ descriptor → stands s ≡ true
-    by spot.Misaligned k = absurd (omega arith)
-    by spot.Outside k = absurd (omega arith)
-    by (spot.At p) k = refl
+    by : (s : Result Place Miss) → spot_kind s ≡ descriptor → stands s ≡ true
+    by (Err miss.Misaligned) k = absurd (omega arith)
+    by (Err miss.Outside) k = absurd (omega arith)
+    by (Ok p) k = refl
 
 module _ {w : World} (h : KeptWorld w) (b : w.core.status.busy ≡ true) (r : run w.core.control ≡ true) where
   abbrev m : Core
@@ -139,7 +137,7 @@ module _ {w : World} (h : KeptWorld w) (b : w.core.status.busy ≡ true) (r : ru
 
   begun-after : (d : Descriptor) → Typed (job_of d) → a % 4 ≡ 0 → in_window m.window a 32 ≡ true → owned d.control.0 ≡ true
       → (wants_length m.mode && eqb d.length 0) ≡ false
-      → Leads (taken (holding (became w (with_phase (Move (begun a d)) (with_pointer d.next m))) (Ahead (look_at (home m) (home_bytes w) d.next))))
+      → Leads (taken (holding (became w (with_phase (Move (begun a d)) (with_pointer d.next m))) (Some (look_at (home m) (home_bytes w) d.next))))
   begun-after d t aligned inside o z =
       record { core = begun_kept d t aligned inside o z; slot = (refl, ahead-kept d.next); run = h.run; size = h.size; memory = h.memory; input = h.input }
 
@@ -154,15 +152,15 @@ module _ {w : World} (h : KeptWorld w) (b : w.core.status.busy ≡ true) (r : ru
 
   -- what is seen is what the look at the pointer finds, as far as its kind goes
   met-after : (l : Look) → LookKept m.window a l → Leads (meets w l)
-  met-after Misaligned k = fault-after h 10 a refl h.core.pointer
-  met-after Outside k = fault-after h 11 a refl h.core.pointer
-  met-after (There x) k =
+  met-after (Err miss.Misaligned) k = fault-after h 10 a refl h.core.pointer
+  met-after (Err miss.Outside) k = fault-after h 11 a refl h.core.pointer
+  met-after (Ok x) k =
       let in_window_lem = kind-stands m.window a (sym k.kind) in
       fetched-after (named_in x) (named-typed x) (eqb-true _ _ (and_left _ _ in_window_lem)) (and_right (eqb (a % 4) 0) _ in_window_lem)
 
   seen-kept : (s : Slot) → HoldsIn (phase_number m.phase) m.window a s → LookKept m.window a (seen_in w s)
-  seen-kept Empty k = ahead-kept a
-  seen-kept (Ahead look) k = k.1
+  seen-kept None k = ahead-kept a
+  seen-kept (Some look) k = k.1
 
 pub fetch-after : {w : World} → KeptWorld w → w.core.status.busy ≡ true → Leads (fetch_step w)
 unfolding fetch_step seen

@@ -1,5 +1,6 @@
 -- A machine is sound exactly where its parts are kept.
 -- Assumes nothing.
+use Rattle.std.specs.Prelude.{Ok, Err, Some, None}
 use Prim.Native.Nat.{ℕ, ◌≤◌, ◌<◌}
 use mathlib.Core.Path.{◌≡◌, refl, sym, ap, subst, subst⁻¹, ◌∙◌}
 use mathlib.Core.Bool.{Bool, true, false, not, cond, ◌&&◌, ◌||◌, or-true, or_comm}
@@ -22,21 +23,18 @@ use Rattle.image.proofs.EachRule.{Each, each-rule, each_keeps}
 use Rattle.image.proofs.Windows.{stands-in}
 use Rattle.image.proofs.Facts as fact
 use Rattle.image.proofs.Answers.{keeps, kept-none}
-use Rattle.descriptor.specs.declared.Look.{Look}
-use Rattle.descriptor.specs.declared.Look.TheVariants.{Misaligned, Outside, There}
-use Rattle.descriptor.specs.Looking.{WordsFit, is_zero}
+use Rattle.descriptor.specs.declared.Miss.TheVariants as miss
+use Rattle.descriptor.specs.Looking.{WordsFit, is_zero, Look}
 use Rattle.descriptor.proofs.Looks.{zero-none, no-words-fit}
 use Rattle.image.specs.declared.Tail.{Tail}
 use Rattle.image.specs.Slot.{descriptor}
 use Rattle.image.proofs.Slots.{SlotKept, empty-kept, held_kept_lem}
 use Rattle.machine.specs.declared.Core.{Core}
-use Rattle.machine.specs.declared.Slot.{Slot}
-use Rattle.machine.specs.declared.Slot.TheVariants.{Empty, Ahead}
 use Rattle.machine.specs.declared.Machine.{Machine}
 use Rattle.machine.specs.declared.Work.{Work}
 use Rattle.machine.specs.declared.Phase.{Phase}
 use Rattle.machine.specs.declared.Phase.TheVariants.{Rest, Fetch, Move, WriteBack, Ended, Halted, Faulted}
-use Rattle.machine.specs.State.{phase_number, with_phase}
+use Rattle.machine.specs.State.{phase_number, with_phase, Slot}
 use Rattle.machine.specs.Saved.{none, in_hand, fault_in, fields_of, kind_of, bytes_of, tail_with, tail_of}
 use Rattle.machine.specs.Step.{wants_length}
 use Rattle.met.specs.Sound.{Sound}
@@ -228,33 +226,33 @@ typed-in m (Faulted f) k (b, c, h) t a r n =
 
 -- no look is the kind of an empty slot
 zero-bytes : (look : Look) → (eqb (kind_of look) descriptor || is_zero (bytes_of look)) ≡ true
-zero-bytes Misaligned = zero-none
-zero-bytes Outside = zero-none
-zero-bytes (There r) = refl
+zero-bytes (Err miss.Misaligned) = zero-none
+zero-bytes (Err miss.Outside) = zero-none
+zero-bytes (Ok r) = refl
 
 slot-rules : (n : ℕ) (w : Window) (pointer number : ℕ) → keeps_limits w.base w.length ≡ true → (s : Slot) → HoldsIn n w pointer s
     → (let t = tail_with s pointer number in SlotKept n w.base w.length pointer t.kind t.at t.raw)
-slot-rules n w pointer number l Empty h = empty-kept n w.base w.length pointer
-slot-rules n w pointer number l (Ahead look) h =
+slot-rules n w pointer number l None h = empty-kept n w.base w.length pointer
+slot-rules n w pointer number l (Some look) h =
     subst⁻¹ (λ (k : ℕ). SlotKept n w.base w.length pointer k pointer (bytes_of look)) h.1.kind
     (held_kept_lem n w.base w.length pointer (bytes_of look) h.0 l
     (subst (λ (k : ℕ). (eqb k descriptor || is_zero (bytes_of look)) ≡ true) h.1.kind (zero-bytes look)))
 
 zero-there : (s : Slot) (pointer number : ℕ) → (tail_with s pointer number).zero6 ≡ 0
-zero-there Empty pointer number = refl
-zero-there (Ahead look) pointer number = refl
+zero-there None pointer number = refl
+zero-there (Some look) pointer number = refl
 
 at_typed : (s : Slot) (pointer number : ℕ) → pointer < 4294967296 → (tail_with s pointer number).at < 4294967296
-at_typed Empty pointer number h = omega arith
-at_typed (Ahead look) pointer number h = h
+at_typed None pointer number h = omega arith
+at_typed (Some look) pointer number h = h
 
 raw_typed : (n : ℕ) (w : Window) (s : Slot) (pointer number : ℕ) → HoldsIn n w pointer s → WordsFit (tail_with s pointer number).raw
-raw_typed n w Empty pointer number h = no-words-fit
-raw_typed n w (Ahead look) pointer number h = h.1.fits
+raw_typed n w None pointer number h = no-words-fit
+raw_typed n w (Some look) pointer number h = h.1.fits
 
 run-there : (s : Slot) (pointer number : ℕ) → (tail_with s pointer number).run ≡ number
-run-there Empty pointer number = refl
-run-there (Ahead look) pointer number = refl
+run-there None pointer number = refl
+run-there (Some look) pointer number = refl
 
 pub kept-sound : {m : Machine} → MachineKept m → Sound m
 kept-sound {m} k =
@@ -320,12 +318,12 @@ in-phase m (Faulted f) u e t =
 -- what was read ahead
 seat-kept : (c : Core) (number : ℕ) (s : Slot) → (let t = tail_with s c.pointer.0 number in
     lowest_broken (fields_of c) t ≡ 0 → WordsFit t.raw → HoldsIn (phase_number c.phase) c.window c.pointer.0 s)
-seat-kept c number Empty e f = tt
-seat-kept c number (Ahead Misaligned) e f = let t = tail_with (Ahead Misaligned) c.pointer.0 number in
+seat-kept c number None e f = tt
+seat-kept c number (Some (Err miss.Misaligned)) e f = let t = tail_with (Some (Err miss.Misaligned)) c.pointer.0 number in
     (fact.held-phase (fields_of c) t e refl, record { kind = fact.held-kind (fields_of c) t e refl; fits = f })
-seat-kept c number (Ahead Outside) e f = let t = tail_with (Ahead Outside) c.pointer.0 number in
+seat-kept c number (Some (Err miss.Outside)) e f = let t = tail_with (Some (Err miss.Outside)) c.pointer.0 number in
     (fact.held-phase (fields_of c) t e refl, record { kind = fact.held-kind (fields_of c) t e refl; fits = f })
-seat-kept c number (Ahead (There r)) e f = let t = tail_with (Ahead (There r)) c.pointer.0 number in
+seat-kept c number (Some (Ok r)) e f = let t = tail_with (Some (Ok r)) c.pointer.0 number in
     (fact.held-phase (fields_of c) t e refl, record { kind = fact.held-kind (fields_of c) t e refl; fits = f })
 
 pub sound-kept : {m : Machine} → Sound m → MachineKept m

@@ -1,5 +1,6 @@
 -- A machine moved forward, back, and back and forward again.
 -- Assumes nothing.
+use Rattle.std.specs.Prelude.{Ok, Err, Some, None}
 use Prim.Native.Nat.{ℕ, zero, suc, ◌+◌, ◌*◌}
 use mathlib.Core.Path.{◌≡◌, refl, sym, ap, subst, ◌∙◌}
 use mathlib.Core.Bool.{Bool, true, false, not, cond, ◌&&◌, true≢false}
@@ -10,10 +11,9 @@ use lib.Dec.{eqb, ltb}
 use lib.ListN.{length, get_or}
 use Rattle.words.specs.Slices.{AllBytes}
 use Rattle.descriptor.specs.declared.Raw.{Raw}
-use Rattle.descriptor.specs.declared.Look.TheVariants.{Misaligned, Outside, There}
+use Rattle.descriptor.specs.declared.Miss.TheVariants as miss
 use Rattle.image.specs.declared.Fields.{Fields}
 use Rattle.image.specs.declared.Tail.{Tail}
-use Rattle.image.specs.declared.ReadImage.TheVariants as read
 use Rattle.image.specs.Slot.{tail_from}
 use Rattle.image.specs.Layout.{fields_in, fields, tail}
 use Rattle.image.specs.Rules.{lowest_broken}
@@ -23,9 +23,7 @@ use Rattle.image.proofs.Answers.{keeps, good_length, good-fields, good-keeps, re
 use Rattle.image.proofs.Moved.{Known, first, second, known, number-kept}
 use Rattle.image.proofs.Editions.{edition-first, edition-second, told-first, told-second, none-held, held-second, broken-second, moved-as-it-is, done, forward-bytes, forward-read, forward-tail, back-length, back_fields, back-kept}
 use Rattle.machine.specs.declared.Core.{Core}
-use Rattle.machine.specs.declared.Slot.TheVariants.{Empty, Ahead}
 use Rattle.machine.specs.declared.Machine.{Machine}
-use Rattle.machine.specs.declared.LoadedMachine.TheVariants.{Good}
 use Rattle.machine.specs.Saved.{core_of, slot_of, machine_of, loaded_as, load_of}
 use Rattle.machine.proofs.Answers.{was-loaded}
 use Rattle.met.specs.Forward.{in_run_zero}
@@ -34,7 +32,7 @@ use Rattle.met.proofs.RoundTrip.{from-read}
 
 -- ---- forward
 
-pub forward-loads : (xs : List ℕ) → length xs ≡ 44 → broken_in xs ≡ 0 → load_of (moved_to 2 xs) ≡ Good (in_run_zero (core_of (fields_in 1 xs)))
+pub forward-loads : (xs : List ℕ) → length xs ≡ 44 → broken_in xs ≡ 0 → load_of (moved_to 2 xs) ≡ Ok (in_run_zero (core_of (fields_in 1 xs)))
 unfolding load_of
 forward-loads xs l z =
     ap (λ (t : Tail). loaded_as t (read_of (moved_to 2 xs))) (forward-tail xs l z) ∙ ap (loaded_as (tail_from [])) (forward-read xs l z)
@@ -48,18 +46,18 @@ moved-forward xs to to' r l z p m =
 -- ---- back
 
 -- a slot is empty exactly where its kind is 0
-empty-kind : (n : ℕ) (r : Raw) → get_or (Empty ∷ Ahead (There r) ∷ Ahead Misaligned ∷ []) n (Ahead Outside) ≡ Empty → n ≡ 0
+empty-kind : (n : ℕ) (r : Raw) → get_or (None ∷ Some (Ok r) ∷ Some (Err miss.Misaligned) ∷ []) n (Some (Err miss.Outside)) ≡ None → n ≡ 0
 empty-kind zero r e = refl
 empty-kind (suc zero) r e = absurd (let z : ◌≡◌ {A = ℕ} 0 1 = cc in omega arith)
 empty-kind (suc (suc zero)) r e = absurd (let z : ◌≡◌ {A = ℕ} 0 1 = cc in omega arith)
 empty-kind (suc (suc (suc n))) r e = absurd (let z : ◌≡◌ {A = ℕ} 0 1 = cc in omega arith)
 
-kind-empty : (t : Tail) → t.kind ≡ 0 → slot_of t ≡ Empty
-kind-empty t k = ap (λ (n : ℕ). get_or (Empty ∷ Ahead (There t.raw) ∷ Ahead Misaligned ∷ []) n (Ahead Outside)) k
+kind-empty : (t : Tail) → t.kind ≡ 0 → slot_of t ≡ None
+kind-empty t k = ap (λ (n : ℕ). get_or (None ∷ Some (Ok t.raw) ∷ Some (Err miss.Misaligned) ∷ []) n (Some (Err miss.Outside))) k
 
 -- the image of a machine that loads
-module _ (xs : List ℕ) (m : Machine) (e : load_of xs ≡ Good m) where
-  was : (f : Fields) × (read_of xs ≡ read.Good f) × (m ≡ machine_of f (tail xs))
+module _ (xs : List ℕ) (m : Machine) (e : load_of xs ≡ Ok m) where
+  was : (f : Fields) × (read_of xs ≡ Ok f) × (m ≡ machine_of f (tail xs))
   was = from-read (was-loaded (sym e))
 
   size : length xs ≡ 85
@@ -85,7 +83,7 @@ module _ (xs : List ℕ) (m : Machine) (e : load_of xs ≡ Good m) where
       alone true = refl
       alone false = refl
 
-  empty-held : m.slot ≡ Empty → slot_held xs ≡ false
+  empty-held : m.slot ≡ None → slot_held xs ≡ false
   empty-held h =
       held-second xs size
       ∙ ap (λ (n : ℕ). not (eqb n 0)) (empty-kind (tail xs).kind (tail xs).raw (sym slot_is ∙ h))
@@ -97,14 +95,14 @@ back-exactly xs to to' m r e l mv = (there, back)
     number : r ≡ cond (not (eqb (tail xs).kind 0)) 15 0
     number = back-number xs m e to to' r l mv
 
-    there : r ≡ 0 → m.slot ≡ Empty
+    there : r ≡ 0 → m.slot ≡ None
     there z = slot_is xs m e ∙ kind-empty (tail xs) (by (eqb (tail xs).kind 0) refl (sym number ∙ z))
       where
         by : (b : Bool) → eqb (tail xs).kind 0 ≡ b → ◌≡◌ {A = ℕ} (cond (not b) 15 0) 0 → (tail xs).kind ≡ 0
         by true p q = eqb-true _ _ p
         by false p q = absurd (omega (arith, q))
 
-    back : m.slot ≡ Empty → r ≡ 0
+    back : m.slot ≡ None → r ≡ 0
     back h = number ∙ ap (λ (n : ℕ). cond (not (eqb n 0)) 15 0) (empty-kind (tail xs).kind (tail xs).raw (sym (slot_is xs m e) ∙ h))
 
 -- Back then forward gives the machine with run number 0.
@@ -117,7 +115,7 @@ back-then-forward xs to to' again again' m r s e h l p mv again-mv =
     let forth = moved-forward to' again again' s (ap length at ∙ back-length xs f read_as) (ap broken_in at ∙ back-kept xs f read_as) p again-mv in
     let core : core_of (fields_in 1 to') ≡ m.core =
     ap core_of (ap (fields_in 1) at ∙ back_fields xs f read_as) ∙ sym (ap (λ (n : Machine). n.core) (was xs m e).2) in
-    (d.0, forth.0, forth.1 ∙ ap (λ (k : Core). Good (in_run_zero k)) core)
+    (d.0, forth.0, forth.1 ∙ ap (λ (k : Core). Ok (in_run_zero k)) core)
 
 -- ---- what a move leaves that was done
 
@@ -136,12 +134,12 @@ module _ (xs to ys : List ℕ) (g : AllBytes xs) (l : length to ≡ 85) (m : Ima
   none-broken : broken_in xs ≡ 0
   none-broken = eqb-true _ _ asked.1
 
-  reads : length xs ≡ 85 → load_of xs ≡ Good (machine_of (fields xs) (tail xs))
+  reads : length xs ≡ 85 → load_of xs ≡ Ok (machine_of (fields xs) (tail xs))
   unfolding load_of
   reads p = ap (loaded_as (tail xs)) (read-good xs p (keeps (fields xs) (tail xs) (sym (broken-second xs p) ∙ none-broken)))
 
   -- of either edition
-  by-edition : {old : ℕ} → Known (length xs) old → (machine : Machine) × AllBytes ys × (load_of ys ≡ Good machine)
+  by-edition : {old : ℕ} → Known (length xs) old → (machine : Machine) × AllBytes ys × (load_of ys ≡ Ok machine)
   by-edition (first p) =
       let d = done xs to ys 0 (told-first xs p) (told-second to l) none-broken (none-held xs p) m in
       let at : ys ≡ moved_to 2 xs = d.1 ∙ ap (λ (n : ℕ). moved_to n xs) (edition-second to l) in
@@ -150,7 +148,7 @@ module _ (xs to ys : List ℕ) (g : AllBytes xs) (l : length to ≡ 85) (m : Ima
       let same = (moved-as-it-is xs to ys 0 g (told-second xs p) none-broken (l ∙ sym p) m).1 in
       (machine_of (fields xs) (tail xs), subst AllBytes (sym same) g, ap load_of same ∙ reads p)
 
-  pub moved-loads : (machine : Machine) × AllBytes ys × (load_of ys ≡ Good machine)
+  pub moved-loads : (machine : Machine) × AllBytes ys × (load_of ys ≡ Ok machine)
   moved-loads = by-edition (known (length xs) (eqb-false _ _ (was-not (eqb (edition_of xs) 0) asked.0)))
     where
       was-not : (b : Bool) → not b ≡ true → b ≡ false

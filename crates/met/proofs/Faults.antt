@@ -1,6 +1,7 @@
 -- "Only reset leaves Faulted": no step is taken there, so that a run leaves everything as it is; and of the register writes every one
 -- but the reset leaves it so.
 -- Assumes nothing.
+use Rattle.std.specs.Prelude.{Result, Ok, Err}
 use Prim.Native.Nat.{ℕ}
 use mathlib.Core.Path.{◌≡◌, refl, sym, ap, subst, ◌∙◌}
 use mathlib.Core.Bool.{Bool, true, false}
@@ -14,8 +15,7 @@ use Rattle.machine.specs.declared.Fault.{Fault}
 use Rattle.machine.specs.declared.Phase.{Phase}
 use Rattle.machine.specs.declared.Phase.TheVariants.{Faulted}
 use Rattle.machine.specs.declared.Reason.TheVariants as reason
-use Rattle.machine.specs.declared.registers.WroteRegister.{WroteRegister}
-use Rattle.machine.specs.declared.registers.WroteRegister.TheVariants.{Done, Refused}
+use Rattle.bus.specs.declared.Refusal.{Refusal}
 use Rattle.machine.specs.Saved.{keeps}
 use Rattle.machine.specs.Registers.{control_stored, released, control_written, written_to, write_of}
 use Rattle.machine.specs.State.{machine_with}
@@ -30,9 +30,9 @@ pub faulted-stands : FaultedStands
 unfolding step
 faulted-stands w f p budget = run-stopped w reason.Faulted (ap (λ (q : Phase). settle (step_in q w)) p) budget
 
-abbrev After : (m : Machine) (f : Fault) (v offset : ℕ) → WroteRegister → Type 0
-After m f v offset (Done n) = AfterWrite m f offset v n
-After m f v offset (Refused why) = Unit {0}
+abbrev After : (m : Machine) (f : Fault) (v offset : ℕ) → Result Machine Refusal → Type 0
+After m f v offset (Ok n) = AfterWrite m f offset v n
+After m f v offset (Err why) = Unit {0}
 
 module _ (m : Machine) (f : Fault) (p : m.core.phase ≡ Faulted f) (v : ℕ) where
   released-stays : (released m.core.phase (control_stored v m.core)).phase ≡ Faulted f

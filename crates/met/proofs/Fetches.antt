@@ -1,9 +1,9 @@
 -- Where a Fetch can lead.
 -- Assumes nothing.
+use Rattle.std.specs.Prelude.{Some}
 use Rattle.descriptor.specs.declared.Descriptor.{Descriptor}
 use Rattle.descriptor.specs.Looking.{look_at}
 use Rattle.machine.specs.declared.Phase.TheVariants.{Move}
-use Rattle.machine.specs.declared.Slot.TheVariants.{Ahead}
 use Rattle.machine.specs.State.{no_length, home, with_phase, with_pointer, rested}
 use Rattle.machine.specs.Step.{World, Answer, home_bytes, taken, became, holding, faulted, ended, begun}
 
@@ -24,4 +24,4 @@ abbrev pub begins_at : World → Descriptor → Answer
 begins_at w d =
     let m = w.core in
     taken
-    (holding (became w (with_phase (Move (begun m.pointer.0 d)) (with_pointer d.next m))) (Ahead (look_at (home m) (home_bytes w) d.next)))
+    (holding (became w (with_phase (Move (begun m.pointer.0 d)) (with_pointer d.next m))) (Some (look_at (home m) (home_bytes w) d.next)))

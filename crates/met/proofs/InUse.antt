@@ -1,5 +1,6 @@
 -- Every machine met in use keeps the image rules, hence saves to an image that loads back as it.
 -- Assumes nothing.
+use Rattle.std.specs.Prelude.{Result, Ok, Err, Some, None}
 use Prim.Native.Nat.{ℕ}
 use mathlib.Core.Path.{◌≡◌, refl, sym, subst}
 use mathlib.Core.Bool.{true, true≢false, ◌&&◌}
@@ -16,17 +17,14 @@ use Rattle.machine.specs.declared.Progress.{Progress}
 use Rattle.machine.specs.declared.Ran.{Ran}
 use Rattle.machine.specs.declared.StepAnswer.{StepAnswer}
 use Rattle.machine.specs.declared.StepAnswer.TheVariants as one
-use Rattle.machine.specs.declared.RunAnswer.{RunAnswer}
-use Rattle.machine.specs.declared.RunAnswer.TheVariants as many
+use Rattle.bus.specs.declared.Refusal.{Refusal}
 use Rattle.bus.specs.declared.Window.{Window}
 use Rattle.image.specs.Layout.{Typed}
 use Rattle.machine.specs.declared.Phase.{Phase}
 use Rattle.machine.specs.declared.Phase.TheVariants.{Rest, Fetch, Move, WriteBack, Ended, Halted, Faulted}
-use Rattle.machine.specs.declared.Slot.{Slot}
-use Rattle.machine.specs.declared.Slot.TheVariants.{Empty, Ahead}
 use Rattle.machine.specs.Saved.{fields_of, tail_of, keeps}
 use Rattle.machine.specs.Step.{World, Answer, taken, stopped, machine_in, step}
-use Rattle.machine.specs.State.{phase_number, settled}
+use Rattle.machine.specs.State.{phase_number, settled, Slot}
 use Rattle.machine.specs.Run.{Lent, Returned, Served, serves, refused, even, served_of, world_of, stepped_as, step_answer, run_answer, Stepped, HasRun}
 use Rattle.met.specs.Sound.{Sound, AllBeats, SoundWorld}
 use Rattle.met.specs.Met.{Met}
@@ -59,17 +57,17 @@ open-sound m l s =
 
 -- so that nothing of it changes
 held_same : (p : Phase) (w : Window) (pointer : ℕ) (slot : Slot) → HoldsIn (phase_number p) w pointer slot → settled p slot ≡ slot
-held_same Rest w pointer Empty h = refl
-held_same Rest w pointer (Ahead look) h = absurd (true≢false (sym h.0))
+held_same Rest w pointer None h = refl
+held_same Rest w pointer (Some look) h = absurd (true≢false (sym h.0))
 held_same Fetch w pointer slot h = refl
 held_same (Move k) w pointer slot h = refl
 held_same (WriteBack k) w pointer slot h = refl
-held_same Ended w pointer Empty h = refl
-held_same Ended w pointer (Ahead look) h = absurd (true≢false (sym h.0))
-held_same Halted w pointer Empty h = refl
-held_same Halted w pointer (Ahead look) h = absurd (true≢false (sym h.0))
-held_same (Faulted f) w pointer Empty h = refl
-held_same (Faulted f) w pointer (Ahead look) h = absurd (true≢false (sym h.0))
+held_same Ended w pointer None h = refl
+held_same Ended w pointer (Some look) h = absurd (true≢false (sym h.0))
+held_same Halted w pointer None h = refl
+held_same Halted w pointer (Some look) h = absurd (true≢false (sym h.0))
+held_same (Faulted f) w pointer None h = refl
+held_same (Faulted f) w pointer (Some look) h = absurd (true≢false (sym h.0))
 
 pub opened-same : (m : Machine) → keeps m ≡ true → Typed (fields_of m.core) (tail_of m)
     → ◌≡◌ {A = Machine} (record { core = m.core; slot = settled m.core.phase m.slot; run = m.run }) m
@@ -95,17 +93,17 @@ lent-sound m l s g b =
 
 -- ---- the machine that comes back
 
-abbrev SoundStep : StepAnswer → Type 0
-SoundStep (one.Taken p) = Sound p.machine
-SoundStep (one.Stopped r) = Unit {0}
-SoundStep (one.Refused why) = Unit {0}
+abbrev SoundStep : Result StepAnswer Refusal → Type 0
+SoundStep (Ok (one.Taken p)) = Sound p.machine
+SoundStep (Ok (one.Stopped r)) = Unit {0}
+SoundStep (Err why) = Unit {0}
 
-abbrev SoundRun : RunAnswer → Type 0
-SoundRun (many.Done r) = Sound r.machine
-SoundRun (many.Refused why) = Unit {0}
+abbrev SoundRun : Result Ran Refusal → Type 0
+SoundRun (Ok r) = Sound r.machine
+SoundRun (Err why) = Unit {0}
 
 module _ (l : Lent) (w : World) where
-  answer-sound : SoundWorld w → (a : Answer) → step w ≡ a → SoundStep (stepped_as l.used w a)
+  answer-sound : SoundWorld w → (a : Answer) → step w ≡ a → SoundStep (Ok (stepped_as l.used w a))
   answer-sound s (taken v) e = (step_keeps w v s e).machine
   answer-sound s (stopped r) e = tt
 
@@ -118,10 +116,10 @@ module _ (l : Lent) (w : World) where
   run_sound (refused why) s budget = tt
 
 module _ {m : Machine} {l : Lent} {back : Returned} (s : Sound m) (g : AllBytes l.window) (b : AllBytes l.beats) where
-  stepped-keeps : {p : Progress} → Stepped m l (one.Taken p) back → Sound p.machine
+  stepped-keeps : {p : Progress} → Stepped m l (Ok (one.Taken p)) back → Sound p.machine
   stepped-keeps h = subst SoundStep (sym h.answer) (step-sound l (world_of m l) (served_of m l) (lent-sound m l s g b))
 
-  ran-keeps : {budget : ℕ} {r : Ran} → HasRun m l budget (many.Done r) back → Sound r.machine
+  ran-keeps : {budget : ℕ} {r : Ran} → HasRun m l budget (Ok r) back → Sound r.machine
   ran-keeps {budget} h = subst SoundRun (sym h.answer) (run_sound l (world_of m l) (served_of m l) (lent-sound m l s g b) budget)
 
 -- ---- every machine met

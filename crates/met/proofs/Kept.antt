@@ -1,26 +1,24 @@
 -- The image rules, as what they ask of a machine's parts: of each phase what it needs, and of the rest the same in all phases.
 -- Assumes nothing.
+use Rattle.std.specs.Prelude.{Some, None}
 use Prim.Native.Nat.{ℕ, ◌%◌, ◌≤◌, ◌<◌}
 use mathlib.Core.Path.{◌≡◌, refl}
 use mathlib.Core.Bool.{Bool, true, false, cond, ◌||◌, true≢false}
 use Rattle.bus.specs.declared.Window.{Window}
 use Rattle.bus.specs.Window.{keeps_limits, in_window}
-use Rattle.descriptor.specs.declared.Look.{Look}
 use Rattle.descriptor.specs.Layout.{owned}
-use Rattle.descriptor.specs.Looking.{WordsFit}
+use Rattle.descriptor.specs.Looking.{WordsFit, Look}
 use Rattle.regs.specs.declared.Mode.{Mode}
 use Rattle.regs.specs.Modes.{mode_number}
 use Rattle.regs.specs.Control.{run}
 use Rattle.image.specs.Rules.{between, asked, fault_code}
 use Rattle.image.specs.Slot.{kind_at}
 use Rattle.machine.specs.declared.Core.{Core}
-use Rattle.machine.specs.declared.Slot.{Slot}
-use Rattle.machine.specs.declared.Slot.TheVariants.{Empty, Ahead}
 use Rattle.machine.specs.declared.Machine.{Machine}
 use Rattle.machine.specs.declared.Work.{Work}
 use Rattle.machine.specs.declared.Phase.{Phase}
 use Rattle.machine.specs.declared.Phase.TheVariants.{Rest, Fetch, Move, WriteBack, Ended, Halted, Faulted}
-use Rattle.machine.specs.State.{phase_number, with_phase, with_busy, settled}
+use Rattle.machine.specs.State.{phase_number, with_phase, with_busy, settled, Slot}
 use Rattle.machine.specs.Saved.{kind_of, bytes_of}
 use Rattle.machine.specs.Step.{wants_length}
 
@@ -101,18 +99,18 @@ pub record LookKept (w : Window) (pointer : ℕ) (look : Look) : Type 0 where
 
 -- a held slot stands only in Fetch, Move and WriteBack
 abbrev pub HoldsIn : (phase : ℕ) → Window → (pointer : ℕ) → Slot → Type 0
-HoldsIn phase w pointer Empty = Unit {0}
-HoldsIn phase w pointer (Ahead look) = (between 1 3 phase ≡ true) × LookKept w pointer look
+HoldsIn phase w pointer None = Unit {0}
+HoldsIn phase w pointer (Some look) = (between 1 3 phase ≡ true) × LookKept w pointer look
 
 -- what a phase leaves of it is kept there
 pub settles : (n : ℕ) (w : Window) (pointer : ℕ) (p : Phase) (slot : Slot) → HoldsIn n w pointer slot → HoldsIn (phase_number p) w pointer (settled p slot)
 settles n w pointer Rest slot h = tt
-settles n w pointer Fetch Empty h = tt
-settles n w pointer Fetch (Ahead look) h = (refl, h.1)
-settles n w pointer (Move k) Empty h = tt
-settles n w pointer (Move k) (Ahead look) h = (refl, h.1)
-settles n w pointer (WriteBack k) Empty h = tt
-settles n w pointer (WriteBack k) (Ahead look) h = (refl, h.1)
+settles n w pointer Fetch None h = tt
+settles n w pointer Fetch (Some look) h = (refl, h.1)
+settles n w pointer (Move k) None h = tt
+settles n w pointer (Move k) (Some look) h = (refl, h.1)
+settles n w pointer (WriteBack k) None h = tt
+settles n w pointer (WriteBack k) (Some look) h = (refl, h.1)
 settles n w pointer Ended slot h = tt
 settles n w pointer Halted slot h = tt
 settles n w pointer (Faulted f) slot h = tt

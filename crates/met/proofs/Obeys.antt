@@ -1,5 +1,6 @@
 -- How long until the core obeys: with RUN clear every step pays one of those that the phase owes.
 -- Assumes nothing.
+use Rattle.std.specs.Prelude.{Ok}
 use Prim.Native.Nat.{ℕ, zero, suc, ◌+◌, ◌-◌, ◌/◌, ◌%◌, ◌≤◌, ◌<◌}
 use mathlib.Core.Path.{◌≡◌, refl, sym, ap, subst, ◌∙◌}
 use mathlib.Core.Bool.{Bool, true, false, cond, not, ◌&&◌, ◌||◌, true≢false}
@@ -20,13 +21,11 @@ use Rattle.machine.specs.declared.Core.{Core}
 use Rattle.machine.specs.declared.Machine.{Machine}
 use Rattle.machine.specs.declared.Work.{Work}
 use Rattle.machine.specs.declared.Ran.{Ran}
-use Rattle.machine.specs.declared.RunAnswer.TheVariants as many
 use Rattle.machine.specs.declared.Reason.{Reason}
 use Rattle.machine.specs.declared.Reason.TheVariants as reason
 use Rattle.machine.specs.declared.Phase.{Phase}
 use Rattle.machine.specs.declared.Phase.TheVariants.{Rest, Fetch, Move, WriteBack, Ended, Halted, Faulted}
-use Rattle.machine.specs.declared.Slot.{Slot}
-use Rattle.machine.specs.State.{with_phase, with_busy, rested, fresh_core, settled}
+use Rattle.machine.specs.State.{with_phase, with_busy, rested, fresh_core, settled, Slot}
 use Rattle.machine.specs.Registers.{control_stored, released, control_written}
 use Rattle.machine.specs.Step.{World, Answer, taken, stopped, laid, became, stored, received, noted, holding, settle, faulted, entry_for, written_back, rest_step, fetch_step, whole, source_of, destination_of, with_byte, onward, copy_step, send_to, send_step, receive_from, move_step, after_back, completed, back_to, write_back_step, step_in, step}
 use Rattle.machine.specs.Helpers.Turns.{steps}
@@ -289,7 +288,7 @@ cleared-by-write m n v e c =
 
 -- one run more
 module _ {n : Machine} {l : Lent} {budget : ℕ} {r : Ran} {b : Returned} (h : Met n) (c : Cleared n.core) (g : AllBytes l.window)
-    (bs : AllBytes l.beats) (d : HasRun n l budget (many.Done r) b) where
+    (bs : AllBytes l.beats) (d : HasRun n l budget (Ok r) b) where
   both : (served_of n l ≡ serves) × (r ≡ ran_as l.used (world_of n l) (run budget (world_of n l)))
   both = ran-serves l (served_of n l) (world_of n l) budget r d.answer
 

@@ -1,6 +1,7 @@
 -- Memory is read as a descriptor only in a Fetch: what it goes by, where nothing was read ahead, and the next one; and what was read ahead
 -- is what the next Fetch goes by.
 -- Assumes nothing.
+use Rattle.std.specs.Prelude.{Ok, Err, Some}
 use Prim.Native.Nat.{ℕ, zero, suc}
 use mathlib.Core.Path.{◌≡◌, refl, sym, ap, subst, ◌∙◌}
 use mathlib.Core.Bool.{Bool, true, false, not, cond, ◌&&◌}
@@ -9,10 +10,9 @@ use native.Mathlib.Omega.{arith}
 use lib.Dec.{eqb}
 use Rattle.bus.specs.Window.{in_window}
 use Rattle.descriptor.specs.declared.Descriptor.{Descriptor}
-use Rattle.descriptor.specs.declared.Look.{Look}
-use Rattle.descriptor.specs.declared.Look.TheVariants.{Misaligned, Outside, There}
+use Rattle.descriptor.specs.declared.Miss.TheVariants as miss
 use Rattle.descriptor.specs.Layout.{owned}
-use Rattle.descriptor.specs.Looking.{named_in, look_at}
+use Rattle.descriptor.specs.Looking.{named_in, look_at, Look}
 use Rattle.regs.specs.declared.Mode.{Mode}
 use Rattle.regs.specs.declared.Mode.TheVariants.{MemoryToMemory, MemoryToStream, StreamToMemory}
 use Rattle.regs.specs.Control.{run}
@@ -20,9 +20,7 @@ use Rattle.machine.specs.declared.Work.{Work}
 use Rattle.machine.specs.declared.Phase.{Phase}
 use Rattle.machine.specs.declared.Phase.TheVariants.{Rest, Fetch, Move, WriteBack, Ended, Halted, Faulted}
 use Rattle.machine.specs.declared.Reason.{Reason}
-use Rattle.machine.specs.declared.Slot.{Slot}
-use Rattle.machine.specs.declared.Slot.TheVariants.{Ahead}
-use Rattle.machine.specs.State.{phase_number, home, settled}
+use Rattle.machine.specs.State.{phase_number, home, settled, Slot}
 use Rattle.machine.specs.Step.{World, Answer, home_bytes, taken, stopped, wants_length, rest_step, fetched, seen_in, seen, meets, fetch_step, source_of, destination_of, onward, copy_step, send_to, send_step, receive_from, move_step, completed, back_to, write_back_step, settle, step_in, step}
 use Rattle.met.specs.Reading.{over, ReadsSame, Alike, both, neither, ToFetch, there, moves, marks}
 use Rattle.met.specs.Theorems.{ReadInFetchAlone, UsedAsRead}
@@ -46,12 +44,12 @@ module _ (w : World) (memory : List ℕ) where
   unfolding fetched
   fetched-alike d e =
       choice (not (owned d.control.0)) (both refl refl refl refl refl)
-      (choice (wants_length w.core.mode && eqb d.length 0) (both refl refl refl refl refl) (both refl (ap Ahead e) refl refl refl))
+      (choice (wants_length w.core.mode && eqb d.length 0) (both refl refl refl refl refl) (both refl (ap Some e) refl refl refl))
 
   met-alike : ReadsSame w memory → (l : Look) → seen w ≡ l → Alike (meets w l) (meets (over memory w) l)
-  met-alike h Misaligned e = both refl refl refl refl refl
-  met-alike h Outside e = both refl refl refl refl refl
-  met-alike h (There r) e = fetched-alike (named_in r) (h.ahead r e)
+  met-alike h (Err miss.Misaligned) e = both refl refl refl refl refl
+  met-alike h (Err miss.Outside) e = both refl refl refl refl refl
+  met-alike h (Ok r) e = fetched-alike (named_in r) (h.ahead r e)
 
   fetch-alike : ReadsSame w memory → Alike (fetch_step w) (fetch_step (over memory w))
   unfolding fetch_step
@@ -110,7 +108,7 @@ same-world w v e = cc
 
 -- a Fetch that goes to Move has read the next one ahead
 data Began (w : World) : Answer → Type 0 where
-  reads : {v : World} → (phase_number v.core.phase ≡ 2 → v.slot ≡ Ahead (look_at (home w.core) (home_bytes w) v.core.pointer.0))
+  reads : {v : World} → (phase_number v.core.phase ≡ 2 → v.slot ≡ Some (look_at (home w.core) (home_bytes w) v.core.pointer.0))
       → v.core.window ≡ w.core.window → Began w (taken v)
 
 module _ (w : World) where
@@ -128,19 +126,19 @@ module _ (w : World) where
       (pick (wants_length w.core.mode && eqb d.length 0) (empty_at w) (begins_at w d) (other 6 refl (λ z. absurd (omega arith)) refl) (reads (λ z. refl) refl))
 
   met-began : (l : Look) → Began w (settle (meets w l))
-  met-began Misaligned = other 6 refl (λ z. absurd (omega arith)) refl
-  met-began Outside = other 6 refl (λ z. absurd (omega arith)) refl
-  met-began (There r) = fetched-began (named_in r)
+  met-began (Err miss.Misaligned) = other 6 refl (λ z. absurd (omega arith)) refl
+  met-began (Err miss.Outside) = other 6 refl (λ z. absurd (omega arith)) refl
+  met-began (Ok r) = fetched-began (named_in r)
 
   fetch-began : Began w (settle (fetch_step w))
   unfolding fetch_step
   fetch-began = pick (not (run w.core.control)) (rests_at w) (meets w (seen w)) (other 0 refl (λ z. absurd (omega arith)) refl) (met-began (seen w))
 
   began-ahead : {a : Answer} {v : World} (k : Work) → Began w a → a ≡ taken v → v.core.phase ≡ Move k
-      → (v.slot ≡ Ahead (look_at (home w.core) (home_bytes w) v.core.pointer.0)) × (v.core.window ≡ w.core.window)
+      → (v.slot ≡ Some (look_at (home w.core) (home_bytes w) v.core.pointer.0)) × (v.core.window ≡ w.core.window)
   began-ahead {v = v} k (reads {v = u} f g) e p =
       let same = same-world u v e in (
-        subst (λ (x : World). phase_number x.core.phase ≡ 2 → x.slot ≡ Ahead (look_at (home w.core) (home_bytes w) x.core.pointer.0)) same f
+        subst (λ (x : World). phase_number x.core.phase ≡ 2 → x.slot ≡ Some (look_at (home w.core) (home_bytes w) x.core.pointer.0)) same f
             (ap phase_number p),
         subst (λ (x : World). x.core.window ≡ w.core.window) same g,
       )

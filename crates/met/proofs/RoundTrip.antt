@@ -1,6 +1,8 @@
 -- Images and machines come back from one another: a loaded image saved again gives the same bytes; a machine that keeps the
 -- rules saves to an image that loads back as it; bytes load as a machine exactly when it keeps the rules and they are its image.
 -- Assumes nothing.
+use Rattle.machine.specs.State.{Slot}
+use Rattle.std.specs.Prelude.{Result, Ok, Err, Some, None}
 use Prim.Native.Nat.{ℕ, zero, suc, ◌≤◌}
 use mathlib.Core.Path.{◌≡◌, refl, sym, ap, subst⁻¹, ◌∙◌}
 use mathlib.Core.Bool.{true, false}
@@ -9,12 +11,11 @@ use native.Mathlib.Omega.{arith}
 use lib.ListN.{length, get_or}
 use borrow.Author.Tests.{eqb-false}
 use Rattle.words.specs.Slices.{AllBytes}
-use Rattle.descriptor.specs.declared.Look.TheVariants.{Misaligned, Outside, There}
+use Rattle.bus.specs.declared.Refusal.{Refusal}
+use Rattle.descriptor.specs.declared.Miss.TheVariants as miss
 use Rattle.image.specs.declared.Fields.{Fields}
 use Rattle.image.specs.declared.Tail.{Tail}
 use Rattle.image.specs.Slot.{held}
-use Rattle.image.specs.declared.ReadImage.{ReadImage}
-use Rattle.image.specs.declared.ReadImage.TheVariants as read
 use Rattle.image.specs.Layout.{image, fields, tail, Typed}
 use Rattle.image.specs.Rules.{lowest_broken, keeps_rules, working, in_faulted}
 use Rattle.image.specs.Promise.{read_of}
@@ -22,12 +23,7 @@ use Rattle.image.proofs.Facts.{edition-is, mode-le, phase-le, armed-is, status-l
 use Rattle.image.proofs.Answers.{keeps, kept-none, good-keeps, good-image, good-typed, read-broken, read-image, image-tail, wrote-done}
 use Rattle.image.proofs.RoundTrip.{length-image, fields-image, tail-image}
 use Rattle.machine.specs.declared.Core.{Core}
-use Rattle.machine.specs.declared.Slot.{Slot}
-use Rattle.machine.specs.declared.Slot.TheVariants.{Empty, Ahead}
 use Rattle.machine.specs.declared.Machine.{Machine}
-use Rattle.machine.specs.declared.LoadedMachine.TheVariants.{Good}
-use Rattle.machine.specs.declared.SavedMachine.{SavedMachine}
-use Rattle.machine.specs.declared.SavedMachine.TheVariants as saved
 use Rattle.machine.specs.Saved as core
 use Rattle.machine.proofs.Answers.{was-loaded}
 use Rattle.met.specs.Theorems.{SavedAgain, LoadsBack, LoadsExactly, SameField}
@@ -48,14 +44,14 @@ core-back m = λ i. record {
 }
 
 slot-back : (s : Slot) (pointer number : ℕ) → core.slot_of (core.tail_with s pointer number) ≡ s
-slot-back Empty pointer number = refl
-slot-back (Ahead Misaligned) pointer number = refl
-slot-back (Ahead Outside) pointer number = refl
-slot-back (Ahead (There r)) pointer number = refl
+slot-back None pointer number = refl
+slot-back (Some (Err miss.Misaligned)) pointer number = refl
+slot-back (Some (Err miss.Outside)) pointer number = refl
+slot-back (Some (Ok r)) pointer number = refl
 
 run-back : (s : Slot) (pointer number : ℕ) → (core.tail_with s pointer number).run ≡ number
-run-back Empty pointer number = refl
-run-back (Ahead look) pointer number = refl
+run-back None pointer number = refl
+run-back (Some look) pointer number = refl
 
 pub machine-back : (m : Machine) → core.machine_of (core.fields_of m.core) (core.tail_of m) ≡ m
 machine-back m = λ i. record {
@@ -117,39 +113,39 @@ module _ (f : Fields) (t : Tail) (e : lowest_broken f t ≡ 0) where
     where
       by : (n : ℕ) → t.kind ≡ n → n ≤ 3 → core.tail_of (core.machine_of f t) ≡ t
       by zero k l =
-          ap (λ (n : ℕ). core.tail_with (get_or (Empty ∷ Ahead (There t.raw) ∷ Ahead Misaligned ∷ []) n (Ahead Outside)) f.pointer t.run) k
+          ap (λ (n : ℕ). core.tail_with (get_or (None ∷ Some (Ok t.raw) ∷ Some (Err miss.Misaligned) ∷ []) n (Some (Err miss.Outside))) f.pointer t.run) k
           ∙ (λ i. record { kind = sym k i; zero6 = sym (zero6-is f t e) i; at = sym (empty-at f t e k) i; raw = sym (empty-raw f t e k) i; run = t.run })
       by (suc zero) k l =
-          ap (λ (n : ℕ). core.tail_with (get_or (Empty ∷ Ahead (There t.raw) ∷ Ahead Misaligned ∷ []) n (Ahead Outside)) f.pointer t.run) k
+          ap (λ (n : ℕ). core.tail_with (get_or (None ∷ Some (Ok t.raw) ∷ Some (Err miss.Misaligned) ∷ []) n (Some (Err miss.Outside))) f.pointer t.run) k
           ∙ (λ i. record { kind = sym k i; zero6 = sym (zero6-is f t e) i; at = sym (held_at f t e (ap held k)) i; raw = t.raw; run = t.run })
       by (suc (suc zero)) k l =
-          ap (λ (n : ℕ). core.tail_with (get_or (Empty ∷ Ahead (There t.raw) ∷ Ahead Misaligned ∷ []) n (Ahead Outside)) f.pointer t.run) k
+          ap (λ (n : ℕ). core.tail_with (get_or (None ∷ Some (Ok t.raw) ∷ Some (Err miss.Misaligned) ∷ []) n (Some (Err miss.Outside))) f.pointer t.run) k
           ∙ (λ i. record { kind = sym k i; zero6 = sym (zero6-is f t e) i; at = sym (held_at f t e (ap held k)) i; raw = sym (fault-raw f t e (λ x. absurd (let y = k in omega arith))) i; run = t.run })
       by (suc (suc (suc zero))) k l =
-          ap (λ (n : ℕ). core.tail_with (get_or (Empty ∷ Ahead (There t.raw) ∷ Ahead Misaligned ∷ []) n (Ahead Outside)) f.pointer t.run) k
+          ap (λ (n : ℕ). core.tail_with (get_or (None ∷ Some (Ok t.raw) ∷ Some (Err miss.Misaligned) ∷ []) n (Some (Err miss.Outside))) f.pointer t.run) k
           ∙ (λ i. record { kind = sym k i; zero6 = sym (zero6-is f t e) i; at = sym (held_at f t e (ap held k)) i; raw = sym (fault-raw f t e (λ x. absurd (let y = k in omega arith))) i; run = t.run })
       by (suc (suc (suc (suc n)))) k l = absurd (omega arith)
 
 -- ---- load and save
 
 -- what a good load tells: the image was read as fields, and these are the machine's
-read-from : (t : Tail) (r : ReadImage) (m : Machine) → Good m ≡ core.loaded_as t r → (f : Fields) × (r ≡ read.Good f) × (m ≡ core.machine_of f t)
-read-from t (read.Good f) m e = (f, refl, cc)
-read-from t (read.Refused why) m e = absurd (let z : ◌≡◌ {A = ℕ} 0 1 = cc in omega arith)
+read-from : (t : Tail) (r : Result Fields Refusal) (m : Machine) → Ok m ≡ core.loaded_as t r → (f : Fields) × (r ≡ Ok f) × (m ≡ core.machine_of f t)
+read-from t (Ok f) m e = (f, refl, cc)
+read-from t (Err why) m e = absurd (let z : ◌≡◌ {A = ℕ} 0 1 = cc in omega arith)
 
-module _ {xs : List ℕ} {m : Machine} (l : core.WasLoaded xs (Good m)) where
-  pub from-read : (f : Fields) × (read_of xs ≡ read.Good f) × (m ≡ core.machine_of f (tail xs))
+module _ {xs : List ℕ} {m : Machine} (l : core.WasLoaded xs (Ok m)) where
+  pub from-read : (f : Fields) × (read_of xs ≡ Ok f) × (m ≡ core.machine_of f (tail xs))
   unfolding core.load_of
   from-read = read-from (tail xs) (read_of xs) m l.answer
 
   loaded-tail : core.tail_of m ≡ tail xs
   loaded-tail = let r = from-read in ap core.tail_of r.2 ∙ tail-there r.0 (tail xs) (good-keeps xs r.0 r.1)
 
-  loaded-read : read_of xs ≡ read.Good (core.fields_of m.core)
+  loaded-read : read_of xs ≡ Ok (core.fields_of m.core)
   loaded-read =
       let r = from-read in
       let f = r.0 in
-      r.1 ∙ ap read.Good (sym (ap (λ (x : Machine). core.fields_of x.core) r.2 ∙ fields-there f (tail xs) (good-keeps xs f r.1)))
+      r.1 ∙ ap Ok (sym (ap (λ (x : Machine). core.fields_of x.core) r.2 ∙ fields-there f (tail xs) (good-keeps xs f r.1)))
 
   pub loaded-keeps : core.keeps m ≡ true
   loaded-keeps =
@@ -163,23 +159,23 @@ module _ {xs : List ℕ} {m : Machine} (l : core.WasLoaded xs (Good m)) where
   loaded-image g = ap (image (core.fields_of m.core)) loaded-tail ∙ good-image xs (core.fields_of m.core) loaded-read g
 
 -- a machine that keeps the rules is saved, and what is left is its image
-pub saves : {m : Machine} {ys zs : List ℕ} {r : SavedMachine} → core.keeps m ≡ true → length ys ≡ 85 → core.WasSaved m ys r zs
-    → (r ≡ saved.Done) × (zs ≡ image (core.fields_of m.core) (core.tail_of m))
+pub saves : {m : Machine} {ys zs : List ℕ} {r : Result Unit Refusal} → core.keeps m ≡ true → length ys ≡ 85 → core.WasSaved m ys r zs
+    → (r ≡ (Ok tt)) × (zs ≡ image (core.fields_of m.core) (core.tail_of m))
 unfolding core.save_of
 saves {m} {ys} k l s =
     let w = wrote-done (core.fields_of m.core) (core.tail_of m) ys l k (image (core.fields_of m.core) (core.tail_of m)) refl in
-    (s.answer ∙ ap core.saved_as (sym w.answer), s.lent ∙ sym w.lent)
+    (s.answer ∙ sym w.answer, s.lent ∙ sym w.lent)
 
 -- the image of a machine that keeps the rules loads as it
 pub loads : (m : Machine) → Typed (core.fields_of m.core) (core.tail_of m) → core.keeps m ≡ true
-    → core.load_of (image (core.fields_of m.core) (core.tail_of m)) ≡ Good m
+    → core.load_of (image (core.fields_of m.core) (core.tail_of m)) ≡ Ok m
 unfolding core.load_of
 loads m p k =
     let f = core.fields_of m.core in
     let t = core.tail_of m in
     let e = kept-none f t k in
     ap (λ (x : Tail). core.loaded_as x (read_of (image f t))) (image-tail f t p e)
-    ∙ ap (core.loaded_as t) (read-image f t p e) ∙ ap Good (machine-back m)
+    ∙ ap (core.loaded_as t) (read-image f t p e) ∙ ap Ok (machine-back m)
 
 -- A loaded image saved again gives the same bytes.
 pub saved-again : SavedAgain
@@ -197,10 +193,10 @@ loads-back m ys zs r s t k l p q =
 pub loads-exactly : LoadsExactly
 loads-exactly xs m g t = (there, back)
   where
-    there : core.WasLoaded xs (Good m) → (core.keeps m ≡ true) × (xs ≡ image (core.fields_of m.core) (core.tail_of m))
+    there : core.WasLoaded xs (Ok m) → (core.keeps m ≡ true) × (xs ≡ image (core.fields_of m.core) (core.tail_of m))
     there l = (loaded-keeps l, sym (loaded-image l g))
 
-    back : (core.keeps m ≡ true) × (xs ≡ image (core.fields_of m.core) (core.tail_of m)) → core.WasLoaded xs (Good m)
+    back : (core.keeps m ≡ true) × (xs ≡ image (core.fields_of m.core) (core.tail_of m)) → core.WasLoaded xs (Ok m)
     back (k, e) = was-loaded (sym (ap core.load_of e ∙ loads m t k))
 
 -- A machine that breaks a rule is refused with the same field as its image is.

@@ -1,5 +1,6 @@
 -- What a register write does to the slot and to the run number; no step changes the number.
 -- Assumes nothing.
+use Rattle.std.specs.Prelude.{Ok, Err, None}
 use Prim.Native.Nat.{ℕ, ◌/◌, ◌%◌}
 use mathlib.Core.Path.{◌≡◌, refl, sym, ap, ◌∙◌}
 use mathlib.Core.Bool.{Bool, true, false, not, cond, ◌&&◌, and-false}
@@ -15,8 +16,6 @@ use Rattle.bus.specs.declared.Refusal.TheVariants.{NoRegister}
 use Rattle.machine.specs.declared.Machine.{Machine}
 use Rattle.machine.specs.declared.Phase.{Phase}
 use Rattle.machine.specs.declared.Phase.TheVariants.{Rest, Fetch, Move, WriteBack, Ended, Halted, Faulted}
-use Rattle.machine.specs.declared.Slot.TheVariants.{Empty}
-use Rattle.machine.specs.declared.registers.WroteRegister.TheVariants as wrote
 use Rattle.machine.specs.State.{settled}
 use Rattle.machine.specs.Saved.{keeps, spoiled}
 use Rattle.machine.specs.Registers.{control_stored, released, control_written, written_to, write_of}
@@ -24,14 +23,14 @@ use Rattle.machine.proofs.RunLaws.{run-tells}
 use Rattle.met.specs.Theorems.{SlotOutlives, RunNumberRises, RunNumberStays}
 
 -- a write that is done
-done-is : (m n : Machine) (offset v : ℕ) → wrote.Done n ≡ write_of m offset v → n ≡ written_to m offset v
+done-is : (m n : Machine) (offset v : ℕ) → Ok n ≡ write_of m offset v → n ≡ written_to m offset v
 unfolding write_of
 done-is m n offset v e = by (keeps m) (is_register offset) refl refl
   where
     by : (k r : Bool) → keeps m ≡ k → is_register offset ≡ r → n ≡ written_to m offset v
-    by true true f g = let d : wrote.Done n ≡ wrote.Done (written_to m offset v) = e ∙ rw (f, g) in cc
-    by true false f g = absurd (let d : wrote.Done n ≡ wrote.Refused NoRegister = e ∙ rw (f, g) in let z : ◌≡◌ {A = ℕ} 0 1 = cc in omega arith)
-    by false r f g = absurd (let d : wrote.Done n ≡ wrote.Refused (spoiled m) = e ∙ rw f in let z : ◌≡◌ {A = ℕ} 0 1 = cc in omega arith)
+    by true true f g = let d : Ok n ≡ Ok (written_to m offset v) = e ∙ rw (f, g) in cc
+    by true false f g = absurd (let d : Ok n ≡ Err NoRegister = e ∙ rw (f, g) in let z : ◌≡◌ {A = ℕ} 0 1 = cc in omega arith)
+    by false r f g = absurd (let d : Ok n ≡ Err (spoiled m) = e ∙ rw f in let z : ◌≡◌ {A = ℕ} 0 1 = cc in omega arith)
 
 pub slot-outlives : SlotOutlives
 slot-outlives m n offset v w other =
@@ -39,7 +38,7 @@ slot-outlives m n offset v w other =
     ap (λ (x : Machine). x.slot) is
     ∙ (λ i. settled (sym (ap (λ (x : Machine). x.core.phase) is) i) (same (eqb offset 0) (eqb offset 4) (eqb offset 8) refl refl refl i))
   where
-    same : (a b c : Bool) → eqb offset 0 ≡ a → eqb offset 4 ≡ b → eqb offset 8 ≡ c → chosen offset m.slot m.slot Empty m.slot ≡ m.slot
+    same : (a b c : Bool) → eqb offset 0 ≡ a → eqb offset 4 ≡ b → eqb offset 8 ≡ c → chosen offset m.slot m.slot None m.slot ≡ m.slot
     same true b c e f g = rw e
     same false true c e f g = rw (e, f)
     same false false true e f g = absurd (other (eqb-true offset 8 g))

@@ -1,5 +1,6 @@
 -- Descriptor control: "Bits 3..6 have no effect and are kept as given."
 -- Assumes nothing.
+use Rattle.std.specs.Prelude.{Ok}
 use Prim.Native.Nat.{ℕ, zero, suc, ◌/◌, ◌%◌}
 use mathlib.Core.Path.{◌≡◌, refl, sym, ap, subst, subst⁻¹, ◌∙◌}
 use mathlib.Core.Bool.{Bool, true, false, not, cond, ◌&&◌, ◌||◌}
@@ -10,9 +11,7 @@ use Rattle.words.specs.Bits.{bit}
 use Rattle.bus.specs.Window.{in_window}
 use Rattle.descriptor.specs.declared.Descriptor.{Descriptor}
 use Rattle.descriptor.specs.declared.Raw.{Raw}
-use Rattle.descriptor.specs.declared.Look.{Look}
-use Rattle.descriptor.specs.declared.Look.TheVariants.{There}
-use Rattle.descriptor.specs.Looking.{named_in}
+use Rattle.descriptor.specs.Looking.{named_in, Look}
 use Rattle.descriptor.specs.Layout.{owned}
 use Rattle.regs.specs.declared.Mode.{Mode}
 use Rattle.regs.specs.declared.Mode.TheVariants.{MemoryToMemory, MemoryToStream, StreamToMemory}
@@ -22,8 +21,7 @@ use Rattle.machine.specs.declared.Core.{Core}
 use Rattle.machine.specs.declared.Work.{Work}
 use Rattle.machine.specs.declared.Phase.{Phase}
 use Rattle.machine.specs.declared.Phase.TheVariants.{Rest, Fetch, Move, WriteBack, Ended, Halted, Faulted}
-use Rattle.machine.specs.declared.Slot.{Slot}
-use Rattle.machine.specs.State.{with_phase, settled}
+use Rattle.machine.specs.State.{with_phase, settled, Slot}
 use Rattle.machine.specs.Step.{World, Answer, taken, stopped, holding, settle, wants_length, fetched, seen, meets, fetch_step, source_of, destination_of, whole, with_byte, onward, copy_step, beat_for, send_to, send_step, receive_from, move_step, written_control, written_back, completed, back_to, write_back_step, step_in, step}
 use Rattle.met.specs.Reading.{over}
 use Rattle.met.specs.Unused.{SameUse, descriptor_under, work_under, phase_under, world_under, answer_under, answer_over, answer_holding, slot_after}
@@ -115,7 +113,7 @@ module _ (c : ℕ) (memory : List ℕ) (slot : Slot) (w : World) where
       (either (not (owned d.control.0)) (ends_at beside) (cond empty (empty_at beside) under) (ends_at w) (cond empty (empty_at w) (begins_at w d)) refl
       (either empty (empty_at beside) under (empty_at w) (begins_at w d) refl refl))
 
-  in-fetch : (r s : Raw) → seen w ≡ There r → seen beside ≡ There s → named_in s ≡ descriptor_under c (named_in r) → SameUse c (named_in r).control.0
+  in-fetch : (r s : Raw) → seen w ≡ Ok r → seen beside ≡ Ok s → named_in s ≡ descriptor_under c (named_in r) → SameUse c (named_in r).control.0
       → Under (settle (fetch_step beside)) (settle (fetch_step w))
   unfolding fetch_step
   in-fetch r s e f g same =

@@ -1,5 +1,6 @@
 -- A fresh machine keeps the rules, and every register write takes a machine that keeps them to one that does.
 -- Assumes nothing.
+use Rattle.std.specs.Prelude.{Result, Ok, Err, None}
 use Prim.Native.Nat.{ℕ, ◌/◌, ◌%◌, ◌≤◌, ◌<◌}
 use mathlib.Core.Path.{◌≡◌, refl, sym, ap, subst, subst⁻¹, ◌∙◌}
 use mathlib.Core.Bool.{Bool, true, false, not, cond, ◌&&◌, ◌||◌}
@@ -14,12 +15,10 @@ use Rattle.regs.specs.declared.Mode.{Mode}
 use Rattle.regs.specs.Control.{run, sw_reset, reset_by, started_by, raised, run_from}
 use Rattle.regs.specs.Offsets.{is_register}
 use Rattle.machine.specs.declared.Core.{Core}
-use Rattle.machine.specs.declared.Slot.TheVariants.{Empty}
+use Rattle.bus.specs.declared.Refusal.{Refusal}
 use Rattle.machine.specs.declared.Machine.{Machine}
 use Rattle.machine.specs.declared.Phase.{Phase}
 use Rattle.machine.specs.declared.Phase.TheVariants.{Rest, Fetch, Move, WriteBack, Ended, Halted, Faulted}
-use Rattle.machine.specs.declared.registers.WroteRegister.{WroteRegister}
-use Rattle.machine.specs.declared.registers.WroteRegister.TheVariants.{Done, Refused}
 use Rattle.machine.specs.State.{phase_number, with_pointer, with_phase, with_busy, fresh_core, settled, machine_with, fresh}
 use Rattle.machine.specs.Saved.{keeps}
 use Rattle.machine.specs.Registers.{status_written, control_stored, released, control_written, written_to, write_of}
@@ -56,9 +55,9 @@ run-stored v =
     let same : v % 262144 / 32 % 2 ≡ v / 32 % 2 = omega arith in
     ap (λ (n : ℕ). eqb n 1) same
 
-abbrev AfterWrite : WroteRegister → Type 0
-AfterWrite (Done n) = MachineKept n
-AfterWrite (Refused why) = Unit {0}
+abbrev AfterWrite : Result Machine Refusal → Type 0
+AfterWrite (Ok n) = MachineKept n
+AfterWrite (Err why) = Unit {0}
 
 module _ (v : ℕ) {m : Core} (k : RulesKept m) where
   status-kept : RulesKept (status_written v m)
@@ -131,8 +130,8 @@ with-slot {m} k c number r e a n =
     }
 
 -- and one with nothing read ahead
-nothing-held : (p : Phase) (w : Window) (a : ℕ) → HoldsIn (phase_number p) w a (settled p Empty)
-nothing-held p w a = settles 0 w a p Empty tt
+nothing-held : (p : Phase) (w : Window) (a : ℕ) → HoldsIn (phase_number p) w a (settled p None)
+nothing-held p w a = settles 0 w a p None tt
 
 module _ (v : ℕ) {m : Machine} (k : MachineKept m) where
   -- a control write: the reset, or what is stored

@@ -2,7 +2,7 @@
 -- never more than 65,536. The theorems are `owes-at-most`, `owes-steps`, `stands-then`, `obeys`, `runs-obey`, `cleared-by-write`,
 -- `obeys-in-run` and `bound-is-met`.
 -- Assumes nothing.
-use Rattle.std.specs.Prelude.{ℕ, ◌+◌, ◌-◌, ◌≤◌, ◌≡◌, true, false, [], length, replicate}
+use Rattle.std.specs.Prelude.{ℕ, ◌+◌, ◌-◌, ◌≤◌, ◌≡◌, true, false, [], length, replicate, Ok, None}
 use Rattle.words.specs.Slices.{AllBytes}
 use Rattle.regs.specs.declared.Mode.{Mode}
 use Rattle.regs.specs.declared.Mode.TheVariants.{MemoryToMemory, MemoryToStream, StreamToMemory}
@@ -11,13 +11,11 @@ use Rattle.machine.specs.declared.Core.{Core}
 use Rattle.machine.specs.declared.Machine.{Machine}
 use Rattle.machine.specs.declared.Work.{Work}
 use Rattle.machine.specs.declared.Ran.{Ran}
-use Rattle.machine.specs.declared.RunAnswer.TheVariants as many
 use Rattle.machine.specs.declared.Phase.{Phase}
 use Rattle.machine.specs.declared.Phase.TheVariants.{Rest, Fetch, Move, WriteBack, Ended, Halted, Faulted}
 use Rattle.machine.specs.declared.Fault.{Fault}
 use Rattle.machine.specs.declared.Reason.{Reason}
 use Rattle.machine.specs.declared.Reason.TheVariants as reason
-use Rattle.machine.specs.declared.Slot.TheVariants.{Empty}
 use Rattle.machine.specs.State.{with_phase, with_busy, fresh_core, machine_with}
 use Rattle.machine.specs.Step.{World, opened, whole}
 use Rattle.machine.specs.Run.{Lent, Returned, HasRun}
@@ -82,7 +80,7 @@ pub data Stands (w : World) : Reason → Phase → Type 0 where
 pub data RunsOn : Machine → Machine → ℕ → Type 0 where
   none : {m : Machine} → RunsOn m m 0
   one_more : {m n : Machine} {t budget : ℕ} {l : Lent} {r : Ran} {b : Returned} → RunsOn m n t → AllBytes l.window → AllBytes l.beats
-      → HasRun n l budget (many.Done r) b → RunsOn m r.machine (t + r.steps)
+      → HasRun n l budget (Ok r) b → RunsOn m r.machine (t + r.steps)
 
 -- what a run tells that obeys
 pub record ObeyedRun (r : Ran) : Type 0 where
@@ -103,4 +101,4 @@ longest_core = with_phase (Move longest_work) (with_busy true (fresh_core Stream
 -- over a window of 64 bytes, with 65,535 beats and room for one record
 abbrev pub longest : World
 longest =
-    opened (machine_with longest_core Empty 1) (replicate 64 0) (replicate 65535 0) 0 1
+    opened (machine_with longest_core None 1) (replicate 64 0) (replicate 65535 0) 0 1

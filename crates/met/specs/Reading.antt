@@ -3,9 +3,8 @@
 -- bytes alone. That their steps are alike, but for what a Fetch reads, is `read-in-fetch-alone`; that what was read ahead is used is
 -- `used-as-read`.
 -- Assumes nothing.
-use Rattle.std.specs.Prelude.{ℕ, ◌≡◌, List}
+use Rattle.std.specs.Prelude.{ℕ, ◌≡◌, List, Ok}
 use Rattle.descriptor.specs.declared.Raw.{Raw}
-use Rattle.descriptor.specs.declared.Look.TheVariants.{There}
 use Rattle.descriptor.specs.Looking.{named_in, look_at}
 use Rattle.machine.specs.declared.Work.{Work}
 use Rattle.machine.specs.declared.Phase.TheVariants.{Fetch, Move, WriteBack}
@@ -20,7 +19,7 @@ over memory w = stored w w.core memory
 -- a Fetch reads the same over both: what it goes by, and, behind a descriptor, the next one
 pub record ReadsSame (w : World) (memory : List ℕ) : Type 0 where
   pub used : seen w ≡ seen (over memory w)
-  pub ahead : (r : Raw) → seen w ≡ There r
+  pub ahead : (r : Raw) → seen w ≡ Ok r
       → look_at (home w.core) (home_bytes w) (named_in r).next ≡ look_at (home w.core) memory (named_in r).next
 
 -- both steps are taken, to the same machine, and leave the same beats and the same room; or both cannot be, for the same reason

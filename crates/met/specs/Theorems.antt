@@ -1,32 +1,24 @@
 -- What is proved of the machines met in use: each theorem's whole statement, under its name. A term of each stands in proofs/.
 -- Assumes nothing.
-use Rattle.std.specs.Prelude.{ℕ, ◌+◌, ◌^◌, ◌≤◌, ◌<◌, ◌≡◌, true, false, not, cond, ◌&&◌, List, ◌↔◌, ◌≢◌, length}
+use Rattle.std.specs.Prelude.{ℕ, ◌+◌, ◌^◌, ◌≤◌, ◌<◌, ◌≡◌, true, false, not, cond, ◌&&◌, List, ◌↔◌, ◌≢◌, length, Result, Ok, Err, None}
 use Rattle.words.specs.Bits.{bit}
 use Rattle.words.specs.Numbers.{Fit}
 use Rattle.words.specs.Slices.{AllBytes}
 use Rattle.image.specs.Layout.{fields_in, values, widths, image, Typed}
 use Rattle.image.specs.Editions.{broken_in, ImageMoved}
 use Rattle.descriptor.specs.declared.Raw.{Raw}
-use Rattle.descriptor.specs.declared.Look.TheVariants.{There}
+use Rattle.bus.specs.declared.Refusal.{Refusal}
 use Rattle.descriptor.specs.Looking.{named_in, look_at, WordsFit}
 use Rattle.regs.specs.Control as control
 use Rattle.regs.specs.Control.{raised}
 use Rattle.machine.specs.declared.Core.{Core}
-use Rattle.machine.specs.declared.Slot.{Slot}
-use Rattle.machine.specs.declared.Slot.TheVariants.{Empty}
 use Rattle.machine.specs.declared.Machine.{Machine}
-use Rattle.machine.specs.State.{home, settled}
+use Rattle.machine.specs.State.{home, settled, Slot}
 use Rattle.machine.specs.declared.Work.{Work}
 use Rattle.machine.specs.declared.Fault.{Fault}
 use Rattle.machine.specs.declared.Phase.TheVariants.{Fetch, Move, WriteBack, Faulted}
 use Rattle.machine.specs.declared.Reason.TheVariants as reason
-use Rattle.machine.specs.declared.LoadedMachine.{LoadedMachine}
-use Rattle.machine.specs.declared.LoadedMachine.TheVariants.{Good, Refused}
-use Rattle.machine.specs.declared.SavedMachine.{SavedMachine}
-use Rattle.machine.specs.declared.SavedMachine.TheVariants as saved
 use Rattle.machine.specs.declared.Ran.{Ran}
-use Rattle.machine.specs.declared.RunAnswer.TheVariants as many
-use Rattle.machine.specs.declared.registers.WroteRegister.TheVariants as wrote
 use Rattle.machine.specs.Saved.{fields_of, core_of, tail_of, keeps, spoiled, load_of, WasLoaded, WasSaved}
 use Rattle.machine.specs.Registers.{WasWritten}
 use Rattle.machine.specs.Step.{World, home_bytes, taken, holding, seen, written_control, written_back, step}
@@ -43,46 +35,46 @@ use Rattle.met.specs.Unused.{SameUse, descriptor_under, work_under, world_under,
 
 -- A loaded image saved again gives the same bytes.
 abbrev pub SavedAgain : Type 0
-SavedAgain = (xs ys zs : List ℕ) (m : Machine) (r : SavedMachine) → AllBytes xs → length ys ≡ 85
-    → WasLoaded xs (Good m) → WasSaved m ys r zs → (r ≡ saved.Done) × (zs ≡ xs)
+SavedAgain = (xs ys zs : List ℕ) (m : Machine) (r : Result Unit Refusal) → AllBytes xs → length ys ≡ 85
+    → WasLoaded xs (Ok m) → WasSaved m ys r zs → (r ≡ (Ok tt)) × (zs ≡ xs)
 
 -- A machine that keeps the rules saves to an image that loads back as it.
 abbrev pub LoadsBack : Type 0
-LoadsBack = (m : Machine) (ys zs : List ℕ) (r : SavedMachine) (s : LoadedMachine) → Typed (fields_of m.core) (tail_of m) → keeps m ≡ true
-    → length ys ≡ 85 → WasSaved m ys r zs → WasLoaded zs s → (r ≡ saved.Done) × (s ≡ Good m)
+LoadsBack = (m : Machine) (ys zs : List ℕ) (r : Result Unit Refusal) (s : Result Machine Refusal) → Typed (fields_of m.core) (tail_of m) → keeps m ≡ true
+    → length ys ≡ 85 → WasSaved m ys r zs → WasLoaded zs s → (r ≡ (Ok tt)) × (s ≡ Ok m)
 
 -- Bytes load as m exactly when m keeps the rules and they are its image.
 abbrev pub LoadsExactly : Type 0
 LoadsExactly = (xs : List ℕ) (m : Machine) → AllBytes xs → Typed (fields_of m.core) (tail_of m)
-    → WasLoaded xs (Good m) ↔ ((keeps m ≡ true) × (xs ≡ image (fields_of m.core) (tail_of m)))
+    → WasLoaded xs (Ok m) ↔ ((keeps m ≡ true) × (xs ≡ image (fields_of m.core) (tail_of m)))
 
 -- Order 1: a machine that breaks a rule is refused with the same field as its image is, where its numbers fit their widths, so that it
 -- has one.
 abbrev pub SameField : Type 0
-SameField = (m : Machine) → Fit widths (values (fields_of m.core) (tail_of m)) → WordsFit (tail_of m).raw → keeps m ≡ false → load_of (image (fields_of m.core) (tail_of m)) ≡ Refused (spoiled m)
+SameField = (m : Machine) → Fit widths (values (fields_of m.core) (tail_of m)) → WordsFit (tail_of m).raw → keeps m ≡ false → load_of (image (fields_of m.core) (tail_of m)) ≡ Err (spoiled m)
 
 -- Order 5: a machine moved forward is that of its old fields with an empty slot and run number 0, so that every register read, run and
 -- line of it answers as that machine's.
 abbrev pub MovedForward : Type 0
 MovedForward = (xs to to' : List ℕ) (r : ℕ) → length xs ≡ 44 → broken_in xs ≡ 0 → length to ≡ 85 → ImageMoved xs to r to'
-    → (r ≡ 0) × (load_of to' ≡ Good (in_run_zero (core_of (fields_in 1 xs))))
+    → (r ≡ 0) × (load_of to' ≡ Ok (in_run_zero (core_of (fields_in 1 xs))))
 
 -- Order 5: a move back is allowed exactly when the slot is empty.
 abbrev pub BackExactly : Type 0
-BackExactly = (xs to to' : List ℕ) (m : Machine) (r : ℕ) → load_of xs ≡ Good m → length to ≡ 44 → ImageMoved xs to r to'
-    → (r ≡ 0) ↔ (m.slot ≡ Empty)
+BackExactly = (xs to to' : List ℕ) (m : Machine) (r : ℕ) → load_of xs ≡ Ok m → length to ≡ 44 → ImageMoved xs to r to'
+    → (r ≡ 0) ↔ (m.slot ≡ None)
 
 -- Order 5: "back then forward gives the machine with run number 0". Its slot was empty.
 abbrev pub BackThenForward : Type 0
-BackThenForward = (xs to to' again again' : List ℕ) (m : Machine) (r s : ℕ) → load_of xs ≡ Good m → m.slot ≡ Empty
+BackThenForward = (xs to to' again again' : List ℕ) (m : Machine) (r s : ℕ) → load_of xs ≡ Ok m → m.slot ≡ None
     → length to ≡ 44 → length again ≡ 85 → ImageMoved xs to r to' → ImageMoved to' again s again'
-    → (r ≡ 0) × (s ≡ 0) × (load_of again' ≡ Good (in_run_zero m.core))
+    → (r ≡ 0) × (s ≡ 0) × (load_of again' ≡ Ok (in_run_zero m.core))
 
 -- ---- the rules are kept
 
 -- Every register write takes a machine that keeps the rules to one that keeps them.
 abbrev pub WriteKeeps : Type 0
-WriteKeeps = (m n : Machine) (offset v : ℕ) → Sound m → v < 2 ^ 32 → WasWritten m offset v (wrote.Done n) → Sound n
+WriteKeeps = (m n : Machine) (offset v : ℕ) → Sound m → v < 2 ^ 32 → WasWritten m offset v (Ok n) → Sound n
 
 -- So does every step.
 abbrev pub StepKeeps : Type 0
@@ -98,8 +90,8 @@ MetKeeps = (m : Machine) → Met m → keeps m ≡ true
 
 -- Every machine met in use saves to an image that loads back as it.
 abbrev pub MetSaves : Type 0
-MetSaves = (m : Machine) (ys zs : List ℕ) (r : SavedMachine) (s : LoadedMachine) → Met m → length ys ≡ 85
-    → WasSaved m ys r zs → WasLoaded zs s → (r ≡ saved.Done) × (s ≡ Good m)
+MetSaves = (m : Machine) (ys zs : List ℕ) (r : Result Unit Refusal) (s : Result Machine Refusal) → Met m → length ys ≡ 85
+    → WasSaved m ys r zs → WasLoaded zs s → (r ≡ (Ok tt)) × (s ≡ Ok m)
 
 -- ---- Faulted
 
@@ -111,7 +103,7 @@ FaultedStands = (w : World) (f : Fault) → w.core.phase ≡ Faulted f → (budg
 -- Only reset leaves Faulted: every other register write keeps it.
 abbrev pub OnlyResetLeaves : Type 0
 OnlyResetLeaves = (m : Machine) (f : Fault) → m.core.phase ≡ Faulted f → (offset v : ℕ) (n : Machine)
-    → WasWritten m offset v (wrote.Done n) → AfterWrite m f offset v n
+    → WasWritten m offset v (Ok n) → AfterWrite m f offset v n
 
 -- ---- descriptors
 
@@ -127,13 +119,13 @@ UsedAsRead = (w v u : World) (k : Work) → w.core.phase ≡ Fetch → step w �
 
 -- The slot outlives every register write but a pointer write, as the phase leaves it; a reset goes to Rest.
 abbrev pub SlotOutlives : Type 0
-SlotOutlives = (m n : Machine) (offset v : ℕ) → WasWritten m offset v (wrote.Done n) → offset ≢ 8 → n.slot ≡ settled n.core.phase m.slot
+SlotOutlives = (m n : Machine) (offset v : ℕ) → WasWritten m offset v (Ok n) → offset ≢ 8 → n.slot ≡ settled n.core.phase m.slot
 
 -- ---- the run number
 
 -- It rises by 1 whenever RUN goes 0 to 1, stays at its largest value, and no other register write changes it.
 abbrev pub RunNumberRises : Type 0
-RunNumberRises = (m n : Machine) (offset v : ℕ) → WasWritten m offset v (wrote.Done n)
+RunNumberRises = (m n : Machine) (offset v : ℕ) → WasWritten m offset v (Ok n)
     → n.run ≡ cond (not (control.run m.core.control) && control.run n.core.control) (raised m.run) m.run
 
 -- Nor does a run.
@@ -145,8 +137,8 @@ RunNumberStays = (budget : ℕ) (w : World) → (run budget w).world.run ≡ w.r
 -- Descriptor control bits 3 to 6 have no effect. In Fetch the step over bytes, and with a slot, of which the descriptor that it goes by has
 -- another control with the same use is the same, but for that control, which is kept, and for what is read ahead.
 abbrev pub NoEffectInFetch : Type 0
-NoEffectInFetch = (c : ℕ) (memory : List ℕ) (slot : Slot) (w : World) (r s : Raw) → w.core.phase ≡ Fetch → seen w ≡ There r
-    → seen (over memory (holding w slot)) ≡ There s → named_in s ≡ descriptor_under c (named_in r) → SameUse c (named_in r).control.0
+NoEffectInFetch = (c : ℕ) (memory : List ℕ) (slot : Slot) (w : World) (r s : Raw) → w.core.phase ≡ Fetch → seen w ≡ Ok r
+    → seen (over memory (holding w slot)) ≡ Ok s → named_in s ≡ descriptor_under c (named_in r) → SameUse c (named_in r).control.0
     → step (over memory (holding w slot))
     ≡ answer_holding (slot_after (step (over memory (holding w slot)))) (answer_over memory (answer_under c (step w)))
 
@@ -196,14 +188,14 @@ RunsObey = (m n : Machine) (t : ℕ) → Met m → Cleared m.core → RunsOn m n
 
 -- A write of control with RUN clear leaves RUN clear.
 abbrev pub ClearedByWrite : Type 0
-ClearedByWrite = (m n : Machine) (v : ℕ) → control.run (control.as_control v) ≡ false → WasWritten m 4 v (wrote.Done n) → Cleared n.core
+ClearedByWrite = (m n : Machine) (v : ℕ) → control.run (control.as_control v) ≡ false → WasWritten m 4 v (Ok n) → Cleared n.core
 
 -- From any machine met in use: once control is written with RUN clear, one run with beats, room and a record as needed and a budget of 65,536
 -- stops at Rest, with BUSY 0, or at a fault, after no more than 65,536 steps.
 abbrev pub ObeysInRun : Type 0
 ObeysInRun = (m n : Machine) (v : ℕ) (l : Lent) (budget : ℕ) (r : Ran) (b : Returned) → Met m → v < 2 ^ 32
-    → control.run (control.as_control v) ≡ false → WasWritten m 4 v (wrote.Done n) → AllBytes l.window → AllBytes l.beats
-    → Supplied (world_of n l) → 65536 ≤ budget → HasRun n l budget (many.Done r) b → ObeyedRun r
+    → control.run (control.as_control v) ≡ false → WasWritten m 4 v (Ok n) → AllBytes l.window → AllBytes l.beats
+    → Supplied (world_of n l) → 65536 ≤ budget → HasRun n l budget (Ok r) b → ObeyedRun r
 
 -- The bound is met: a core with RUN clear that takes 65,536 steps before it rests.
 abbrev pub BoundIsMet : Type 0

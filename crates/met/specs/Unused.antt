@@ -2,15 +2,13 @@
 -- step is the same under both is `no-effect-in-fetch` and the two laws beside it; that what is written back has the bits as given is
 -- `kept-as-given`.
 -- Assumes nothing.
-use Rattle.std.specs.Prelude.{ℕ, ◌≡◌, List}
+use Rattle.std.specs.Prelude.{ℕ, ◌≡◌, List, None}
 use Rattle.descriptor.specs.declared.Descriptor.{Descriptor}
 use Rattle.descriptor.specs.Layout.{generate_eop, read_fixed, write_fixed, owned}
 use Rattle.machine.specs.declared.Work.{Work}
 use Rattle.machine.specs.declared.Phase.{Phase}
 use Rattle.machine.specs.declared.Phase.TheVariants.{Rest, Fetch, Move, WriteBack, Ended, Halted, Faulted}
-use Rattle.machine.specs.declared.Slot.{Slot}
-use Rattle.machine.specs.declared.Slot.TheVariants.{Empty}
-use Rattle.machine.specs.State.{with_phase}
+use Rattle.machine.specs.State.{with_phase, Slot}
 use Rattle.machine.specs.Step.{World, Answer, taken, stopped, became, holding}
 use Rattle.met.specs.Reading.{over}
 
@@ -78,4 +76,4 @@ answer_holding slot (stopped r) = stopped r
 -- the slot that an answer leaves
 abbrev pub slot_after : Answer → Slot
 slot_after (taken w) = w.slot
-slot_after (stopped r) = Empty
+slot_after (stopped r) = None

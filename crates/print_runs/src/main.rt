@@ -2,6 +2,7 @@
 // status, the pointer, the descriptor's last four bytes, the fault, and the beats made. It ends with the error of a write that failed.
 #![tactic(auto)]
 
+use bus::Refusal;
 use std::io;
 
 // What differs from run to run. The descriptor stands at 4096 of a window of 256 bytes at 4096, and two bytes are held at 4224.
@@ -43,50 +44,48 @@ const EIGHT: [u8; 16] = [
     0, 0x11, 0, 0x22, 0, 0x33, 0, 0x44, 0, 0x11, 0, 0x22, 0, 0x33, 0, 0x44,
 ];
 
-fn say(rt: &impl Print, text: &str) -> io::Result<()> {
-    print!(rt; "{text}")
+// No call of these runs is refused.
+fn refused(_why: Refusal) -> io::Error {
+    io::Error::other("a call was refused")
 }
 
-fn number(rt: &impl Print, name: &str, n: u64) -> io::Result<()> {
-    print!(rt; "{name}{n}")
+fn byte(from: &[u8], at: usize) -> u8 {
+    from.get(at).copied().unwrap_or(0)
 }
 
-fn hex(rt: &impl Print, name: &str, n: u64) -> io::Result<()> {
-    print!(rt; "{name}{n:08x}")
-}
-
-fn wide(x: u8) -> u64 {
-    x as u64
-}
-
-fn byte(from: &[u8], at: usize) -> u64 {
-    if at < from.len() { wide(from[at]) } else { 0 }
-}
-
-fn word(from: &[u8], at: usize) -> u64 {
-    words::get_u32(words::Order::MostFirst, from, at) as u64
+fn word(from: &[u8], at: usize) -> u32 {
+    words::get_u32(words::Order::MostFirst, from, at)
 }
 
 // The value of a register.
-fn register(image: &[u8], offset: u32) -> u64 {
+fn register(image: &[u8], offset: u32) -> Result<u32, Refusal> {
     let mut value = [0u8; 4];
-    sgdma::sgdma_read_register(image, offset, &mut value);
-    word(&value, 0)
+    sgdma::sgdma_read_register(image, offset, &mut value)?;
+    Ok(word(&value, 0))
 }
 
 // What is found after a run. The fault's code and address stand in the image.
-fn told(rt: &impl Print, image: &[u8], window: &[u8], out: &[u8], report: &[u8]) -> io::Result<()> {
-    number(rt, " reason ", byte(report, 1))?;
-    number(rt, " steps ", word(report, 2))?;
-    number(rt, " taken ", word(report, 6))?;
-    number(rt, " made ", word(report, 10))?;
-    number(rt, " status ", register(image, 0))?;
-    number(rt, " pointer ", register(image, 8))?;
-    number(rt, " fault ", byte(image, 1) % 32)?;
-    number(rt, " at ", word(image, 40))?;
-    hex(rt, " last ", word(window, 28))?;
-    hex(rt, " out ", word(out, 0))?;
-    say(rt, "\n")
+fn tell(
+    rt: &impl Print,
+    name: &str,
+    image: &[u8],
+    window: &[u8],
+    out: &[u8],
+    report: &[u8],
+) -> io::Result<()> {
+    let reason = byte(report, 1);
+    let steps = word(report, 2);
+    let taken = word(report, 6);
+    let made = word(report, 10);
+    let status = register(image, 0).map_err(refused)?;
+    let pointer = register(image, 8).map_err(refused)?;
+    let fault = byte(image, 1) % 32;
+    let at = word(image, 40);
+    let last = word(window, 28);
+    let first = word(out, 0);
+    print!(rt; "{name} reason {reason} steps {steps} taken {taken} made {made}")?;
+    print!(rt; " status {status} pointer {pointer} fault {fault} at {at}")?;
+    println!(rt; " last {last:08x} out {first:08x}")
 }
 
 // One run, over a fresh core, with room for two beats.
@@ -98,7 +97,7 @@ fn made(rt: &impl Print, name: &str, row: Row, beats: &[u8]) -> io::Result<()> {
     let mut report = [0u8; 18];
     window[128] = row.held;
     window[129] = row.also;
-    sgdma::sgdma_create(&mut image, row.mode, BASE, 256);
+    sgdma::sgdma_create(&mut image, row.mode, BASE, 256).map_err(refused)?;
     sgdma::sgdma_build_descriptor(
         &mut window,
         BASE,
@@ -108,9 +107,10 @@ fn made(rt: &impl Print, name: &str, row: Row, beats: &[u8]) -> io::Result<()> {
         row.next,
         row.length,
         row.owned,
-    );
-    sgdma::sgdma_write_register(&mut image, 8, row.pointer);
-    sgdma::sgdma_write_register(&mut image, 4, row.control);
+    )
+    .map_err(refused)?;
+    sgdma::sgdma_write_register(&mut image, 8, row.pointer).map_err(refused)?;
+    sgdma::sgdma_write_register(&mut image, 4, row.control).map_err(refused)?;
     sgdma::sgdma_run(
         &mut image,
         &mut window,
@@ -120,88 +120,100 @@ fn made(rt: &impl Print, name: &str, row: Row, beats: &[u8]) -> io::Result<()> {
         0,
         row.budget,
         &mut report,
-    );
-    say(rt, name)?;
-    told(rt, &image, &window, &out, &report)
+    )
+    .map_err(refused)?;
+    tell(rt, name, &image, &window, &out, &report)
 }
 
-// Runs whose pointer or descriptor is at fault, or just not.
-fn placed(rt: &impl Print) -> io::Result<()> {
-    let destination = 4350;
-    made(
-        rt,
-        "7.",
-        Row {
-            destination,
-            ..FIRST
-        },
-        &FOUR,
-    )?;
-    let pointer = 4098;
-    made(rt, "8. 4098", Row { pointer, ..FIRST }, &FOUR)?;
-    let pointer = 4324;
-    made(rt, "8. 4324", Row { pointer, ..FIRST }, &FOUR)?;
-    let pointer = 4320;
-    made(rt, "8. 4320", Row { pointer, ..FIRST }, &FOUR)
-}
-
-// Runs in the modes that read memory.
-fn reading(rt: &impl Print) -> io::Result<()> {
-    let mode = 0;
-    let length = 0;
-    made(
-        rt,
-        "9.",
-        Row {
-            mode,
-            length,
-            ..FIRST
-        },
-        &FOUR,
-    )?;
-    let sent = Row {
-        mode: 1,
-        source: 4224,
-        length: 2,
-        owned: 0x85,
-        held: 0xAA,
-        also: 0xBB,
-        ..FIRST
-    };
-    made(rt, "10. length 2", sent, &FOUR)?;
-    let length = 1;
-    made(rt, "10. length 1", Row { length, ..sent }, &FOUR)
-}
+// From memory to a stream, two bytes as they are held.
+const SENT: Row = Row {
+    mode: 1,
+    source: 4224,
+    length: 2,
+    owned: 0x85,
+    held: 0xAA,
+    also: 0xBB,
+    ..FIRST
+};
 
 fn main(rt: HostRuntime) -> io::Result<()> {
-    made(&rt, "1.", FIRST, &FOUR)?;
-    made(&rt, "2.", FIRST, &[0, 0x11, 1, 0x22, 0, 0x33, 0, 0x44])?;
-    let pointer = 4128;
-    made(&rt, "3.", Row { pointer, ..FIRST }, &FOUR)?;
-    made(&rt, "4.", FIRST, &[0, 0x11, 0, 0x22, 0, 0x33])?;
-    let control = 0x60;
-    made(
-        &rt,
-        "5.",
-        Row { control, ..FIRST },
-        &[0, 0x11, 0, 0x22, 6, 0x33, 0, 0x44],
-    )?;
-    let control = 0x2_0020;
-    let next = 4096;
-    made(
-        &rt,
-        "6.",
-        Row {
-            control,
-            next,
-            ..FIRST
-        },
-        &EIGHT,
-    )?;
-    placed(&rt)?;
-    reading(&rt)?;
-    let budget = 8;
-    made(&rt, "11. budget 8", Row { budget, ..FIRST }, &FOUR)?;
-    let budget = 7;
-    made(&rt, "11. budget 7", Row { budget, ..FIRST }, &FOUR)
+    let runs: [(&str, Row, &[u8]); 15] = [
+        ("1.", FIRST, &FOUR),
+        ("2.", FIRST, &[0, 0x11, 1, 0x22, 0, 0x33, 0, 0x44]),
+        (
+            "3.",
+            Row {
+                pointer: 4128,
+                ..FIRST
+            },
+            &FOUR,
+        ),
+        ("4.", FIRST, &[0, 0x11, 0, 0x22, 0, 0x33]),
+        (
+            "5.",
+            Row {
+                control: 0x60,
+                ..FIRST
+            },
+            &[0, 0x11, 0, 0x22, 6, 0x33, 0, 0x44],
+        ),
+        (
+            "6.",
+            Row {
+                control: 0x2_0020,
+                next: 4096,
+                ..FIRST
+            },
+            &EIGHT,
+        ),
+        (
+            "7.",
+            Row {
+                destination: 4350,
+                ..FIRST
+            },
+            &FOUR,
+        ),
+        (
+            "8. 4098",
+            Row {
+                pointer: 4098,
+                ..FIRST
+            },
+            &FOUR,
+        ),
+        (
+            "8. 4324",
+            Row {
+                pointer: 4324,
+                ..FIRST
+            },
+            &FOUR,
+        ),
+        (
+            "8. 4320",
+            Row {
+                pointer: 4320,
+                ..FIRST
+            },
+            &FOUR,
+        ),
+        (
+            "9.",
+            Row {
+                mode: 0,
+                length: 0,
+                ..FIRST
+            },
+            &FOUR,
+        ),
+        ("10. length 2", SENT, &FOUR),
+        ("10. length 1", Row { length: 1, ..SENT }, &FOUR),
+        ("11. budget 8", Row { budget: 8, ..FIRST }, &FOUR),
+        ("11. budget 7", Row { budget: 7, ..FIRST }, &FOUR),
+    ];
+    for (name, row, beats) in runs {
+        made(&rt, name, row, beats)?;
+    }
+    Ok(())
 }

@@ -1,8 +1,7 @@
 -- The choice among the three registers, by the tests that led there.
 -- Assumes nothing.
 use Prim.Native.Nat.{ℕ}
-use mathlib.Core.Path.{◌≡◌, refl}
-use mathlib.Core.Bool.{Bool, true, false, cond, ◌||◌}
+use mathlib.Core.Path.{◌≡◌}
 use borrow.Author.Tests.{ne_eqb}
 use Rattle.regs.specs.Offsets.{chosen}
 
@@ -18,10 +17,3 @@ module _ {A : Type 0} (status control pointer none : A) (offset : ℕ) where
 
   pub at_none : (offset ≡ 0 → ⊥) → (offset ≡ 4 → ⊥) → (offset ≡ 8 → ⊥) → chosen offset status control pointer none ≡ none
   at_none e f g = rw (ne_eqb offset 0 e, ne_eqb offset 4 f, ne_eqb offset 8 g)
-
--- the three offsets asked for one by one
-pub any_of : (a b c : Bool) → (a || b || c) ≡ cond a true (cond b true (cond c true false))
-any_of true b c = refl
-any_of false true c = refl
-any_of false false true = refl
-any_of false false false = refl

@@ -9,49 +9,46 @@ ghost use Rattle.regs.specs.Control.{reset_by, count_from, run_from, started_by,
 ghost use Rattle.regs.specs.Offsets.{is_register, register_at};
 
 use bus::Refusal;
-use words::{flag, has};
+use words::has;
 
 // What moves where; numbered 0, 1, 2.
-#[derive(Clone, Copy)]
+#[derive(Clone, Copy, Debug, PartialEq, Eq)]
 pub enum Mode {
     MemoryToMemory,
     MemoryToStream,
     StreamToMemory,
 }
 
-// A mode, or BadMode.
-#[derive(Clone, Copy)]
-pub enum CheckedMode {
-    Good(Mode),
-    Refused(Refusal),
-}
+impl From<Mode> for u8 {
+    ghost from_gives = { λ mode n. Gives (mode_number mode) n };
 
-impl Mode {
-    pub fn number(self) -> u8
-        ensures { Gives (mode_number self) result }
-    {
-        match self {
+    fn from(mode: Mode) -> u8 {
+        match mode {
             Mode::MemoryToMemory => 0,
             Mode::MemoryToStream => 1,
             Mode::StreamToMemory => 2,
         }
     }
+}
 
-    // The mode of a number, which is at most 2.
-    pub fn checked(n: u32) -> CheckedMode
-        ensures { ModeChecked n result }
-    {
+// The mode of a number, which is at most 2; else BadMode.
+impl TryFrom<u32> for Mode {
+    type Error = Refusal;
+
+    ghost try_from_gives = { ModeChecked };
+
+    fn try_from(n: u32) -> Result<Mode, Refusal> {
         match n {
-            0 => CheckedMode::Good(Mode::MemoryToMemory),
-            1 => CheckedMode::Good(Mode::MemoryToStream),
-            2 => CheckedMode::Good(Mode::StreamToMemory),
-            _ => CheckedMode::Refused(Refusal::BadMode),
+            0 => Ok(Mode::MemoryToMemory),
+            1 => Ok(Mode::MemoryToStream),
+            2 => Ok(Mode::StreamToMemory),
+            _ => Err(Refusal::BadMode),
         }
     }
 }
 
 // The status register.
-#[derive(Clone, Copy)]
+#[derive(Clone, Copy, Debug, Default, PartialEq, Eq)]
 pub struct Status {
     pub error: bool,
     pub eop: bool,
@@ -72,30 +69,6 @@ impl Status {
     pub const CHAIN_COMPLETED: u32 = 8;
 
     pub const BUSY: u32 = 16;
-
-    // The register's number.
-    pub fn number(self) -> u32
-        ensures { Gives (status_number self) result }
-    {
-        flag(self.error) as u32 * Status::ERROR
-            + flag(self.eop) as u32 * Status::EOP_ENCOUNTERED
-            + flag(self.descriptor) as u32 * Status::DESCRIPTOR_COMPLETED
-            + flag(self.chain) as u32 * Status::CHAIN_COMPLETED
-            + flag(self.busy) as u32 * Status::BUSY
-    }
-
-    // The register of a number; its bits above 4 are none.
-    pub fn of(n: u32) -> Status
-        ensures { Gives (status_of n) result }
-    {
-        Status {
-            error: has(n, Status::ERROR),
-            eop: has(n, Status::EOP_ENCOUNTERED),
-            descriptor: has(n, Status::DESCRIPTOR_COMPLETED),
-            chain: has(n, Status::CHAIN_COMPLETED),
-            busy: has(n, Status::BUSY),
-        }
-    }
 
     // Writing 1 clears bits 0 to 3.
     pub fn cleared(self, v: u32) -> Status
@@ -136,15 +109,39 @@ impl Status {
     }
 }
 
+// The register's number.
+impl From<Status> for u32 {
+    ghost from_gives = { λ status n. Gives (status_number status) n };
+
+    fn from(status: Status) -> u32 {
+        u32::from(status.error) * Status::ERROR
+            + u32::from(status.eop) * Status::EOP_ENCOUNTERED
+            + u32::from(status.descriptor) * Status::DESCRIPTOR_COMPLETED
+            + u32::from(status.chain) * Status::CHAIN_COMPLETED
+            + u32::from(status.busy) * Status::BUSY
+    }
+}
+
+// The register of a number; its bits above 4 are none.
+impl From<u32> for Status {
+    ghost from_gives = { λ n status. Gives (status_of n) status };
+
+    fn from(n: u32) -> Status {
+        Status {
+            error: has(n, Status::ERROR),
+            eop: has(n, Status::EOP_ENCOUNTERED),
+            descriptor: has(n, Status::DESCRIPTOR_COMPLETED),
+            chain: has(n, Status::CHAIN_COMPLETED),
+            busy: has(n, Status::BUSY),
+        }
+    }
+}
+
 // The next run number; it stays at its largest value.
 fn raised(number: u32) -> u32
     ensures { Gives (raised_of number) result }
 {
-    if number < 0xffff_ffff {
-        number + 1
-    } else {
-        number
-    }
+    number.saturating_add(1)
 }
 
 // The control register. Bits without effect are kept as given, so it is kept as its number.
@@ -241,37 +238,23 @@ impl Pointer {
 pub fn is_register(offset: u32) -> bool
     ensures { Gives (is_register offset) result }
 {
-    let known = (offset == Status::OFFSET)
-        | (offset == Control::OFFSET)
-        | (offset == Pointer::OFFSET);
-    known
+    matches!(offset, Status::OFFSET | Control::OFFSET | Pointer::OFFSET)
 }
 
-// What a register read answers.
-#[derive(Clone, Copy)]
-pub enum ReadRegister {
-    Value(u32),
-    Refused(Refusal),
-}
-
-// The register at the offset. Reading changes nothing.
-pub fn read(status: Status, control: Control, pointer: Pointer, offset: u32) -> ReadRegister
+// The register at the offset, or NoRegister. Reading changes nothing.
+pub fn read(status: Status, control: Control, pointer: Pointer, offset: u32) -> Result<u32, Refusal>
     ensures { Gives (register_at status control pointer offset) result }
 {
-    if offset == Status::OFFSET {
-        return ReadRegister::Value(status.number());
+    match offset {
+        Status::OFFSET => Ok(status.into()),
+        Control::OFFSET => Ok(control.0),
+        Pointer::OFFSET => Ok(pointer.0),
+        _ => Err(Refusal::NoRegister),
     }
-    if offset == Control::OFFSET {
-        return ReadRegister::Value(control.0);
-    }
-    if offset == Pointer::OFFSET {
-        return ReadRegister::Value(pointer.0);
-    }
-    ReadRegister::Refused(Refusal::NoRegister)
 }
 
 // The count of descriptors after one more, and whether it reached MAX_DESC_PROCESSED.
-#[derive(Clone, Copy)]
+#[derive(Clone, Copy, Debug, PartialEq, Eq)]
 pub struct Count {
     pub count: u8,
     pub full: bool,

@@ -1,20 +1,18 @@
 -- The sizes of what is lent, and the registers of an image that loads.
 -- Assumes nothing.
+use Rattle.std.specs.Prelude.{Result, Ok}
 use Prim.Native.Nat.{ℕ}
-use mathlib.Core.Path.{◌≡◌, sym, ◌∙◌}
+use mathlib.Core.Path.{◌≡◌, sym, ◌∙◌, ap}
 use mathlib.Core.Bool.{Bool, true, cond, ◌&&◌}
 use mathlib.Core.List.{List}
 use lib.ListN.{length}
 use borrow.Author.Tests.{eq-eqb, ne_eqb}
 use Rattle.words.specs.Promise.{Gives}
-use Rattle.regs.specs.declared.ReadRegister.{ReadRegister}
+use Rattle.bus.specs.declared.Refusal.{Refusal}
 use Rattle.regs.specs.Control.{line_up}
 use Rattle.regs.specs.Offsets.{register_at}
 use Rattle.image.specs.Promise.{sized}
 use Rattle.machine.specs.declared.Machine.{Machine}
-use Rattle.machine.specs.declared.LoadedMachine.TheVariants.{Good}
-use Rattle.machine.specs.declared.registers.WroteRegister.{WroteRegister}
-use Rattle.machine.specs.declared.registers.Line.TheVariants as line
 use Rattle.machine.specs.Saved.{keeps, load_of}
 use Rattle.machine.specs.Registers.{reading_of, wrote_to, line_of, RegisterWasRead, WasWritten}
 use Rattle.machine.proofs.Answers.{was-loaded, was-register, was-written}
@@ -35,18 +33,18 @@ module _ {A : Type 0} (a b : A) (n : ℕ) (xs ys : List ℕ) where
 
 -- ---- a loaded machine keeps the rules, so that its registers are those of any machine
 
-module _ (xs : List ℕ) {m : Machine} (e : load_of xs ≡ Good m) where
+module _ (xs : List ℕ) {m : Machine} (e : load_of xs ≡ Ok m) where
   pub keeps-loaded : keeps m ≡ true
   keeps-loaded =
       loaded-keeps (was-loaded (sym e))
 
-  pub register-loaded : (offset : ℕ) {a : ReadRegister} → Gives (register_at m.core.status m.core.control m.core.pointer offset) a → RegisterWasRead m offset a
+  pub register-loaded : (offset : ℕ) {a : Result ℕ Refusal} → Gives (register_at m.core.status m.core.control m.core.pointer offset) a → RegisterWasRead m offset a
   unfolding reading_of
   register-loaded offset g = was-register (rw keeps-loaded g.value)
 
-  pub write-loaded : (offset v : ℕ) {w : WroteRegister} → Gives (wrote_to m offset v) w → WasWritten m offset v w
+  pub write-loaded : (offset v : ℕ) {w : Result Machine Refusal} → Gives (wrote_to m offset v) w → WasWritten m offset v w
   write-loaded offset v g = was-written (g.value ∙ write_kept m offset v keeps-loaded)
 
-  pub line-loaded : {up : Bool} → Gives (line_up m.core.control m.core.pending) up → line_of m ≡ cond up line.Up line.Down
+  pub line-loaded : {up : Bool} → Gives (line_up m.core.control m.core.pending) up → line_of m ≡ Ok up
   unfolding line_of
-  line-loaded g = rw (keeps-loaded, sym g.value)
+  line-loaded g = rw keeps-loaded (ap Ok (sym g.value))

@@ -1,14 +1,11 @@
-// The calls of the C host, which crate sgdma_c gives to C. Each returns 0, or the number of its refusal, and then has changed nothing.
+// The calls of the C host on a core, its memory and its ledger, which crate sgdma_c gives to C. Where one is refused it has changed nothing.
+// The load answer is taken apart with `let .. else`, the form that the project has for it in each call of C, and `and` hands its refusal on;
+// `?` takes the others.
 #![tactic(auto)]
 
-pub mod chains;
-pub mod controller;
-pub mod editions;
-pub mod interval;
-
-ghost use Rattle.std.specs.Prelude.{[], ◌≡◌, ◌<◌, length, true};
+ghost use Rattle.std.specs.Prelude.{[], ◌≡◌, ◌<◌, length, true, Ok};
 ghost use Rattle.words.specs.Promise.{Leaves};
-ghost use Rattle.machine.specs.declared.RunAnswer.TheVariants.{Done};
+ghost use Rattle.bus.specs.Refusal.{answer_number};
 ghost use Rattle.machine.specs.Run.{lent, back};
 ghost use Rattle.machine.specs.Saved.{keeps};
 ghost use Rattle.sgdma.specs.Calls.{image_of, ran_over, report_over};
@@ -17,12 +14,10 @@ ghost use Rattle.sgdma.specs.Calls.{Created, RegisterWritten, RegisterRead, Line
 use answers::{
     DESCRIPTOR, FINDING, REPORT, VALUE, put_descriptor, put_finding, put_report, put_value,
 };
-use bus::{BusAddress, CheckedWindow, Refusal, Window};
-use descriptor::{BuiltDescriptor, DescControl, Job, ReadDescriptor};
-use ledger::Finding;
-use machine::registers::WroteRegister;
-use machine::{LoadedMachine, Machine, Ran, RunAnswer};
-use regs::{CheckedMode, Mode, ReadRegister};
+use bus::{BusAddress, Refusal, Window};
+use descriptor::{DescControl, Job};
+use machine::{Loan, Machine, Ran};
+use regs::Mode;
 
 // The size of an image.
 const IMAGE: usize = 85;
@@ -33,91 +28,73 @@ fn put_image(m: Machine, image: &mut [u8])
     requires image_len { length image.old ≡ 85 }
     ensures { Leaves (image_of m) image.new }
 {
-    m.put(image);
+    let _ = m.put(image);
 }
 
 // Makes the image of a fresh core.
-pub fn sgdma_create(image: &mut [u8], mode: u32, base: u64, length: u64) -> u32
-    ensures { Created image.old mode base length result image.new }
+pub fn sgdma_create(image: &mut [u8], mode: u32, base: u64, length: u64) -> Result<(), Refusal>
+    ensures { Created image.old mode base length (answer_number result) image.new }
 {
     if image.len() != IMAGE {
-        return Refusal::BadSize.number();
+        return Err(Refusal::BadSize);
     }
-    let CheckedMode::Good(mode) = Mode::checked(mode) else {
-        return Refusal::BadMode.number();
-    };
-    let CheckedWindow::Good(window) = Window::checked(base, length) else {
-        return Refusal::BadWindow.number();
-    };
+    let mode = Mode::try_from(mode)?;
+    let window = Window::checked(base, length)?;
     put_image(Machine::fresh(mode, window), image);
-    0
+    Ok(())
 }
 
 // Writes the register at `offset`.
-pub fn sgdma_write_register(image: &mut [u8], offset: u32, value: u32) -> u32
-    ensures { RegisterWritten image.old offset value result image.new }
+pub fn sgdma_write_register(image: &mut [u8], offset: u32, value: u32) -> Result<(), Refusal>
+    ensures { RegisterWritten image.old offset value (answer_number result) image.new }
 {
     if image.len() != IMAGE {
-        return Refusal::BadSize.number();
+        return Err(Refusal::BadSize);
     }
     let loaded = Machine::load(image);
-    let LoadedMachine::Good(m) = loaded else {
-        return loaded.number();
+    let Ok(m) = loaded else {
+        return loaded.and(Ok(()));
     };
-    let wrote = m.write(offset, value);
-    match wrote {
-        WroteRegister::Refused(why) => why.number(),
-        WroteRegister::Done(n) => {
-            put_image(n, image);
-            0
-        }
-    }
+    let n = m.write(offset, value)?;
+    put_image(n, image);
+    Ok(())
 }
 
 // Reads the register at `offset` into the four bytes of `value`.
-pub fn sgdma_read_register(image: &[u8], offset: u32, value: &mut [u8]) -> u32
-    ensures { RegisterRead image.now offset value.old result value.new }
+pub fn sgdma_read_register(image: &[u8], offset: u32, value: &mut [u8]) -> Result<(), Refusal>
+    ensures { RegisterRead image.now offset value.old (answer_number result) value.new }
 {
     if image.len() != IMAGE {
-        return Refusal::BadSize.number();
+        return Err(Refusal::BadSize);
     }
     if value.len() != VALUE {
-        return Refusal::BadSize.number();
+        return Err(Refusal::BadSize);
     }
     let loaded = Machine::load(image);
-    let LoadedMachine::Good(m) = loaded else {
-        return loaded.number();
+    let Ok(m) = loaded else {
+        return loaded.and(Ok(()));
     };
-    let answer = m.register(offset);
-    match answer {
-        ReadRegister::Refused(why) => why.number(),
-        ReadRegister::Value(v) => {
-            put_value(value, v);
-            0
-        }
-    }
+    let v = m.register(offset)?;
+    put_value(value, v);
+    Ok(())
 }
 
 // Writes 1 into the four bytes of `value` where the interrupt line is up, else 0.
-pub fn sgdma_line(image: &[u8], value: &mut [u8]) -> u32
-    ensures { LineRead image.now value.old result value.new }
+pub fn sgdma_line(image: &[u8], value: &mut [u8]) -> Result<(), Refusal>
+    ensures { LineRead image.now value.old (answer_number result) value.new }
 {
     if image.len() != IMAGE {
-        return Refusal::BadSize.number();
+        return Err(Refusal::BadSize);
     }
     if value.len() != VALUE {
-        return Refusal::BadSize.number();
+        return Err(Refusal::BadSize);
     }
     let loaded = Machine::load(image);
-    let LoadedMachine::Good(m) = loaded else {
-        return loaded.number();
+    let Ok(m) = loaded else {
+        return loaded.and(Ok(()));
     };
-    if m.up() {
-        put_value(value, 1);
-        return 0;
-    }
-    put_value(value, 0);
-    0
+    put_value(value, m.up().into());
+    Ok(())
 }
 
 // The image and the report after a run. One that took no step leaves the image that stands there.
@@ -126,15 +103,14 @@ fn put_run(r: Ran, image: &mut [u8], report: &mut [u8])
     requires taken_bound { (r.taken < 4294967296) × (r.made < 4294967296) }
     requires image_len { (length image.old ≡ 85) × (length report.old ≡ 18) }
     requires image_value { r.steps ≡ 0 → image.old ≡ image_of r.machine }
-    ensures leaves { Leaves (ran_over (Done r) []) image.new }
-    ensures leaves_2 { Leaves (report_over (Done r) []) report.new }
+    ensures leaves { Leaves (ran_over (Ok r) []) image.new }
+    ensures leaves_2 { Leaves (report_over (Ok r) []) report.new }
 {
     let reason = r.reason;
     let machine = r.machine;
     let taken = r.taken as u32;
     let made = r.made as u32;
-    let number = reason.number();
-    put_report(report, number, r.steps, taken, made, r.used);
+    put_report(report, reason.into(), r.steps, taken, made, r.used);
     if r.steps != 0 {
         put_image(machine, image);
     }
@@ -151,29 +127,31 @@ pub fn sgdma_run(
     used: u32,
     budget: u32,
     report: &mut [u8],
-) -> u32
+) -> Result<(), Refusal>
     ensures { RunMade image.old (lent window.old beats.now out.old ledger.old used)
         budget report.old
-        result image.new (back window.new out.new ledger.new) report.new }
+        (answer_number result) image.new (back window.new out.new ledger.new) report.new }
 {
     if image.len() != IMAGE {
-        return Refusal::BadSize.number();
+        return Err(Refusal::BadSize);
     }
     if report.len() != REPORT {
-        return Refusal::BadSize.number();
+        return Err(Refusal::BadSize);
     }
     let loaded = Machine::load(image);
-    let LoadedMachine::Good(m) = loaded else {
-        return loaded.number();
+    let Ok(m) = loaded else {
+        return loaded.and(Ok(()));
     };
-    let answer = m.resume(window, beats, out, ledger, used, budget);
-    match answer {
-        RunAnswer::Refused(why) => why.number(),
-        RunAnswer::Done(r) => {
-            put_run(r, image, report);
-            0
-        }
-    }
+    let mut loan = Loan {
+        window,
+        beats,
+        out,
+        ledger,
+        used,
+    };
+    let r = m.resume(&mut loan, budget)?;
+    put_run(r, image, report);
+    Ok(())
 }
 
 // Builds a descriptor in the lent window that stands at `base`.
@@ -186,10 +164,10 @@ pub fn sgdma_build_descriptor(
     next: u32,
     length: u16,
     control: u8,
-) -> u32
+) -> Result<(), Refusal>
     ensures { DescriptorBuilt window.old base address
         (record { source = source; destination = destination; next = next; length = length; control = record { 0 = control } })
-        result window.new }
+        (answer_number result) window.new }
 {
     let job = Job {
         source,
@@ -198,47 +176,40 @@ pub fn sgdma_build_descriptor(
         length,
         control: DescControl(control),
     };
-    let built = descriptor::build(window, base, BusAddress(address as u64), job);
-    match built {
-        BuiltDescriptor::Done => 0,
-        BuiltDescriptor::Refused(why) => why.number(),
-    }
+    descriptor::build(window, base, BusAddress(address as u64), job)
 }
 
 // Reads a descriptor of the lent window that stands at `base` into the 18 bytes of `answer`.
-pub fn sgdma_read_descriptor(window: &[u8], base: u64, address: u32, answer: &mut [u8]) -> u32
-    ensures { DescriptorRead window.now base address answer.old result answer.new }
+pub fn sgdma_read_descriptor(
+    window: &[u8],
+    base: u64,
+    address: u32,
+    answer: &mut [u8],
+) -> Result<(), Refusal>
+    ensures { DescriptorRead window.now base address answer.old (answer_number result) answer.new }
 {
     if answer.len() != DESCRIPTOR {
-        return Refusal::BadSize.number();
+        return Err(Refusal::BadSize);
     }
-    let found = descriptor::read(window, base, BusAddress(address as u64));
-    match found {
-        ReadDescriptor::Refused(why) => why.number(),
-        ReadDescriptor::Good(d) => {
-            put_descriptor(answer, d);
-            0
-        }
-    }
+    let d = descriptor::read(window, base, BusAddress(address as u64))?;
+    put_descriptor(answer, d);
+    Ok(())
 }
 
 // Tells in the 4 bytes of `answer` whether the descriptor at `address` was written back in this run, and its latest byte count there.
-pub fn sgdma_find_record(ledger: &[u8], used: u32, run: u32, address: u32, answer: &mut [u8]) -> u32
-    ensures { RecordFound ledger.now used run address answer.old result answer.new }
+pub fn sgdma_find_record(
+    ledger: &[u8],
+    used: u32,
+    run: u32,
+    address: u32,
+    answer: &mut [u8],
+) -> Result<(), Refusal>
+    ensures { RecordFound ledger.now used run address answer.old (answer_number result) answer.new }
 {
     if answer.len() != FINDING {
-        return Refusal::BadSize.number();
+        return Err(Refusal::BadSize);
     }
-    let finding = ledger::find(ledger, used, run, address);
-    match finding {
-        Finding::Refused(why) => why.number(),
-        Finding::NotFound => {
-            put_finding(answer, false, 0);
-            0
-        }
-        Finding::Found(count) => {
-            put_finding(answer, true, count);
-            0
-        }
-    }
+    let found = ledger::find(ledger, used, run, address)?;
+    put_finding(answer, found.is_some(), found.unwrap_or(0));
+    Ok(())
 }

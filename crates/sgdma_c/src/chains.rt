@@ -1,6 +1,9 @@
 // The C calls over a chain in memory: those of crate links.
 ghost use Rattle.links.specs.Calls.{ChainChecked, ChainMended};
 
+use bus::number_of;
+use links::calls;
+
 // Checks the chain from `pointer` on in a window at `base`, and tells the verdict in the 10 bytes of `answer`.
 #[unsafe(no_mangle)]
 pub extern "C" fn sgdma_check_chain(
@@ -11,7 +14,7 @@ pub extern "C" fn sgdma_check_chain(
 ) -> u32
     ensures { ChainChecked window.now base pointer answer.old result answer.new }
 {
-    sgdma::chains::sgdma_check_chain(window, base, pointer, answer)
+    number_of(calls::check_chain(window, base, pointer, answer))
 }
 
 // Mends the chain from `pointer` on in a dump at `base`, and tells in the 8 bytes of `answer` what was changed.
@@ -24,5 +27,5 @@ pub extern "C" fn sgdma_mend_chain(
 ) -> u32
     ensures { ChainMended window.old base pointer answer.old result window.new answer.new }
 {
-    sgdma::chains::sgdma_mend_chain(window, base, pointer, answer)
+    number_of(calls::mend_chain(window, base, pointer, answer))
 }

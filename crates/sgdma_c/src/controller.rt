@@ -1,12 +1,14 @@
 // The C calls of the interrupt controller: those of crate vic, over its 88 bytes.
 ghost use Rattle.vic.specs.Calls.{VicCreated, VicConfigured, VicEnabled, VicTriggered, VicDriven, VicChosen};
 
+use bus::number_of;
+
 // Makes a controller of so many ports.
 #[unsafe(no_mangle)]
 pub extern "C" fn sgdma_vic_create(vic: &mut [u8], ports: u32, vector_bytes: u32, base: u32) -> u32
     ensures { VicCreated vic.old ports vector_bytes base result vic.new }
 {
-    sgdma::controller::sgdma_vic_create(vic, ports, vector_bytes, base)
+    number_of(vic::create(vic, ports, vector_bytes, base))
 }
 
 // Configures a port.
@@ -20,7 +22,7 @@ pub extern "C" fn sgdma_vic_configure(
 ) -> u32
     ensures { VicConfigured vic.old port level set nmi result vic.new }
 {
-    sgdma::controller::sgdma_vic_configure(vic, port, level, set, nmi)
+    number_of(vic::configure(vic, port, level, set, nmi))
 }
 
 // Enables a port, or not.
@@ -28,7 +30,7 @@ pub extern "C" fn sgdma_vic_configure(
 pub extern "C" fn sgdma_vic_enable(vic: &mut [u8], port: u32, on: u32) -> u32
     ensures { VicEnabled vic.old port on result vic.new }
 {
-    sgdma::controller::sgdma_vic_enable(vic, port, on)
+    number_of(vic::enable(vic, port, on))
 }
 
 // Sets the software trigger of a port, or clears it.
@@ -36,7 +38,7 @@ pub extern "C" fn sgdma_vic_enable(vic: &mut [u8], port: u32, on: u32) -> u32
 pub extern "C" fn sgdma_vic_trigger(vic: &mut [u8], port: u32, on: u32) -> u32
     ensures { VicTriggered vic.old port on result vic.new }
 {
-    sgdma::controller::sgdma_vic_trigger(vic, port, on)
+    number_of(vic::trigger(vic, port, on))
 }
 
 // Drives the line of a port up, or down.
@@ -44,7 +46,7 @@ pub extern "C" fn sgdma_vic_trigger(vic: &mut [u8], port: u32, on: u32) -> u32
 pub extern "C" fn sgdma_vic_line(vic: &mut [u8], port: u32, up: u32) -> u32
     ensures { VicDriven vic.old port up result vic.new }
 {
-    sgdma::controller::sgdma_vic_line(vic, port, up)
+    number_of(vic::line(vic, port, up))
 }
 
 // Tells the chosen port in the 12 bytes of `answer`, or that there is none.
@@ -52,5 +54,5 @@ pub extern "C" fn sgdma_vic_line(vic: &mut [u8], port: u32, up: u32) -> u32
 pub extern "C" fn sgdma_vic_choose(vic: &[u8], answer: &mut [u8]) -> u32
     ensures { VicChosen vic.now answer.old result answer.new }
 {
-    sgdma::controller::sgdma_vic_choose(vic, answer)
+    number_of(vic::choose(vic, answer))
 }

@@ -1,5 +1,6 @@
-// The C calls as symbols of the archive. Each makes the call of its name in crate sgdma, and promises the same. A slice passes as
-// pointer and length; each call returns 0, or the number of its refusal, and then has changed nothing.
+// The C calls as symbols of the archive. Each makes one call, of crate sgdma or of the crate of its device, and promises the same. A slice
+// passes as pointer and length; each call returns 0, or the number of its refusal, and then has changed nothing. The eight of sgdma stand there
+// and here, since a crate is a library or a static library, and a program in Rattle calls the former.
 #![tactic(auto)]
 
 pub mod chains;
@@ -10,12 +11,14 @@ pub mod interval;
 ghost use Rattle.machine.specs.Run.{lent, back};
 ghost use Rattle.sgdma.specs.Calls.{Created, RegisterWritten, RegisterRead, LineRead, RunMade, DescriptorBuilt, DescriptorRead, RecordFound};
 
+use bus::number_of;
+
 // Makes the image of a fresh core.
 #[unsafe(no_mangle)]
 pub extern "C" fn sgdma_create(image: &mut [u8], mode: u32, base: u64, length: u64) -> u32
     ensures { Created image.old mode base length result image.new }
 {
-    sgdma::sgdma_create(image, mode, base, length)
+    number_of(sgdma::sgdma_create(image, mode, base, length))
 }
 
 // Writes the register at `offset`.
@@ -23,7 +26,7 @@ pub extern "C" fn sgdma_create(image: &mut [u8], mode: u32, base: u64, length: u
 pub extern "C" fn sgdma_write_register(image: &mut [u8], offset: u32, value: u32) -> u32
     ensures { RegisterWritten image.old offset value result image.new }
 {
-    sgdma::sgdma_write_register(image, offset, value)
+    number_of(sgdma::sgdma_write_register(image, offset, value))
 }
 
 // Reads the register at `offset` into the four bytes of `value`.
@@ -31,7 +34,7 @@ pub extern "C" fn sgdma_write_register(image: &mut [u8], offset: u32, value: u32
 pub extern "C" fn sgdma_read_register(image: &[u8], offset: u32, value: &mut [u8]) -> u32
     ensures { RegisterRead image.now offset value.old result value.new }
 {
-    sgdma::sgdma_read_register(image, offset, value)
+    number_of(sgdma::sgdma_read_register(image, offset, value))
 }
 
 // Writes 1 into the four bytes of `value` where the interrupt line is up, else 0.
@@ -39,7 +42,7 @@ pub extern "C" fn sgdma_read_register(image: &[u8], offset: u32, value: &mut [u8
 pub extern "C" fn sgdma_line(image: &[u8], value: &mut [u8]) -> u32
     ensures { LineRead image.now value.old result value.new }
 {
-    sgdma::sgdma_line(image, value)
+    number_of(sgdma::sgdma_line(image, value))
 }
 
 // Runs the core over the lent window, beats, output and ledger, of which `used` records are used, and writes its image and the 18
@@ -59,7 +62,7 @@ pub extern "C" fn sgdma_run(
         budget report.old
         result image.new (back window.new out.new ledger.new) report.new }
 {
-    sgdma::sgdma_run(image, window, beats, out, ledger, used, budget, report)
+    number_of(sgdma::sgdma_run(image, window, beats, out, ledger, used, budget, report))
 }
 
 // Builds a descriptor in the lent window that stands at `base`.
@@ -78,7 +81,7 @@ pub extern "C" fn sgdma_build_descriptor(
         (record { source = source; destination = destination; next = next; length = length; control = record { 0 = control } })
         result window.new }
 {
-    sgdma::sgdma_build_descriptor(
+    number_of(sgdma::sgdma_build_descriptor(
         window,
         base,
         address,
@@ -87,7 +90,7 @@ pub extern "C" fn sgdma_build_descriptor(
         next,
         length,
         control,
-    )
+    ))
 }
 
 // Reads a descriptor of the lent window that stands at `base` into the 18 bytes of `answer`.
@@ -100,7 +103,7 @@ pub extern "C" fn sgdma_read_descriptor(
 ) -> u32
     ensures { DescriptorRead window.now base address answer.old result answer.new }
 {
-    sgdma::sgdma_read_descriptor(window, base, address, answer)
+    number_of(sgdma::sgdma_read_descriptor(window, base, address, answer))
 }
 
 // Tells in the 4 bytes of `answer` whether the descriptor at `address` was written back in this run, and its latest byte count there.
@@ -114,5 +117,5 @@ pub extern "C" fn sgdma_find_record(
 ) -> u32
     ensures { RecordFound ledger.now used run address answer.old result answer.new }
 {
-    sgdma::sgdma_find_record(ledger, used, run, address, answer)
+    number_of(sgdma::sgdma_find_record(ledger, used, run, address, answer))
 }

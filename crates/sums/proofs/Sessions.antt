@@ -1,5 +1,6 @@
 -- The sum law of the ledger.
 -- Assumes nothing.
+use Rattle.std.specs.Prelude.{Result, Ok, Err}
 use Prim.Native.Nat.{ℕ, ◌+◌, ◌-◌, ◌*◌, ◌/◌, ◌≤◌}
 use mathlib.Core.Path.{◌≡◌, refl, sym, ap, subst, ◌∙◌}
 use mathlib.Core.Bool.{Bool, true, false, cond, ◌&&◌}
@@ -21,9 +22,7 @@ use Rattle.machine.specs.declared.Machine.{Machine}
 use Rattle.machine.specs.declared.Ran.{Ran}
 use Rattle.machine.specs.declared.Phase.{Phase}
 use Rattle.machine.specs.declared.Phase.TheVariants.{Rest, Fetch, Move, WriteBack, Ended, Halted, Faulted}
-use Rattle.machine.specs.declared.RunAnswer.TheVariants as many
-use Rattle.machine.specs.declared.registers.WroteRegister.{WroteRegister}
-use Rattle.machine.specs.declared.registers.WroteRegister.TheVariants as wrote
+use Rattle.bus.specs.declared.Refusal.{Refusal}
 use Rattle.machine.specs.Saved.{in_hand, keeps}
 use Rattle.machine.specs.State.{with_pointer, fresh_core}
 use Rattle.machine.specs.Registers.{status_written, control_stored, released, control_written, core_written, write_of}
@@ -74,11 +73,11 @@ core-drops m offset v = by (eqb offset 0) refl (eqb offset 4) refl (eqb offset 8
     by false e false f true = record { mode = refl; rest = omega arith }
     by false e false f false = record { mode = refl; rest = omega arith }
 
-abbrev AfterWrite : Machine → (lost : ℕ) → WroteRegister → Type 0
-AfterWrite m lost (wrote.Done n) = Drops m.core n.core lost
-AfterWrite m lost (wrote.Refused why) = Unit {0}
+abbrev AfterWrite : Machine → (lost : ℕ) → Result Machine Refusal → Type 0
+AfterWrite m lost (Ok n) = Drops m.core n.core lost
+AfterWrite m lost (Err why) = Unit {0}
 
-in-answer : (m : Machine) (lost : ℕ) (b : Bool) (x y : WroteRegister) → AfterWrite m lost x → AfterWrite m lost y → AfterWrite m lost (cond b x y)
+in-answer : (m : Machine) (lost : ℕ) (b : Bool) (x y : Result Machine Refusal) → AfterWrite m lost x → AfterWrite m lost y → AfterWrite m lost (cond b x y)
 in-answer m lost true x y p q = p
 in-answer m lost false x y p q = q
 
@@ -103,7 +102,7 @@ record Balanced (m : Machine) (before ledger : List ℕ) (used : ℕ) (rs : List
   adds : Adds m before ledger used rs t l
 
 module _ {m : Machine} {before : List ℕ} {rs : List Entry} {t l budget : ℕ} {given : Lent} {r : Ran} {b : Returned}
-    (h : Balanced m before given.ledger given.used rs t l) (d : HasRun m given budget (many.Done r) b) where
+    (h : Balanced m before given.ledger given.used rs t l) (d : HasRun m given budget (Ok r) b) where
   u : given.used ≡ length rs
   u = h.adds.number
 

@@ -1,7 +1,7 @@
 -- Order 6: what becomes of the beats that are taken in mode 2. Over runs from a fresh machine, the ledger empty at first and each
 -- number handed on, its bytes sum to the beats taken less those of descriptors not written back. The theorem is `session-adds`.
 -- Assumes nothing.
-use Rattle.std.specs.Prelude.{ℕ, zero, suc, ◌+◌, ◌≡◌, cond, ◌&&◌, List, [], ◌∷◌, ◌++◌, eqb, length}
+use Rattle.std.specs.Prelude.{ℕ, zero, suc, ◌+◌, ◌≡◌, cond, ◌&&◌, List, [], ◌∷◌, ◌++◌, eqb, length, Ok}
 use Rattle.words.specs.Slices.{put}
 use Rattle.bus.specs.declared.Window.{Window}
 use Rattle.regs.specs.declared.Mode.TheVariants.{StreamToMemory}
@@ -10,8 +10,6 @@ use Rattle.ledger.specs.declared.Entry.{Entry}
 use Rattle.ledger.specs.Records.{ledger_bytes}
 use Rattle.machine.specs.declared.Machine.{Machine}
 use Rattle.machine.specs.declared.Ran.{Ran}
-use Rattle.machine.specs.declared.RunAnswer.TheVariants as many
-use Rattle.machine.specs.declared.registers.WroteRegister.TheVariants as wrote
 use Rattle.machine.specs.declared.Phase.{Phase}
 use Rattle.machine.specs.declared.Phase.TheVariants.{Rest, Fetch, Move, WriteBack, Ended, Halted, Faulted}
 use Rattle.machine.specs.Saved.{in_hand}
@@ -64,9 +62,9 @@ lost_in n w = lost_on n w (step w)
 pub data Session : Machine → (before ledger : List ℕ) (used : ℕ) → List Entry → (taken lost : ℕ) → Type 0 where
   begins : (window : Window) (ledger : List ℕ) → Session (state.fresh StreamToMemory window) ledger ledger 0 [] 0 0
   written : {m n : Machine} {before ledger : List ℕ} {rs : List Entry} {used t l offset v : ℕ} → Session m before ledger used rs t l
-      → WasWritten m offset v (wrote.Done n) → Session n before ledger used rs t (l + abandoned m offset v)
+      → WasWritten m offset v (Ok n) → Session n before ledger used rs t (l + abandoned m offset v)
   ran : {m : Machine} {before : List ℕ} {rs : List Entry} {t l budget : ℕ} {given : Lent} {r : Ran} {b : Returned}
-      → Session m before given.ledger given.used rs t l → HasRun m given budget (many.Done r) b
+      → Session m before given.ledger given.used rs t l → HasRun m given budget (Ok r) b
       → Session r.machine before b.ledger r.used (rs ++ (run budget (world_of m given)).world.records) (t + r.taken)
       (l + lost_in budget (world_of m given))
 

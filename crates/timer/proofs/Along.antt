@@ -1,6 +1,7 @@
 -- Where a running timer is after so many ticks, and how often it reached zero in them.
 -- Assumes nothing.
 use Rattle.std.proofs.Common.{◌≡◌, ℕ, zero, suc, ◌+◌, ◌-◌, ◌*◌, ◌/◌, ◌%◌, ◌<◌, ◌≤◌, Bool, true, false, not, ◌||◌, eqb, sym, refl, ap, ◌∙◌, subst, add-zero, mod-lt, suc-mul, div-add-mod', zero-add, zero-mul, arith, ne_eqb}
+use Rattle.std.proofs.Math.Dec.{eqb-suc-zero}
 use Rattle.words.specs.Bits.{flag}
 use Rattle.timer.specs.declared.Timer.{Timer}
 use Rattle.timer.specs.Counting.{stand, reaches, tick_of, after_ticks, zeros_in, ran_of}
@@ -57,17 +58,14 @@ told false z to = rw (add-zero z)
 less : (c : ℕ) → suc c - 1 ≡ c
 less c = omega arith
 
-pub above : (c : ℕ) → eqb (suc c) 0 ≡ false
-above c = ne_eqb (suc c) 0 (λ h. omega arith)
-
 module _ (t : Timer) where
   module _ (to : Bool) where
     tick-down : (c : ℕ) → tick_of (stand (suc c) true to t) ≡ stand c true (eqb c 0 || to) t
     unfolding tick_of
-    tick-down c = rw (above c, less c)
+    tick-down c = rw (eqb-suc-zero c, less c)
 
     reach-down : (c : ℕ) → reaches (stand (suc c) true to t) ≡ eqb c 0
-    reach-down c = rw (above c, less c)
+    reach-down c = rw (eqb-suc-zero c, less c)
 
     tick-load : tick_of (stand 0 true to t) ≡ stand t.period t.cont (eqb t.period 0 || to) t
     unfolding tick_of
@@ -102,10 +100,10 @@ module _ (t : Timer) where
     -- at the bottom
     pub bottom : (c : ℕ) → t.counter ≡ c → Stands c t 0 true (flag (not (eqb c 0)))
     bottom zero f = stands-is refl f refl refl starts
-    bottom (suc c) f = stands-is refl refl refl (rw (above c)) (takes 0 (down c 1 (omega arith) (omega arith)))
+    bottom (suc c) f = stands-is refl refl refl (rw (eqb-suc-zero c)) (takes 0 (down c 1 (omega arith) (omega arith)))
 
   after_next : (r : ℕ) → after t.period (suc r) ≡ t.period - r
-  after_next r = rw (above r) (omega arith)
+  after_next r = rw (eqb-suc-zero r) (omega arith)
 
   -- ---- a timer that counts again and again
 
@@ -169,7 +167,4 @@ module _ (n : ℕ) (t : Timer) where
         rests zero f = stands-is (omega arith) refl off refl (loads t (bottom t e t.counter refl))
         rests (suc m) f = at_count (omega arith) (at-zeros (add-zero _) (at_next false (rests m refl) (tick-stopped _ refl) refl))
 
--- the first time is one of the counter's ticks
-pub first-le : (c : ℕ) → flag (not (eqb c 0)) ≤ c
-first-le zero = omega arith
-first-le (suc c) = rw (above c) (omega arith)
+pub ruleset at_once = (ran-stopped, ran-down, ran_on, ran-zero, ran-once)

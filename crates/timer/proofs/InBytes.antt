@@ -1,6 +1,7 @@
 -- The 14 bytes met as three words and a half, as the code that reads them meets them; what loading and saving answer; the way there
 -- and back.
 -- Assumes nothing.
+use Rattle.std.specs.Prelude.{Result, Ok, Err}
 use Rattle.std.proofs.Common.{◌≡◌, ℕ, ◌+◌, ◌*◌, ◌/◌, ◌%◌, ◌^◌, ◌<◌, ◌≤◌, Bool, true, false, cond, eqb, leb, List, [], ◌∷◌, length, sym, refl, ap, ◌∙◌, subst, mod-eq_of_lt, div-one, arith, drop-drop, rules, eq-eqb, ne_eqb, eqb-true, le-leb, leb-true}
 use borrow.Author.Tests.{lt-leb}
 use Rattle.words.specs.declared.Order.TheVariants.{MostFirst}
@@ -16,13 +17,11 @@ use Rattle.words.proofs.Orders.{length-split}
 use Rattle.words.proofs.Groups.{recodes, parts, recode-groups, parts_all, parts-fit, number-join, number_lt}
 use Rattle.words.proofs.Packing.{fields-packed}
 use Rattle.words.proofs.Firsts.{told-first}
+use Rattle.bus.specs.declared.Refusal.{Refusal}
 use Rattle.bus.specs.declared.Refusal.TheVariants.{BadSize, BadImage}
+use Rattle.bus.specs.Refusal.{answer_number}
 use Rattle.timer.specs.declared.Timer.{Timer}
-use Rattle.timer.specs.declared.LoadedTimer.{LoadedTimer}
-use Rattle.timer.specs.declared.LoadedTimer.TheVariants as loaded
-use Rattle.timer.specs.declared.SavedTimer.{SavedTimer}
-use Rattle.timer.specs.declared.SavedTimer.TheVariants as saved
-use Rattle.timer.specs.Saved.{field, timer_of, values, widths, bytes_of_timer, numbers, rules as rules_of, lowest_broken, sized, judged, load_of, save_of, saved_over, load_number, save_number, TimerWasLoaded, TimerWasSaved, Typed}
+use Rattle.timer.specs.Saved.{field, timer_of, values, widths, bytes_of_timer, numbers, rules as rules_of, lowest_broken, sized, judged, load_of, save_of, saved_over, TimerWasLoaded, Typed}
 use Rattle.timer.specs.Helpers.Parts.{flag_widths}
 use Rattle.timer.specs.Theorems.{TimerSavesLoaded, TimerFieldTold}
 
@@ -85,87 +84,61 @@ timer-field-told vs h = told-first (rules_of vs) h
 
 -- ---- what loading answers
 
-pub was-loaded : {xs : List ℕ} {r : LoadedTimer} → r ≡ load_of xs → TimerWasLoaded xs r
+was-loaded : {xs : List ℕ} {r : Result Timer Refusal} → r ≡ load_of xs → TimerWasLoaded xs r
 unfolding load_of
 was-loaded {xs} e =
     record {
       answer = e;
-      number = ap load_number e ∙ by (sized xs) (eqb (lowest_broken (numbers xs)) 0) (lowest_broken (numbers xs)) (timer_of (numbers xs));
+      number = ap answer_number e ∙ by (sized xs) (eqb (lowest_broken (numbers xs)) 0) (lowest_broken (numbers xs)) (timer_of (numbers xs));
     }
   where
     by : (b c : Bool) (n : ℕ) (t : Timer)
-        → load_number (cond b (cond c (loaded.Good t) (loaded.Refused (BadImage n))) (loaded.Refused BadSize))
+        → answer_number (cond b (cond c (Ok t) (Err (BadImage n))) (Err BadSize))
         ≡ cond b (cond c 0 (8 + 256 * n)) 7
     by true true n t = refl
     by true false n t = refl
     by false c n t = refl
 
-pub load-size : (xs : List ℕ) → (length xs ≡ 14 → ⊥) → load_of xs ≡ loaded.Refused BadSize
-unfolding load_of
-load-size xs h = rw (ne_eqb (length xs) 14 h)
-
 -- the code's four numbers
 pub record Read (xs : List ℕ) (counter period snapshot flags : ℕ) : Type 0 where
+  pub sized : length xs ≡ 14
+  pub all_bytes : AllBytes xs
   pub counted : counter ≡ number_at MostFirst 4 xs 0
   pub periods : period ≡ number_at MostFirst 4 xs 4
   pub snapped : snapshot ≡ number_at MostFirst 4 xs 8
   pub flagged : flags ≡ number_at MostFirst 2 xs 12
 
-module _ (xs : List ℕ) (l : length xs ≡ 14) (g : AllBytes xs) (c p s f : ℕ) (r : Read xs c p s f) where
+module _ {xs : List ℕ} {c p s f : ℕ} (r : Read xs c p s f) where
   they : numbers xs ≡ c ∷ p ∷ s ∷ split flag_widths f
-  they = rw (r.counted, r.periods, r.snapped, r.flagged) (numbers-words xs l g)
+  they = rw (r.counted, r.periods, r.snapped, r.flagged) (numbers-words xs r.sized r.all_bytes)
 
   lt : f < 65536
-  lt = rw r.flagged (flags-lt xs l g)
+  lt = rw r.flagged (flags-lt xs r.sized r.all_bytes)
 
   answers : (k : ℕ) → lowest_broken (c ∷ p ∷ s ∷ split flag_widths f) ≡ k → load_of xs ≡ judged k (timer_of (c ∷ p ∷ s ∷ split flag_widths f))
   unfolding load_of
-  answers k e = rw (eq-eqb (length xs) 14 l, they) (ap (λ (n : ℕ). judged n (timer_of (c ∷ p ∷ s ∷ split flag_widths f))) e)
+  answers k e =
+      rw (eq-eqb (length xs) 14 r.sized, they) (ap (λ (n : ℕ). judged n (timer_of (c ∷ p ∷ s ∷ split flag_widths f))) e)
 
-  pub load-counter : p < c → load_of xs ≡ loaded.Refused (BadImage 2)
-  load-counter h = answers 2 (rw (lt-leb c p h))
+  pub load-counter : p < c → TimerWasLoaded xs (Err (BadImage 2))
+  load-counter h = was-loaded (sym (answers 2 (rw (lt-leb c p h))))
 
-  pub load-zero : c ≤ p → 16 ≤ f → load_of xs ≡ loaded.Refused (BadImage 4)
-  load-zero h i = let j = lt in answers 4 (rw (le-leb c p h, ne_eqb (f / 16 % 4096) 0 (λ z. omega arith)))
+  pub load-zero : c ≤ p → 16 ≤ f → TimerWasLoaded xs (Err (BadImage 4))
+  load-zero h i = let j = lt in was-loaded (sym (answers 4 (rw (le-leb c p h, ne_eqb (f / 16 % 4096) 0 (λ z. omega arith)))))
 
-  pub load-good : c ≤ p → f < 16 → load_of xs ≡ loaded.Good (timer_of (c ∷ p ∷ s ∷ split flag_widths f))
-  load-good h i = answers 0 (rw (le-leb c p h, eq-eqb (f / 16 % 4096) 0 (omega arith)))
+  pub load-good : c ≤ p → f < 16 → {t : Timer} → t ≡ timer_of (c ∷ p ∷ s ∷ split flag_widths f) → TimerWasLoaded xs (Ok t)
+  load-good h i e = was-loaded (ap Ok e ∙ sym (answers 0 (rw (le-leb c p h, eq-eqb (f / 16 % 4096) 0 (omega arith)))))
 
 -- ---- what saving answers
 
-module _ (t : Timer) (xs : List ℕ) where
-  was-saved : {r : SavedTimer} {ys : List ℕ} → r ≡ save_of t xs → ys ≡ saved_over t xs → TimerWasSaved t xs r ys
+module _ (t : Timer) (xs : List ℕ) (l : length xs ≡ 14) (h : t.counter ≤ t.period) where
+  pub done-is : save_of t xs ≡ Ok tt
   unfolding save_of
-  was-saved e f =
-      record { answer = e; number = ap save_number e ∙ by (sized xs) (eqb (lowest_broken (values t)) 0) (lowest_broken (values t)); lent = f }
-    where
-      by : (b c : Bool) (n : ℕ)
-          → save_number (cond b (cond c saved.Done (saved.Refused (BadImage n))) (saved.Refused BadSize)) ≡ cond b (cond c 0 (8 + 256 * n)) 7
-      by true true n = refl
-      by true false n = refl
-      by false c n = refl
+  done-is = rw (eq-eqb (length xs) 14 l, le-leb t.counter t.period h)
 
-  pub save-size : (length xs ≡ 14 → ⊥) → TimerWasSaved t xs (saved.Refused BadSize) xs
-  unfolding save_of saved_over
-  save-size h = was-saved (rw (ne_eqb (length xs) 14 h)) (rw (ne_eqb (length xs) 14 h))
-
-  module _ (l : length xs ≡ 14) where
-    pub save-counter : t.period < t.counter → TimerWasSaved t xs (saved.Refused (BadImage 2)) xs
-    unfolding save_of saved_over
-    save-counter h =
-        was-saved (rw (eq-eqb (length xs) 14 l, lt-leb t.counter t.period h))
-        (rw (eq-eqb (length xs) 14 l, lt-leb t.counter t.period h))
-
-    pub done-is : t.counter ≤ t.period → save_of t xs ≡ saved.Done
-    unfolding save_of
-    done-is h = rw (eq-eqb (length xs) 14 l, le-leb t.counter t.period h)
-
-    pub lent_is : t.counter ≤ t.period → saved_over t xs ≡ bytes_of_timer t
-    unfolding saved_over
-    lent_is h = rw (eq-eqb (length xs) 14 l, le-leb t.counter t.period h)
-
-    pub save-done : t.counter ≤ t.period → (ys : List ℕ) → ys ≡ bytes_of_timer t → TimerWasSaved t xs saved.Done ys
-    save-done h ys e = was-saved (sym (done-is h)) (e ∙ sym (lent_is h))
+  pub lent_is : saved_over t xs ≡ bytes_of_timer t
+  unfolding saved_over
+  lent_is = rw (eq-eqb (length xs) 14 l, le-leb t.counter t.period h)
 
 -- ---- there and back
 
@@ -206,24 +179,23 @@ unfolding bytes_of_timer numbers
 numbers-back t ty = recode-back widths (bytes 14) (values t) refl (values-fit t ty)
 
 -- a timer is loaded from its bytes
-pub load-saved : (t : Timer) → Typed t → t.counter ≤ t.period → load_of (bytes_of_timer t) ≡ loaded.Good t
+pub load-saved : (t : Timer) → Typed t → t.counter ≤ t.period → load_of (bytes_of_timer t) ≡ Ok t
 unfolding load_of
 load-saved t ty h =
     rw (eq-eqb (length (bytes_of_timer t)) 14 (length-timer t), numbers-back t ty)
-    (rw (le-leb t.counter t.period h) (ap loaded.Good (of_values t)))
+    (rw (le-leb t.counter t.period h) (ap Ok (of_values t)))
 
 -- what a good answer tells
-good-from : (b c : Bool) (n : ℕ) (u t : Timer)
-    → cond b (cond c (loaded.Good u) (loaded.Refused (BadImage n))) (loaded.Refused BadSize) ≡ loaded.Good t
+pub good-from : (b c : Bool) (n : ℕ) (u : Timer) {t : Timer} → cond b (cond c (Ok u) (Err (BadImage n))) (Err BadSize) ≡ Ok t
     → (b ≡ true) × (c ≡ true) × (t ≡ u)
-good-from true true n u t e = (refl, refl, cc)
-good-from true false n u t e = absurd (let z : ◌≡◌ {A = ℕ} 0 1 = cc in omega arith)
-good-from false c n u t e = absurd (let z : ◌≡◌ {A = ℕ} 0 1 = cc in omega arith)
+good-from true true n u e = (refl, refl, cc)
+good-from true false n u e = cc
+good-from false c n u e = cc
 
-module _ (xs : List ℕ) (t : Timer) (e : load_of xs ≡ loaded.Good t) where
+module _ (xs : List ℕ) (t : Timer) (e : load_of xs ≡ Ok t) where
   told : (sized xs ≡ true) × (eqb (lowest_broken (numbers xs)) 0 ≡ true) × (t ≡ timer_of (numbers xs))
   unfolding load_of
-  told = good-from (sized xs) (eqb (lowest_broken (numbers xs)) 0) (lowest_broken (numbers xs)) (timer_of (numbers xs)) t e
+  told = good-from (sized xs) (eqb (lowest_broken (numbers xs)) 0) _ _ e
 
   pub good_length : length xs ≡ 14
   good_length = eqb-true (length xs) 14 told.0

@@ -1,20 +1,22 @@
 -- Every timer met in use keeps the rules, and saves to bytes that load; so do all bytes that the calls leave.
 -- Assumes nothing.
 use Rattle.std.proofs.Common.{◌≡◌, ℕ, zero, suc, ◌^◌, ◌<◌, ◌≤◌, Bool, true, false, cond, not, eqb, List, [], ◌∷◌, get_or, sym, refl, ap, ◌∙◌, subst, arith, eqb-true}
+use Rattle.std.proofs.Math.Dec.{eqb-suc-zero}
 use Rattle.words.specs.Promise.{Answers}
 use Rattle.timer.specs.declared.Timer.{Timer}
 use Rattle.timer.specs.Counting.{created_of, next_of, tick_of, after_ticks}
 use Rattle.timer.specs.Registers.{is_register, writes, written_of, write_of}
-use Rattle.timer.specs.Saved.{bytes_of_timer, load_of, Typed}
+use Rattle.timer.specs.Saved.{bytes_of_timer, sized, load_of, Typed}
 use Rattle.timer.specs.Calls.{timer_in, register_number, write_number}
+use Rattle.timer.specs.Helpers.Parts.{opened_of}
 use Rattle.timer.specs.Met.{Met}
 use Rattle.timer.specs.Met as met
 use Rattle.timer.specs.InUse as bytes
 use Rattle.timer.specs.Theorems.{TimerMetSaves, LoadsAs, TimersLoad}
-use Rattle.timer.proofs.Along.{above, tick-stopped}
+use Rattle.timer.proofs.Along.{tick-stopped}
 use Rattle.timer.proofs.InBytes.{done-is, lent_is, load-saved, good-keeps, good-typed, good-timer, good-bytes}
 use Rattle.timer.proofs.InRegisters.{written_is}
-use Rattle.timer.proofs.Opened.{opened}
+use Rattle.timer.proofs.Opened.{number-is}
 
 -- ---- a timer that keeps the rules
 
@@ -24,7 +26,7 @@ record Sound (t : Timer) : Type 0 where
 
 next_le : (c p : ℕ) → c ≤ p → next_of c p ≤ p
 next_le zero p h = omega arith
-next_le (suc c) p h = rw (above c) (omega arith)
+next_le (suc c) p h = rw (eqb-suc-zero c) (omega arith)
 
 tick-sound : (t : Timer) → Sound t → Sound (tick_of t)
 unfolding tick_of
@@ -112,9 +114,9 @@ module _ {xs : List ℕ} (b : LoadsAs xs) where
   is = sym (good-timer xs b.timer b.loads)
 
   written_back : (offset v : ℕ) → v < 2 ^ 16 → write_number xs offset ≡ 0 → LoadsAs (bytes_of_timer (written_of (timer_in xs) offset v))
-  unfolding write_number write_of
+  unfolding write_number write_of load_of opened_of
   written_back offset v h e =
-      let r : is_register offset ≡ true = a-register (is_register offset) (sym (opened xs (register_number offset) b.loads) ∙ e) in
+      let r : is_register offset ≡ true = a-register (is_register offset) (sym (number-is (sized xs) xs b.loads (register_number offset)) ∙ e) in
       loads-as (met.written offset v b.met h (rw r)) (ap (λ (t : Timer). bytes_of_timer (written_of t offset v)) is)
 
   ran-back : (n : ℕ) → LoadsAs (bytes_of_timer (after_ticks n (timer_in xs)))

@@ -1,217 +1,85 @@
--- The six calls: what is left, by the tests that led there.
+-- The six calls: what is left, by what opening the timer answers, and by what is asked of it then.
 -- Assumes nothing.
-use Rattle.std.proofs.Common.{◌≡◌, ℕ, suc, ◌+◌, ◌*◌, Bool, true, false, cond, not, ◌&&◌, eqb, List, length, sym, refl, ap, ◌∙◌, arith, eq-eqb, ne_eqb}
-use Rattle.words.specs.Bits.{flag}
+use Rattle.std.specs.Prelude.{Result, Ok, Err}
+use Rattle.std.specs.Result.{IsErrAnd}
+use Rattle.std.proofs.Common.{◌≡◌, ℕ, ◌+◌, ◌*◌, Bool, true, false, cond, not, ◌&&◌, eqb, List, length, sym, refl, ap, ◌∙◌, eqb-true}
 use Rattle.words.specs.Promise.{Answers}
 use Rattle.words.proofs.Answering.{answers-refused, answers-done}
 use Rattle.bus.specs.declared.Refusal.{Refusal}
 use Rattle.bus.specs.declared.Refusal.TheVariants.{BadSize, BadImage}
-use Rattle.bus.specs.Refusal.{refusal_number}
+use Rattle.bus.specs.Refusal.{refusal_number, answer_number}
+use Rattle.bus.proofs.Numbers.{refused-not-done}
 use Rattle.timer.specs.declared.Timer.{Timer}
-use Rattle.timer.specs.declared.Ran.{Ran}
-use Rattle.timer.specs.declared.LoadedTimer.TheVariants.{Good, Refused}
-use Rattle.timer.specs.declared.ReadTimer.TheVariants as read
-use Rattle.timer.specs.declared.WroteTimer.TheVariants as wrote
-use Rattle.timer.specs.declared.Between.TheVariants as between
-use Rattle.timer.specs.Counting.{created_of, ran_of}
-use Rattle.timer.specs.Registers.{register_of, written_of, read_of, write_of, line_up, is_full, between_of}
-use Rattle.timer.specs.Saved.{timer_of, numbers, lowest_broken, sized, bytes_of_timer, load_of}
-use Rattle.timer.specs.Calls.{timer_in, value_bytes, is_value, after_rules, register_number, period_number, create_number, read_number, write_number, value_number, elapsed_number, TimerCreated, TimerRead, TimerWritten, TimerLine, TimerRan, TimerElapsed}
-use Rattle.timer.proofs.InBytes.{good_length, good-rules, good-timer}
-use Rattle.timer.proofs.InRegisters.{value-is, no_value, written_is, not_written, ticks-are, no-ticks}
+use Rattle.timer.specs.Saved.{numbers, lowest_broken, sized}
+use Rattle.timer.specs.Registers.{is_register, is_full}
+use Rattle.timer.specs.Calls.{timer_in, is_value, after_rules, register_number, period_number}
+use Rattle.timer.specs.Helpers.Parts.{opened_of}
+use Rattle.timer.proofs.InBytes.{good-from}
 
--- the number of a refusal is not 0
-named : {n r : ℕ} → r ≡ suc n → r ≡ 0 → ⊥
-named e z = absurd (omega (arith, e, z))
+-- ---- a refusal that is passed on
+
+passed : (why : Refusal) (r : Result Unit Refusal) → IsErrAnd r (λ e. e ≡ why) → answer_number r ≡ refusal_number why
+passed why (Ok x) h = absurd h
+passed why (Err e) h = ap refusal_number h
+
+refused : {number : ℕ} {before done : List ℕ} (why : Refusal) (r : Result Unit Refusal) → IsErrAnd r (λ e. e ≡ why)
+    → number ≡ refusal_number why → Answers number before done (answer_number r) before
+refused why r p e = answers-refused (passed why r p ∙ sym e) (λ z. refused-not-done why (sym (passed why r p) ∙ z))
+
+-- the numbers of the calls, as the methods' promises write them
+turned : (b : Bool) (n : ℕ) → cond (not b) n 0 ≡ cond b 0 n
+turned true n = refl
+turned false n = refl
+
+pub register-is : (offset : ℕ) → register_number offset ≡ cond (is_register offset) 0 16
+register-is offset = turned (is_register offset) 16
+
+pub period-is : (t : Timer) → period_number t ≡ cond (is_full t) 0 17
+period-is t = turned (is_full t) 17
 
 -- ---- sizes and rules, which come first
 
-and-true : (b : Bool) → (b && true) ≡ b
-and-true true = refl
-and-true false = refl
+refused-by : (b c : Bool) (n rest : ℕ) (u : Timer) {why : Refusal} → cond b (cond c (Ok u) (Err (BadImage n))) (Err BadSize) ≡ Err why
+    → cond (not b) 7 (cond (not c) (8 + 256 * n) rest) ≡ refusal_number why
+refused-by true true n rest u e = cc
+refused-by true false n rest u e = ap (answer_number {A = Timer}) e
+refused-by false c n rest u e = ap (answer_number {A = Timer}) e
 
-and-false : (b : Bool) → (b && false) ≡ false
-and-false true = refl
-and-false false = refl
+module _ (sizes : Bool) (xs : List ℕ) where
+  pub not-opened : (rest : ℕ) {before done : List ℕ} {why : Refusal} (r : Result Unit Refusal) → IsErrAnd r (λ e. e ≡ why)
+      → opened_of sizes xs ≡ Err why → Answers (after_rules sizes xs rest) before done (answer_number r) before
+  unfolding opened_of
+  not-opened rest {why = why} r p e = refused why r p (refused-by sizes (eqb (lowest_broken (numbers xs)) 0) _ rest _ e)
 
-module _ (xs value : List ℕ) (rest : ℕ) where
-  value-wrong : (length value ≡ 4 → ⊥) → after_rules (sized xs && is_value value) xs rest ≡ 7
-  value-wrong h = rw (ne_eqb (length value) 4 h, and-false (sized xs))
+  module _ {t : Timer} (e : opened_of sizes xs ≡ Ok t) where
+    good : (sizes ≡ true) × (eqb (lowest_broken (numbers xs)) 0 ≡ true) × (t ≡ timer_in xs)
+    unfolding opened_of
+    good = good-from sizes (eqb (lowest_broken (numbers xs)) 0) _ _ e
 
-  value-right : length value ≡ 4 → after_rules (sized xs && is_value value) xs rest ≡ after_rules (sized xs) xs rest
-  value-right l = rw (eq-eqb (length value) 4 l, and-true (sized xs))
+    pub number-is : (rest : ℕ) → after_rules sizes xs rest ≡ rest
+    number-is rest = rw (good.0, good.1)
 
--- by what loading answers
-spoiled-by : (b c : Bool) (n : ℕ) (u : Timer) (why : Refusal) (rest : ℕ)
-    → cond b (cond c (Good u) (Refused (BadImage n))) (Refused BadSize) ≡ Refused why
-    → (cond (not b) 7 (cond (not c) (8 + 256 * n) rest) ≡ refusal_number why) × (refusal_number why ≡ 0 → ⊥)
-spoiled-by true true n u why rest e = absurd (let z : ◌≡◌ {A = ℕ} 0 1 = cc in omega arith)
-spoiled-by true false n u why rest e =
-    let f : BadImage n ≡ why = cc in
-    let g : 8 + 256 * n ≡ refusal_number why = ap refusal_number f in
-    (g, λ z. absurd (omega (arith, g, z)))
-spoiled-by false c n u why rest e =
-    let f : BadSize ≡ why = cc in
-    let g : 7 ≡ refusal_number why = ap refusal_number f in
-    (g, λ z. absurd (omega (arith, g, z)))
+    -- ---- what is asked of the timer then: it is refused, or done
 
-module _ (xs : List ℕ) (rest : ℕ) where
-  spoiled : {why : Refusal} → load_of xs ≡ Refused why → (after_rules (sized xs) xs rest ≡ refusal_number why) × (refusal_number why ≡ 0 → ⊥)
-  unfolding load_of
-  spoiled {why} e =
-      spoiled-by (sized xs) (eqb (lowest_broken (numbers xs)) 0) (lowest_broken (numbers xs)) (timer_of (numbers xs)) why rest e
+    module _ (rest : Timer → ℕ) where
+      pub refused-then : {before done : List ℕ} (why : Refusal) (r : Result Unit Refusal) → IsErrAnd r (λ e. e ≡ why)
+          → rest t ≡ refusal_number why → Answers (after_rules sizes xs (rest (timer_in xs))) before done (answer_number r) before
+      refused-then why r p f = refused why r p (number-is _ ∙ sym (ap rest good.2) ∙ f)
 
-  pub opened : {t : Timer} → load_of xs ≡ Good t → after_rules (sized xs) xs rest ≡ rest
-  opened {t} e = rw (eq-eqb (length xs) 14 (good_length xs t e), eq-eqb (lowest_broken (numbers xs)) 0 (good-rules xs t e))
+      pub done_then : (after : Timer → List ℕ) {before ys : List ℕ} → rest t ≡ 0 → ys ≡ after t
+          → Answers (after_rules sizes xs (rest (timer_in xs))) before (after (timer_in xs)) 0 ys
+      done_then after f g = answers-done (number-is _ ∙ sym (ap rest good.2) ∙ f) (g ∙ ap after good.2)
 
--- ---- a call that tells a value, whatever it may write
+-- ---- the sizes, of a timer's bytes and a value's
 
-module _ (xs value before done : List ℕ) (rest : ℕ) where
-  short-answers : {r : ℕ} → (length value ≡ 4 → ⊥) → r ≡ 7 → Answers (after_rules (sized xs && is_value value) xs rest) before done r before
-  short-answers h p = answers-refused (p ∙ sym (value-wrong xs value rest h)) (named p)
+both : (a b : Bool) → (a && b) ≡ true → (a ≡ true) × (b ≡ true)
+both true true e = (refl, refl)
+both true false e = cc
+both false b e = cc
 
-  spoiled-answers : {r : ℕ} {why : Refusal} → length value ≡ 4 → load_of xs ≡ Refused why → r ≡ refusal_number why
-      → Answers (after_rules (sized xs && is_value value) xs rest) before done r before
-  spoiled-answers l e p =
-      let s = spoiled xs rest e in
-      answers-refused (p ∙ sym (value-right xs value rest l ∙ s.0)) (λ z. s.1 (sym p ∙ z))
+module _ (xs value : List ℕ) {t : Timer} (e : opened_of (sized xs && is_value value) xs ≡ Ok t) where
+  pub timer-sized : length xs ≡ 14
+  timer-sized = eqb-true (length xs) 14 (both (sized xs) (is_value value) (good _ _ e).0).0
 
-module _ (xs value : List ℕ) (rest : ℕ) where
-  loaded-number : {t : Timer} → length value ≡ 4 → load_of xs ≡ Good t → after_rules (sized xs && is_value value) xs rest ≡ rest
-  loaded-number l e = value-right xs value rest l ∙ opened xs rest e
-
--- ---- create
-
-module _ (xs : List ℕ) (period : ℕ) where
-  pub create-short : {r : ℕ} → (length xs ≡ 14 → ⊥) → r ≡ 7 → TimerCreated xs period r xs
-  unfolding create_number
-  create-short h p = answers-refused (p ∙ sym (rw (ne_eqb (length xs) 14 h))) (named p)
-
-  pub create-done : {t : Timer} {ys : List ℕ} → length xs ≡ 14 → t ≡ created_of period → ys ≡ bytes_of_timer t → TimerCreated xs period 0 ys
-  unfolding create_number
-  create-done l e f = answers-done (rw (eq-eqb (length xs) 14 l)) (f ∙ ap bytes_of_timer e)
-
--- ---- read
-
-module _ (xs : List ℕ) (offset : ℕ) (value : List ℕ) where
-  pub read_short : {r : ℕ} → (length value ≡ 4 → ⊥) → r ≡ 7 → TimerRead xs offset value r value
-  unfolding read_number
-  read_short h p = short-answers xs value value _ (register_number offset) h p
-
-  pub read-spoiled : {r : ℕ} {why : Refusal} → length value ≡ 4 → load_of xs ≡ Refused why → r ≡ refusal_number why
-      → TimerRead xs offset value r value
-  unfolding read_number
-  read-spoiled l e p = spoiled-answers xs value value _ (register_number offset) l e p
-
-  module _ (l : length value ≡ 4) (t : Timer) (e : load_of xs ≡ Good t) where
-    pub read-refused : {r : ℕ} {why : Refusal} → read_of t offset ≡ read.Refused why → r ≡ refusal_number why
-        → TimerRead xs offset value r value
-    unfolding read_number
-    read-refused f p =
-        let n = no_value t offset f in
-        let s : register_number offset ≡ 16 = rw n.0 in
-        answers-refused (p ∙ n.1 ∙ sym (loaded-number xs value (register_number offset) l e ∙ s)) (named (p ∙ n.1))
-
-    pub read_done : {w : ℕ} {ys : List ℕ} → read_of t offset ≡ read.Value w → ys ≡ value_bytes w → TimerRead xs offset value 0 ys
-    unfolding read_number
-    read_done f g =
-        let v = value-is t offset f in
-        answers-done (loaded-number xs value (register_number offset) l e ∙ rw v.0)
-        (g ∙ ap value_bytes (v.1 ∙ ap (λ (u : Timer). register_of u offset) (good-timer xs t e)))
-
--- ---- write
-
-module _ (xs : List ℕ) (offset v : ℕ) where
-  pub write-spoiled : {r : ℕ} {why : Refusal} → load_of xs ≡ Refused why → r ≡ refusal_number why → TimerWritten xs offset v r xs
-  unfolding write_number
-  write-spoiled e p =
-      let s = spoiled xs (register_number offset) e in
-      answers-refused (p ∙ sym s.0) (λ z. s.1 (sym p ∙ z))
-
-  module _ (t : Timer) (e : load_of xs ≡ Good t) where
-    pub write-refused : {r : ℕ} {why : Refusal} → write_of t offset v ≡ wrote.Refused why → r ≡ refusal_number why
-        → TimerWritten xs offset v r xs
-    unfolding write_number
-    write-refused f p =
-        let n = not_written t offset v f in
-        let s : register_number offset ≡ 16 = rw n.0 in
-        answers-refused (p ∙ n.1 ∙ sym (opened xs (register_number offset) e ∙ s)) (named (p ∙ n.1))
-
-    pub write_done : {u : Timer} {ys : List ℕ} → write_of t offset v ≡ wrote.Done u → ys ≡ bytes_of_timer u → TimerWritten xs offset v 0 ys
-    unfolding write_number
-    write_done f g =
-        let n = written_is t offset v f in
-        answers-done (opened xs (register_number offset) e ∙ rw n.0)
-        (g ∙ ap bytes_of_timer (n.1 ∙ ap (λ (s : Timer). written_of s offset v) (good-timer xs t e)))
-
--- ---- line
-
-module _ (xs value : List ℕ) where
-  pub line-short : {r : ℕ} → (length value ≡ 4 → ⊥) → r ≡ 7 → TimerLine xs value r value
-  unfolding value_number
-  line-short h p = short-answers xs value value _ 0 h p
-
-  pub line-spoiled : {r : ℕ} {why : Refusal} → length value ≡ 4 → load_of xs ≡ Refused why → r ≡ refusal_number why
-      → TimerLine xs value r value
-  unfolding value_number
-  line-spoiled l e p = spoiled-answers xs value value _ 0 l e p
-
-  pub line-done : {v : ℕ} {ys : List ℕ} → length value ≡ 4 → (t : Timer) → load_of xs ≡ Good t → v ≡ flag (line_up t) → ys ≡ value_bytes v
-      → TimerLine xs value 0 ys
-  unfolding value_number
-  line-done l t e f g =
-      answers-done (loaded-number xs value 0 l e) (g ∙ ap value_bytes (f ∙ ap (λ (u : Timer). flag (line_up u)) (good-timer xs t e)))
-
--- ---- run
-
-module _ (xs : List ℕ) (n : ℕ) (value : List ℕ) where
-  pub run_short : {r : ℕ} → (length value ≡ 4 → ⊥) → r ≡ 7 → TimerRan xs n value r xs value
-  unfolding value_number
-  run_short h p = record { timer = short-answers xs value xs _ 0 h p; zeros = short-answers xs value value _ 0 h p }
-
-  pub run-spoiled : {r : ℕ} {why : Refusal} → length value ≡ 4 → load_of xs ≡ Refused why → r ≡ refusal_number why
-      → TimerRan xs n value r xs value
-  unfolding value_number
-  run-spoiled l e p = record { timer = spoiled-answers xs value xs _ 0 l e p; zeros = spoiled-answers xs value value _ 0 l e p }
-
-  pub run-done : {a : Ran} {ys zs : List ℕ} → length value ≡ 4 → (t : Timer) → load_of xs ≡ Good t → a ≡ ran_of n t
-      → ys ≡ bytes_of_timer a.timer → zs ≡ value_bytes a.zeros → TimerRan xs n value 0 ys zs
-  unfolding value_number ran_of
-  run-done {a} l t e f g h =
-      let done = loaded-number xs value 0 l e in
-      let is : a ≡ ran_of n (timer_in xs) = f ∙ ap (ran_of n) (good-timer xs t e) in
-      record {
-        timer = answers-done done (g ∙ ap (λ (x : Ran). bytes_of_timer x.timer) is);
-        zeros = answers-done done (h ∙ ap (λ (x : Ran). value_bytes x.zeros) is);
-      }
-
--- ---- elapsed
-
-module _ (xs : List ℕ) (earlier later : ℕ) (value : List ℕ) where
-  pub elapsed-short : {r : ℕ} → (length value ≡ 4 → ⊥) → r ≡ 7 → TimerElapsed xs earlier later value r value
-  unfolding elapsed_number
-  elapsed-short h p = short-answers xs value value _ (period_number (timer_in xs)) h p
-
-  pub elapsed-spoiled : {r : ℕ} {why : Refusal} → length value ≡ 4 → load_of xs ≡ Refused why → r ≡ refusal_number why
-      → TimerElapsed xs earlier later value r value
-  unfolding elapsed_number
-  elapsed-spoiled l e p = spoiled-answers xs value value _ (period_number (timer_in xs)) l e p
-
-  module _ (l : length value ≡ 4) (t : Timer) (e : load_of xs ≡ Good t) where
-    number : (b : Bool) → is_full t ≡ b → elapsed_number xs value ≡ cond (not b) 17 0
-    unfolding elapsed_number
-    number b f =
-        loaded-number xs value (period_number (timer_in xs)) l e
-        ∙ ap (λ (b : Bool). cond (not b) 17 0) (sym (ap is_full (good-timer xs t e)) ∙ f)
-
-    pub elapsed-refused : {r : ℕ} {why : Refusal} → between_of t earlier later ≡ between.Refused why → r ≡ refusal_number why
-        → TimerElapsed xs earlier later value r value
-    elapsed-refused f p =
-        let n = no-ticks t earlier later f in
-        answers-refused (p ∙ n.1 ∙ sym (number false n.0)) (named (p ∙ n.1))
-
-    pub elapsed-done : {n : ℕ} {ys : List ℕ} → between_of t earlier later ≡ between.Ticks n → ys ≡ value_bytes n
-        → TimerElapsed xs earlier later value 0 ys
-    elapsed-done f g =
-        let n = ticks-are t earlier later f in
-        answers-done (number true n.0) (g ∙ ap value_bytes n.1)
+  pub value_sized : length value ≡ 4
+  value_sized = eqb-true (length value) 4 (both (sized xs) (is_value value) (good _ _ e).0).1

@@ -1,17 +1,17 @@
 -- When a running timer reaches zero, and the time between two snapshots.
 -- Assumes nothing.
+use Rattle.std.specs.Prelude.{Ok}
 use Rattle.std.proofs.Common.{◌≡◌, ℕ, zero, suc, ◌+◌, ◌-◌, ◌*◌, ◌%◌, ◌^◌, ◌<◌, ◌≤◌, Bool, true, false, ◌||◌, eqb, ltb, sym, refl, ap, ◌∙◌, add-zero, add_assoc, add-suc, suc-mul, zero-add, zero-mul, arith, ltb-false, ltb-true, eq-eqb, ne_eqb, eqb-true}
+use Rattle.std.proofs.Math.Dec.{eqb-suc-zero}
 use Rattle.words.specs.Bits.{flag}
 use Rattle.timer.specs.declared.Timer.{Timer}
 use Rattle.timer.specs.declared.Ran.{Ran}
-use Rattle.timer.specs.declared.WroteTimer.TheVariants as wrote
-use Rattle.timer.specs.declared.Between.TheVariants.{Ticks}
 use Rattle.timer.specs.Counting.{reaches, tick_of, after_ticks, zeros_in, ran_of}
 use Rattle.timer.specs.Registers.{snapped_of, elapsed_of, between_of}
 use Rattle.timer.specs.Helpers.Parts.{after}
 use Rattle.timer.specs.Theorems.{hits, TicksAdd, ZerosWithin, TicksSetTO, first, Periodic, ReachesEveryPeriod, Once, OneShot, Snap, ElapsedIsTicks}
-use Rattle.timer.proofs.Along.{Stands, stands-is, down, bottom, within, round, turns, above, ran-down, ran_on, ran-once}
-use Rattle.timer.proofs.InRegisters.{between-full, write-snapl, write-snaph}
+use Rattle.timer.proofs.Along.{Stands, stands-is, down, bottom, within, round, turns, ran-down, ran_on, ran-once}
+use Rattle.timer.proofs.InRegisters.{between-full, written_is}
 
 -- ---- ticks
 
@@ -78,7 +78,7 @@ module _ (t : Timer) (e : t.run ≡ true) (on : t.cont ≡ true) where
   first-zero f = rw (eq-eqb t.counter 0 f)
 
   first_above : (c : ℕ) → t.counter ≡ suc c → first t ≡ suc c
-  first_above c f = rw (f, above c)
+  first_above c f = rw (f, eqb-suc-zero c)
 
   -- zero is not reached before
   none-by : (c : ℕ) → t.counter ≡ c → (n : ℕ) → n < first t → zeros_in n t ≡ 0
@@ -98,7 +98,7 @@ module _ (t : Timer) (e : t.run ≡ true) (on : t.cont ≡ true) where
       (omega (arith, g), stands-is (zero-add (t.period + 1) ∙ sym g) refl refl refl (round t on t.period refl (bottom t e zero f)))
   some-by (suc c) f =
       let g = first_above c f in
-      (omega (arith, g), stands-is (sym g) refl refl (rw (above c)) (bottom t e (suc c) f))
+      (omega (arith, g), stands-is (sym g) refl refl (rw (eqb-suc-zero c)) (bottom t e (suc c) f))
 
   some : (0 < first t) × Stands (first t) t 0 true 1
   some = some-by t.counter refl
@@ -124,7 +124,7 @@ module _ (t : Timer) (e : t.run ≡ true) (on : t.cont ≡ true) where
       (times j t.period (omega arith)) (omega arith)
   every j (suc r) h =
       hit-not t _ (first t + j * (t.period + 1) + r) (1 + j) (1 + j) (omega arith) (times j (suc r) h) (times j r (omega arith)) refl
-      ∙ sym (above r)
+      ∙ sym (eqb-suc-zero r)
 
   periodic : Periodic t
   periodic = record {
@@ -188,19 +188,19 @@ full_at c n h i = by ((n - c) % 2 ^ 32) refl
   where
     by : (x : ℕ) → (n - c) % 2 ^ 32 ≡ x → elapsed_of c (after 4294967295 x) ≡ n % 2 ^ 32
     by zero f = omega arith
-    by (suc x) f = rw (above x) (omega arith)
+    by (suc x) f = rw (eqb-suc-zero x) (omega arith)
 
 module _ (t : Timer) (n : ℕ) (e : t.run ≡ true) (on : t.cont ≡ true) (full : t.period ≡ 4294967295) (h : t.counter ≤ t.period) where
   told : (u : Timer) → after_ticks n (snapped_of t) ≡ u → u.period ≡ t.period → elapsed_of t.counter u.counter ≡ n % 2 ^ 32
-      → between_of (snapped_of (after_ticks n (snapped_of t))) t.counter (after_ticks n (snapped_of t)).counter ≡ Ticks (n % 2 ^ 32)
-  told u f g k = rw f (between-full (snapped_of u) t.counter u.counter (g ∙ full) ∙ ap Ticks k)
+      → between_of (snapped_of (after_ticks n (snapped_of t))) t.counter (after_ticks n (snapped_of t)).counter ≡ Ok (n % 2 ^ 32)
+  told u f g k = rw f (between-full (snapped_of u) t.counter u.counter (g ∙ full) ∙ ap Ok k)
 
-  is-ticks : between_of (snapped_of (after_ticks n (snapped_of t))) t.counter (after_ticks n (snapped_of t)).counter ≡ Ticks (n % 2 ^ 32)
+  is-ticks : between_of (snapped_of (after_ticks n (snapped_of t))) t.counter (after_ticks n (snapped_of t)).counter ≡ Ok (n % 2 ^ 32)
   unfolding ran_of
   is-ticks = by (ltb n t.counter) refl
     where
       by : (b : Bool) → ltb n t.counter ≡ b
-          → between_of (snapped_of (after_ticks n (snapped_of t))) t.counter (after_ticks n (snapped_of t)).counter ≡ Ticks (n % 2 ^ 32)
+          → between_of (snapped_of (after_ticks n (snapped_of t))) t.counter (after_ticks n (snapped_of t)).counter ≡ Ok (n % 2 ^ 32)
       by true f =
           let i = ltb-true n t.counter f in
           told _ (ap (λ (r : Ran). r.timer) (ran-down n (snapped_of t) e i)) refl (omega (arith, i, h, full))
@@ -209,15 +209,12 @@ module _ (t : Timer) (n : ℕ) (e : t.run ≡ true) (on : t.cont ≡ true) (full
           told _ (ap (λ (r : Ran). r.timer) (ran_on n (snapped_of t) e on i)) refl
           (rw full (full_at t.counter n i (omega (arith, h, full))))
 
-same-done : {t u : Timer} → wrote.Done t ≡ wrote.Done u → u ≡ t
-same-done e = cc
-
 snap-is : {t u : Timer} {o v : ℕ} → Snap t o v u → u ≡ snapped_of t
 snap-is {t} {u} {o} {v} s = by (eqb o 4) refl
   where
     by : (b : Bool) → eqb o 4 ≡ b → u ≡ snapped_of t
-    by true f = same-done (sym (write-snapl t o v (eqb-true o 4 f)) ∙ s.is)
-    by false f = same-done (sym (write-snaph t o v (eqb-true o 5 (rw f at s.at))) ∙ s.is)
+    by true f = (written_is t o v s.is).1 ∙ rw (eqb-true o 4 f)
+    by false f = (written_is t o v s.is).1 ∙ rw (eqb-true o 5 (rw f at s.at))
 
 -- The time between two snapshots is the ticks between them, modulo 2^32.
 pub elapsed-is-ticks : ElapsedIsTicks

@@ -1,17 +1,12 @@
 -- The six registers, of 16 bits each; the interrupt line; the time between two snapshots.
 -- Assumes nothing.
-use Rattle.std.specs.Prelude.{◌≡◌, ℕ, ◌+◌, ◌-◌, ◌*◌, ◌/◌, ◌%◌, ◌^◌, Bool, false, cond, not, ◌&&◌, ◌||◌, List, [], ◌∷◌, ◌==◌, nat_le, slice_index, slice_index_or, if◌then◌else◌}
+use Rattle.std.specs.Prelude.{◌≡◌, ℕ, ◌+◌, ◌-◌, ◌*◌, ◌/◌, ◌%◌, ◌^◌, Bool, false, cond, not, ◌&&◌, ◌||◌, List, [], ◌∷◌, ◌==◌, nat_le, slice_index, slice_index_or, if◌then◌else◌, Result, Ok, Err}
 use Rattle.std.proofs.Common.{sym, ◌∙◌}
 use Rattle.words.specs.Bits.{bit, flag}
+use Rattle.bus.specs.declared.Refusal.{Refusal}
 use Rattle.bus.specs.declared.Refusal.TheVariants.{NoTimerRegister, NotFullPeriod}
-use Rattle.bus.specs.Refusal.{refusal_number}
+use Rattle.bus.specs.Refusal.{answer_number}
 use Rattle.timer.specs.declared.Timer.{Timer}
-use Rattle.timer.specs.declared.ReadTimer.{ReadTimer}
-use Rattle.timer.specs.declared.ReadTimer.TheVariants as read
-use Rattle.timer.specs.declared.WroteTimer.{WroteTimer}
-use Rattle.timer.specs.declared.WroteTimer.TheVariants as wrote
-use Rattle.timer.specs.declared.Between.{Between}
-use Rattle.timer.specs.declared.Between.TheVariants as between
 
 -- 16 NoTimerRegister is "for an offset above 5"
 abbrev pub is_register : (offset : ℕ) → Bool
@@ -41,8 +36,8 @@ registers t =
 abbrev pub register_of : Timer → (offset : ℕ) → ℕ
 register_of t offset = slice_index (registers t) offset
 
-unfoldable pub read_of : Timer → (offset : ℕ) → ReadTimer
-read_of t offset = if is_register offset then read.Value (register_of t offset) else read.Refused NoTimerRegister
+unfoldable pub read_of : Timer → (offset : ℕ) → Result ℕ Refusal
+read_of t offset = if is_register offset then Ok (register_of t offset) else Err NoTimerRegister
 
 -- ---- writing
 
@@ -88,8 +83,8 @@ writes t v =
 abbrev pub written_of : Timer → (offset v : ℕ) → Timer
 written_of t offset v = slice_index_or (writes t v) offset t
 
-unfoldable pub write_of : Timer → (offset v : ℕ) → WroteTimer
-write_of t offset v = if is_register offset then wrote.Done (written_of t offset v) else wrote.Refused NoTimerRegister
+unfoldable pub write_of : Timer → (offset v : ℕ) → Result Timer Refusal
+write_of t offset v = if is_register offset then Ok (written_of t offset v) else Err NoTimerRegister
 
 -- ---- the line is up exactly when TO and ITO are 1
 
@@ -107,45 +102,33 @@ abbrev pub is_full : Timer → Bool
 is_full t = t.period == 4294967295
 
 -- 17 NotFullPeriod is "for elapsed time on any other period"
-unfoldable pub between_of : Timer → (earlier later : ℕ) → Between
-between_of t earlier later = if is_full t then between.Ticks (elapsed_of earlier later) else between.Refused NotFullPeriod
+unfoldable pub between_of : Timer → (earlier later : ℕ) → Result ℕ Refusal
+between_of t earlier later = if is_full t then Ok (elapsed_of earlier later) else Err NotFullPeriod
 
 -- ---- the promises of the methods that can refuse: the answer, and the refusal's number
 
-abbrev pub read_number : ReadTimer → ℕ
-read_number (read.Value v) = 0
-read_number (read.Refused r) = refusal_number r
-
-abbrev pub wrote_number : WroteTimer → ℕ
-wrote_number (wrote.Done t) = 0
-wrote_number (wrote.Refused r) = refusal_number r
-
-abbrev pub between_number : Between → ℕ
-between_number (between.Ticks n) = 0
-between_number (between.Refused r) = refusal_number r
-
 -- Timer::read
-pub record TimerWasRead (t : Timer) (offset : ℕ) (r : ReadTimer) : Type 0 where
+pub record TimerWasRead (t : Timer) (offset : ℕ) (r : Result ℕ Refusal) : Type 0 where
   pub answer : r ≡ read_of t offset
-  pub number : read_number r ≡ cond (is_register offset) 0 16
+  pub number : answer_number r ≡ cond (is_register offset) 0 16
 
 -- Timer::write
-pub record TimerWasWritten (t : Timer) (offset v : ℕ) (r : WroteTimer) : Type 0 where
+pub record TimerWasWritten (t : Timer) (offset v : ℕ) (r : Result Timer Refusal) : Type 0 where
   pub answer : r ≡ write_of t offset v
-  pub number : wrote_number r ≡ cond (is_register offset) 0 16
+  pub number : answer_number r ≡ cond (is_register offset) 0 16
 
 -- Timer::elapsed
-pub record TimerWasElapsed (t : Timer) (earlier later : ℕ) (r : Between) : Type 0 where
+pub record TimerWasElapsed (t : Timer) (earlier later : ℕ) (r : Result ℕ Refusal) : Type 0 where
   pub answer : r ≡ between_of t earlier later
-  pub number : between_number r ≡ cond (is_full t) 0 17
+  pub number : answer_number r ≡ cond (is_full t) 0 17
 
-pub timer-read-unique : {t : Timer} {offset : ℕ} {r s : ReadTimer} → TimerWasRead t offset r → TimerWasRead t offset s → r ≡ s
+pub timer-read-unique : {t : Timer} {offset : ℕ} {r s : Result ℕ Refusal} → TimerWasRead t offset r → TimerWasRead t offset s → r ≡ s
 timer-read-unique p q = p.answer ∙ sym q.answer
 
-pub timer-written-unique : {t : Timer} {offset v : ℕ} {r s : WroteTimer}
+pub timer-written-unique : {t : Timer} {offset v : ℕ} {r s : Result Timer Refusal}
     → TimerWasWritten t offset v r → TimerWasWritten t offset v s → r ≡ s
 timer-written-unique p q = p.answer ∙ sym q.answer
 
-pub timer-elapsed-unique : {t : Timer} {earlier later : ℕ} {r s : Between}
+pub timer-elapsed-unique : {t : Timer} {earlier later : ℕ} {r s : Result ℕ Refusal}
     → TimerWasElapsed t earlier later r → TimerWasElapsed t earlier later s → r ≡ s
 timer-elapsed-unique p q = p.answer ∙ sym q.answer

@@ -1,17 +1,14 @@
 -- The timer's 14 bytes: the fields side by side in this order, bits most significant first; their rules; reading and writing them.
 -- Assumes nothing.
-use Rattle.std.specs.Prelude.{◌≡◌, ℕ, ◌+◌, ◌*◌, ◌^◌, ◌<◌, Bool, true, cond, ◌&&◌, List, [], ◌∷◌, map, length, ◌==◌, nat_eq, nat_le, slice_index, slice_index_or, if◌then◌else◌}
+use Rattle.std.specs.Prelude.{◌≡◌, ℕ, ◌+◌, ◌*◌, ◌^◌, ◌<◌, Bool, true, cond, ◌&&◌, List, [], ◌∷◌, map, length, ◌==◌, nat_eq, nat_le, slice_index, slice_index_or, if◌then◌else◌, Result, Ok, Err}
 use Rattle.std.proofs.Common.{sym, ◌∙◌}
 use Rattle.words.specs.Bits.{flag}
 use Rattle.words.specs.Numbers.{recode, bytes}
 use Rattle.words.specs.Fields.{Field, ◌bits◌, first_false}
+use Rattle.bus.specs.declared.Refusal.{Refusal}
 use Rattle.bus.specs.declared.Refusal.TheVariants.{BadSize, BadImage}
-use Rattle.bus.specs.Refusal.{refusal_number}
+use Rattle.bus.specs.Refusal.{answer_number}
 use Rattle.timer.specs.declared.Timer.{Timer}
-use Rattle.timer.specs.declared.LoadedTimer.{LoadedTimer}
-use Rattle.timer.specs.declared.LoadedTimer.TheVariants as loaded
-use Rattle.timer.specs.declared.SavedTimer.{SavedTimer}
-use Rattle.timer.specs.declared.SavedTimer.TheVariants as saved
 
 -- ---- the layout
 
@@ -87,18 +84,18 @@ abbrev pub sized : List ℕ → Bool
 sized xs = length xs == 14
 
 -- a timer, or a refusal with this field
-abbrev pub judged : (field : ℕ) → Timer → LoadedTimer
-judged field t = if field == 0 then loaded.Good t else loaded.Refused (BadImage field)
+abbrev pub judged : (field : ℕ) → Timer → Result Timer Refusal
+judged field t = if field == 0 then Ok t else Err (BadImage field)
 
 -- 7 where the size is wrong; else 8 with the field where a rule is broken; else the timer
-unfoldable pub load_of : List ℕ → LoadedTimer
-load_of xs = if sized xs then judged (lowest_broken (numbers xs)) (timer_of (numbers xs)) else loaded.Refused BadSize
+unfoldable pub load_of : List ℕ → Result Timer Refusal
+load_of xs = if sized xs then judged (lowest_broken (numbers xs)) (timer_of (numbers xs)) else Err BadSize
 
 -- 7 where the size is wrong; else 8 with the field where the timer breaks a rule; else done
-unfoldable pub save_of : Timer → List ℕ → SavedTimer
+unfoldable pub save_of : Timer → List ℕ → Result Unit Refusal
 save_of t xs =
-    if sized xs then (if nat_eq (lowest_broken (values t)) 0 then saved.Done else saved.Refused (BadImage (lowest_broken (values t))))
-    else saved.Refused BadSize
+    if sized xs then (if nat_eq (lowest_broken (values t)) 0 then Ok tt else Err (BadImage (lowest_broken (values t))))
+    else Err BadSize
 
 -- the lent bytes after: the timer's, or what they were where the call is refused
 unfoldable pub saved_over : Timer → List ℕ → List ℕ
@@ -106,33 +103,25 @@ saved_over t xs = if sized xs && lowest_broken (values t) == 0 then bytes_of_tim
 
 -- ---- the promises
 
-abbrev pub load_number : LoadedTimer → ℕ
-load_number (loaded.Good t) = 0
-load_number (loaded.Refused r) = refusal_number r
-
-abbrev pub save_number : SavedTimer → ℕ
-save_number saved.Done = 0
-save_number (saved.Refused r) = refusal_number r
-
 -- 7, then 8 + 256 x field, else 0: the numbers written out, so that `refusal_number` is held to them
 abbrev pub image_number : (right : Bool) (field : ℕ) → ℕ
 image_number right field = cond right (cond (field == 0) 0 (8 + 256 * field)) 7
 
 -- Timer::load
-pub record TimerWasLoaded (xs : List ℕ) (r : LoadedTimer) : Type 0 where
+pub record TimerWasLoaded (xs : List ℕ) (r : Result Timer Refusal) : Type 0 where
   pub answer : r ≡ load_of xs
-  pub number : load_number r ≡ image_number (sized xs) (lowest_broken (numbers xs))
+  pub number : answer_number r ≡ image_number (sized xs) (lowest_broken (numbers xs))
 
 -- Timer::save
-pub record TimerWasSaved (t : Timer) (xs : List ℕ) (r : SavedTimer) (xs' : List ℕ) : Type 0 where
+pub record TimerWasSaved (t : Timer) (xs : List ℕ) (r : Result Unit Refusal) (xs' : List ℕ) : Type 0 where
   pub answer : r ≡ save_of t xs
-  pub number : save_number r ≡ image_number (sized xs) (lowest_broken (values t))
+  pub number : answer_number r ≡ image_number (sized xs) (lowest_broken (values t))
   pub lent : xs' ≡ saved_over t xs
 
-pub timer-loaded-unique : {xs : List ℕ} {r s : LoadedTimer} → TimerWasLoaded xs r → TimerWasLoaded xs s → r ≡ s
+pub timer-loaded-unique : {xs : List ℕ} {r s : Result Timer Refusal} → TimerWasLoaded xs r → TimerWasLoaded xs s → r ≡ s
 timer-loaded-unique p q = p.answer ∙ sym q.answer
 
-pub timer-saved-unique : {t : Timer} {xs ys zs : List ℕ} {r s : SavedTimer}
+pub timer-saved-unique : {t : Timer} {xs ys zs : List ℕ} {r s : Result Unit Refusal}
     → TimerWasSaved t xs r ys → TimerWasSaved t xs s zs → (r ≡ s) × (ys ≡ zs)
 timer-saved-unique p q = (p.answer ∙ sym q.answer, p.lent ∙ sym q.lent)
 

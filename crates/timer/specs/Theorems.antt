@@ -1,12 +1,8 @@
 -- What is proved of the timer: each theorem's whole statement, under its name. A term of each stands in proofs/.
 -- Assumes nothing.
-use Rattle.std.specs.Prelude.{◌≡◌, ℕ, zero, suc, ◌+◌, ◌*◌, ◌%◌, ◌^◌, ◌<◌, ◌≤◌, Bool, true, false, ◌||◌, ◌≢◌, List, length, ◌==◌, if◌then◌else◌}
+use Rattle.std.specs.Prelude.{◌≡◌, ℕ, zero, suc, ◌+◌, ◌*◌, ◌%◌, ◌^◌, ◌<◌, ◌≤◌, Bool, true, false, ◌||◌, ◌≢◌, List, length, ◌==◌, if◌then◌else◌, Ok}
 use Rattle.words.specs.Slices.{AllBytes}
 use Rattle.timer.specs.declared.Timer.{Timer}
-use Rattle.timer.specs.declared.Between.TheVariants.{Ticks}
-use Rattle.timer.specs.declared.LoadedTimer.TheVariants.{Good}
-use Rattle.timer.specs.declared.SavedTimer.TheVariants as saved
-use Rattle.timer.specs.declared.WroteTimer.TheVariants as wrote
 use Rattle.timer.specs.Counting.{reaches, tick_of, after_ticks, zeros_in}
 use Rattle.timer.specs.Registers.{write_of, between_of}
 use Rattle.timer.specs.Saved.{rule_at, lowest_broken, bytes_of_timer, load_of, save_of, saved_over}
@@ -88,30 +84,30 @@ OneShot = (t : Timer) → t.run ≡ true → t.cont ≡ false → Once t
 -- u is t after a write to a snap register
 pub record Snap (t : Timer) (offset v : ℕ) (u : Timer) : Type 0 where
   pub at : (offset == 4 || offset == 5) ≡ true
-  pub is : write_of t offset v ≡ wrote.Done u
+  pub is : write_of t offset v ≡ Ok u
 
 -- The time between two snapshots of a full-period continuous timer, n ticks apart and written to in no other way, is n modulo 2^32.
 abbrev pub ElapsedIsTicks : Type 0
 ElapsedIsTicks = (t earlier later : Timer) (n a v b w : ℕ)
     → t.run ≡ true → t.cont ≡ true → t.period ≡ 4294967295 → t.counter ≤ t.period
     → Snap t a v earlier → Snap (after_ticks n earlier) b w later
-    → between_of later earlier.snapshot later.snapshot ≡ Ticks (n % 2 ^ 32)
+    → between_of later earlier.snapshot later.snapshot ≡ Ok (n % 2 ^ 32)
 
 -- ---- the 14 bytes
 
 -- A loaded timer saves to the same bytes, and is not refused.
 pub record SavesBack (xs : List ℕ) (t : Timer) : Type 0 where
   pub same : bytes_of_timer t ≡ xs
-  pub done : (ys : List ℕ) → length ys ≡ 14 → save_of t ys ≡ saved.Done
+  pub done : (ys : List ℕ) → length ys ≡ 14 → save_of t ys ≡ Ok tt
   pub lent : (ys : List ℕ) → length ys ≡ 14 → saved_over t ys ≡ xs
 
 abbrev pub TimerSavesLoaded : Type 0
-TimerSavesLoaded = (xs : List ℕ) (t : Timer) → AllBytes xs → load_of xs ≡ Good t → SavesBack xs t
+TimerSavesLoaded = (xs : List ℕ) (t : Timer) → AllBytes xs → load_of xs ≡ Ok t → SavesBack xs t
 
 -- Every timer met in use saves to bytes that load, as it.
 pub record SavesToLoad (t : Timer) (xs : List ℕ) : Type 0 where
-  pub done : save_of t xs ≡ saved.Done
-  pub loads : load_of (saved_over t xs) ≡ Good t
+  pub done : save_of t xs ≡ Ok tt
+  pub loads : load_of (saved_over t xs) ≡ Ok t
 
 abbrev pub TimerMetSaves : Type 0
 TimerMetSaves = (t : Timer) (xs : List ℕ) → Met t → length xs ≡ 14 → SavesToLoad t xs
@@ -121,7 +117,7 @@ pub record LoadsAs (xs : List ℕ) : Type 0 where
   pub timer : Timer
   pub met : Met timer
   pub bytes : xs ≡ bytes_of_timer timer
-  pub loads : load_of xs ≡ Good timer
+  pub loads : load_of xs ≡ Ok timer
 
 abbrev pub TimersLoad : Type 0
 TimersLoad = (xs : List ℕ) → InUse xs → LoadsAs xs

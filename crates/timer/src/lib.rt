@@ -11,11 +11,10 @@ ghost use Rattle.timer.specs.Registers.{register_of, cleared_of, controlled_of, 
 ghost use Rattle.timer.specs.Helpers.Parts.{standing, after};
 
 use bus::Refusal;
-use std::num::wrapping_sub_u32;
 use words::{flag, has};
 
 // The timer. It counts down from the period; CONT: again and again; ITO: with an interrupt; RUN: it counts; TO: it reached zero.
-#[derive(Clone, Copy)]
+#[derive(Clone, Copy, Debug, PartialEq, Eq)]
 pub struct Timer {
     pub counter: u32,
     pub period: u32,
@@ -27,45 +26,10 @@ pub struct Timer {
 }
 
 // A timer after ticks, and how many times its counter reached zero in them.
-#[derive(Clone, Copy)]
+#[derive(Clone, Copy, Debug, PartialEq, Eq)]
 pub struct Ran {
     pub timer: Timer,
     pub zeros: u32,
-}
-
-// What a register read answers.
-#[derive(Clone, Copy)]
-pub enum ReadTimer {
-    Value(u16),
-    Refused(Refusal),
-}
-
-// The timer after a register write, or why it is refused.
-#[derive(Clone, Copy)]
-pub enum WroteTimer {
-    Done(Timer),
-    Refused(Refusal),
-}
-
-// The ticks between two snapshots, or why they cannot be told.
-#[derive(Clone, Copy)]
-pub enum Between {
-    Ticks(u32),
-    Refused(Refusal),
-}
-
-// The timer of 14 bytes, or why they are refused.
-#[derive(Clone, Copy)]
-pub enum LoadedTimer {
-    Good(Timer),
-    Refused(Refusal),
-}
-
-// Whether a timer was saved, or why not.
-#[derive(Clone, Copy)]
-pub enum SavedTimer {
-    Done,
-    Refused(Refusal),
 }
 
 // The counter's new value in a tick.
@@ -127,7 +91,7 @@ impl Timer {
     pub const STOP: u16 = 8;
 
     // The period of which elapsed time can be told.
-    pub const FULL: u32 = 0xffff_ffff;
+    pub const FULL: u32 = u32::MAX;
 
     // A timer made with this period: it stands, loaded.
     pub fn create(period: u32) -> Timer
@@ -145,6 +109,7 @@ impl Timer {
     }
 
     // One tick.
+    #[tactic(auto, unfolding(crate::specs::Counting::tick_of))]
     pub fn tick(self) -> Timer
         ensures { Gives (tick_of self) result }
     {
@@ -152,8 +117,8 @@ impl Timer {
             return self;
         }
         let counter = next(self.counter, self.period);
-        let run = !(self.counter == 0) | self.cont;
-        let to = (counter == 0) | self.to;
+        let run = self.counter != 0 || self.cont;
+        let to = counter == 0 || self.to;
         Timer {
             counter,
             run,
@@ -166,7 +131,7 @@ impl Timer {
     fn stood(self, counter: u32, run: bool, zeros: u32) -> Ran
         ensures { result ≡ standing counter run zeros self }
     {
-        let to = !(zeros == 0) | self.to;
+        let to = zeros != 0 || self.to;
         let timer = Timer {
             counter,
             run,
@@ -177,6 +142,7 @@ impl Timer {
     }
 
     // So many ticks at once.
+    #[tactic(auto, using(crate::proofs::Along::at_once))]
     pub fn ticks(self, n: u32) -> Ran
         ensures { Gives (ran_of n self) result }
     {
@@ -190,7 +156,7 @@ impl Timer {
             return self.stood(self.counter - n, true, 0);
         }
         let past = n - self.counter;
-        let first = flag(!(self.counter == 0)) as u32;
+        let first = flag(self.counter != 0) as u32;
         if self.cont {
             let zeros = first + rounds(self.period, past);
             return self.stood(place(self.period, past), true, zeros);
@@ -215,28 +181,19 @@ impl Timer {
     }
 
     // The register at an offset. Reading changes nothing.
-    pub fn read(self, offset: u32) -> ReadTimer
+    #[tactic(auto, unfolding(crate::specs::Registers::read_of))]
+    pub fn read(self, offset: u32) -> Result<u16, Refusal>
         ensures { TimerWasRead self offset result }
     {
-        if offset == Timer::STATUS {
-            return ReadTimer::Value(self.status());
+        match offset {
+            Timer::STATUS => Ok(self.status()),
+            Timer::CONTROL => Ok(self.control()),
+            Timer::PERIODL => Ok((self.period % 0x1_0000) as u16),
+            Timer::PERIODH => Ok((self.period / 0x1_0000) as u16),
+            Timer::SNAPL => Ok((self.snapshot % 0x1_0000) as u16),
+            Timer::SNAPH => Ok((self.snapshot / 0x1_0000) as u16),
+            _ => Err(Refusal::NoTimerRegister),
         }
-        if offset == Timer::CONTROL {
-            return ReadTimer::Value(self.control());
-        }
-        if offset == Timer::PERIODL {
-            return ReadTimer::Value((self.period % 0x1_0000) as u16);
-        }
-        if offset == Timer::PERIODH {
-            return ReadTimer::Value((self.period / 0x1_0000) as u16);
-        }
-        if offset == Timer::SNAPL {
-            return ReadTimer::Value((self.snapshot % 0x1_0000) as u16);
-        }
-        if offset == Timer::SNAPH {
-            return ReadTimer::Value((self.snapshot / 0x1_0000) as u16);
-        }
-        ReadTimer::Refused(Refusal::NoTimerRegister)
     }
 
     fn cleared(self) -> Timer
@@ -256,7 +213,7 @@ impl Timer {
         Timer {
             cont,
             ito,
-            run: !stop & (start | self.run),
+            run: !stop && (start || self.run),
             ..self
         }
     }
@@ -280,46 +237,41 @@ impl Timer {
     }
 
     // The timer after a value is written to the register at an offset.
-    pub fn write(self, offset: u32, value: u16) -> WroteTimer
+    #[tactic(auto, unfolding(crate::specs::Registers::write_of))]
+    pub fn write(self, offset: u32, value: u16) -> Result<Timer, Refusal>
         ensures { TimerWasWritten self offset value result }
     {
-        if offset == Timer::STATUS {
-            return WroteTimer::Done(self.cleared());
+        match offset {
+            Timer::STATUS => Ok(self.cleared()),
+            Timer::CONTROL => Ok(self.controlled(value)),
+            Timer::PERIODL => {
+                let period = self.period / 0x1_0000 * 0x1_0000 + value as u32;
+                Ok(self.loaded(period))
+            }
+            Timer::PERIODH => {
+                let period = value as u32 * 0x1_0000 + self.period % 0x1_0000;
+                Ok(self.loaded(period))
+            }
+            Timer::SNAPL | Timer::SNAPH => Ok(self.snapped()),
+            _ => Err(Refusal::NoTimerRegister),
         }
-        if offset == Timer::CONTROL {
-            return WroteTimer::Done(self.controlled(value));
-        }
-        if offset == Timer::PERIODL {
-            let period = self.period / 0x1_0000 * 0x1_0000 + value as u32;
-            return WroteTimer::Done(self.loaded(period));
-        }
-        if offset == Timer::PERIODH {
-            let period = value as u32 * 0x1_0000 + self.period % 0x1_0000;
-            return WroteTimer::Done(self.loaded(period));
-        }
-        if offset == Timer::SNAPL {
-            return WroteTimer::Done(self.snapped());
-        }
-        if offset == Timer::SNAPH {
-            return WroteTimer::Done(self.snapped());
-        }
-        WroteTimer::Refused(Refusal::NoTimerRegister)
     }
 
     // Whether the interrupt line is up.
     pub fn line(self) -> bool
         ensures { Gives (line_up self) result }
     {
-        self.to & self.ito
+        self.to && self.ito
     }
 
     // The ticks between two snapshots of this timer: it counts down, so the earlier less the later, which may wrap.
-    pub fn elapsed(self, earlier: u32, later: u32) -> Between
+    #[tactic(auto, unfolding(crate::specs::Registers::between_of))]
+    pub fn elapsed(self, earlier: u32, later: u32) -> Result<u32, Refusal>
         ensures { TimerWasElapsed self earlier later result }
     {
         if self.period != Timer::FULL {
-            return Between::Refused(Refusal::NotFullPeriod);
+            return Err(Refusal::NotFullPeriod);
         }
-        Between::Ticks(wrapping_sub_u32(earlier, later))
+        Ok(earlier.wrapping_sub(later))
     }
 }

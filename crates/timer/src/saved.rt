@@ -1,11 +1,11 @@
 // A timer in its 14 bytes.
 ghost use Rattle.std.specs.Prelude.{◌≡◌, ◌∷◌, length};
 ghost use Rattle.words.specs.Numbers.{split};
-ghost use Rattle.words.specs.Promise.{Gives, Leaves};
-ghost use Rattle.timer.specs.Saved.{timer_of, bytes_of_timer, load_number, TimerWasLoaded, TimerWasSaved};
+ghost use Rattle.words.specs.Promise.{Leaves};
+ghost use Rattle.timer.specs.Saved.{timer_of, bytes_of_timer, TimerWasLoaded, TimerWasSaved};
 ghost use Rattle.timer.specs.Helpers.Parts.{flag_widths};
 
-use crate::{LoadedTimer, SavedTimer, Timer};
+use crate::Timer;
 use bus::Refusal;
 use words::Order;
 use words::packer::Packer;
@@ -28,18 +28,6 @@ fn of_words(counter: u32, period: u32, snapshot: u32, flags: u16) -> Timer
     }
 }
 
-impl LoadedTimer {
-    // 0, or the number of the refusal.
-    pub(crate) fn number(self) -> u32
-        ensures { Gives (load_number self) result }
-    {
-        match self {
-            LoadedTimer::Good(_) => 0,
-            LoadedTimer::Refused(why) => why.number(),
-        }
-    }
-}
-
 impl Timer {
     // Writes the fields: the layout's table, line by line.
     pub(crate) fn pack(self, to: &mut [u8])
@@ -47,48 +35,50 @@ impl Timer {
         ensures { Leaves (bytes_of_timer self) to.new }
     {
         Packer::new()
-            .put32(32, self.counter)
-            .put32(32, self.period)
-            .put32(32, self.snapshot)
-            .put16(12, 0)
-            .put1(1, self.cont)
-            .put1(1, self.ito)
-            .put1(1, self.run)
-            .put1(1, self.to)
+            .put(32, self.counter)
+            .put(32, self.period)
+            .put(32, self.snapshot)
+            .put(12, 0u16)
+            .put(1, self.cont)
+            .put(1, self.ito)
+            .put(1, self.run)
+            .put(1, self.to)
             .write(to);
     }
 
     // Saves a timer that keeps the rules. Where it is refused nothing is written.
-    pub fn save(self, to: &mut [u8]) -> SavedTimer
+    #[tactic(auto, unfolding(crate::specs::Saved::save_of, crate::specs::Saved::saved_over))]
+    pub fn save(self, to: &mut [u8]) -> Result<(), Refusal>
         ensures { TimerWasSaved self to.old result to.new }
     {
         if to.len() != SIZE {
-            return SavedTimer::Refused(Refusal::BadSize);
+            return Err(Refusal::BadSize);
         }
         if self.period < self.counter {
-            return SavedTimer::Refused(Refusal::BadImage(2));
+            return Err(Refusal::BadImage(2));
         }
         self.pack(to);
-        SavedTimer::Done
+        Ok(())
     }
 
     // The timer of 14 bytes that keep the rules.
-    pub fn load(from: &[u8]) -> LoadedTimer
+    #[tactic(auto, unfolding(crate::specs::Saved::load_of))]
+    pub fn load(from: &[u8]) -> Result<Timer, Refusal>
         ensures { TimerWasLoaded from.now result }
     {
         if from.len() != SIZE {
-            return LoadedTimer::Refused(Refusal::BadSize);
+            return Err(Refusal::BadSize);
         }
         let counter = words::get_u32(Order::MostFirst, from, 0);
         let period = words::get_u32(Order::MostFirst, from, 4);
         let snapshot = words::get_u32(Order::MostFirst, from, 8);
         let flags = words::get_u16(Order::MostFirst, from, 12);
         if period < counter {
-            return LoadedTimer::Refused(Refusal::BadImage(2));
+            return Err(Refusal::BadImage(2));
         }
         if 16 <= flags {
-            return LoadedTimer::Refused(Refusal::BadImage(4));
+            return Err(Refusal::BadImage(4));
         }
-        LoadedTimer::Good(of_words(counter, period, snapshot, flags))
+        Ok(of_words(counter, period, snapshot, flags))
     }
 }

@@ -9,7 +9,7 @@ use native.Mathlib.Nat.{le_refl, le_trans, lt_trans, lt_of_le_of_lt}
 use native.Mathlib.Numerals.{add-one}
 use lib.Bits.{bit_or, bit_and}
 use lib.Dec.{eqb, ltb}
-use borrow.Author.Tests.{ltb-true, ltb-false, eqb-true, eqb-false}
+use borrow.Author.Tests.{ltb-true, ltb-false, eqb-true, eqb-false, eq-eqb, ne_eqb, lt-ltb, le-ltb}
 use Rattle.words.specs.Bits.{bit}
 use Rattle.words.proofs.Bits.{half-last, bit-or, bit-and}
 use Rattle.vic.specs.Layout.{ports, lines, software, enabled}
@@ -132,12 +132,25 @@ module _ (xs : List ℕ) where
   unfolding best_port
   best-next i = rw (add-one i) refl
 
-  module _ (i rest own most port : ℕ) (e : rest ≡ mask / 2 ^ i) (f : own ≡ level xs i) (g : most ≡ most_level xs i) where
-    wins-is : (eqb (rest % 2) 1 && ltb most own) ≡ wins xs i (most_level xs i)
-    wins-is = wins-by i most rest own e f ∙ ap (wins xs i) g
+  module _ (i rest l m : ℕ) (e : rest ≡ mask / 2 ^ i) (f : l ≡ level xs i) (g : m ≡ most_level xs i) where
+    wins-is : (eqb (rest % 2) 1 && ltb m l) ≡ wins xs i (most_level xs i)
+    wins-is = wins-by i m rest l e f ∙ ap (wins xs i) g
 
-    pub level-turn : cond (eqb (rest % 2) 1 && ltb most own) own most ≡ most_level xs (i + 1)
-    level-turn = (λ x. cond (wins-is x) (f x) (g x)) ∙ sym (most-next i)
+    -- the port goes before those found
+    pub turn_won : rest % 2 ≡ 1 → m < l → (best_port xs (i + 1) ≡ i) × (most_level xs (i + 1) ≡ l)
+    turn_won h j =
+        let w : wins xs i (most_level xs i) ≡ true = sym wins-is ∙ (λ x. eq-eqb (rest % 2) 1 h x && lt-ltb m l j x) in
+        (best-next i ∙ ap (λ (b : Bool). cond b i (best_port xs i)) w, most-next i ∙ ap (λ (b : Bool). cond b (level xs i) (most_level xs i)) w ∙ sym f)
 
-    pub port-turn : port ≡ best_port xs i → cond (eqb (rest % 2) 1 && ltb most own) i port ≡ best_port xs (i + 1)
-    port-turn h = (λ x. cond (wins-is x) i (h x)) ∙ sym (best-next i)
+    lost : (eqb (rest % 2) 1 && ltb m l) ≡ false → (best_port xs (i + 1) ≡ best_port xs i) × (most_level xs (i + 1) ≡ most_level xs i)
+    lost h =
+        let w : wins xs i (most_level xs i) ≡ false = sym wins-is ∙ h in
+        (best-next i ∙ ap (λ (b : Bool). cond b i (best_port xs i)) w, most-next i ∙ ap (λ (b : Bool). cond b (level xs i) (most_level xs i)) w)
+
+    -- it is not pending
+    pub turn_idle : (rest % 2 ≡ 1 → ⊥) → (best_port xs (i + 1) ≡ best_port xs i) × (most_level xs (i + 1) ≡ most_level xs i)
+    turn_idle h = lost (ap (λ (b : Bool). b && ltb m l) (ne_eqb (rest % 2) 1 h))
+
+    -- it is, with no larger level
+    pub turn_lost : rest % 2 ≡ 1 → l ≤ m → (best_port xs (i + 1) ≡ best_port xs i) × (most_level xs (i + 1) ≡ most_level xs i)
+    turn_lost h j = lost (λ x. eq-eqb (rest % 2) 1 h x && le-ltb m l j x)

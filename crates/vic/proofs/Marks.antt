@@ -1,11 +1,11 @@
 -- The bits of a number, and one of them made so.
 -- Assumes nothing.
 use Prim.Native.Nat.{ℕ, zero, suc, ◌+◌, ◌*◌, ◌-◌, ◌/◌, ◌%◌, ◌^◌, ◌≤◌, ◌<◌, max}
-use mathlib.Core.Path.{◌≡◌, refl, sym, ap, subst, ◌∙◌}
+use mathlib.Core.Path.{◌≡◌, refl, sym, ap, ◌∙◌}
 use mathlib.Core.Bool.{Bool, true, false, ◌||◌}
 use native.Mathlib.Nat.{two-pow-succ, pow-le-pow_right, mod-lt, max-zero}
 use native.Mathlib.Omega.{arith}
-use lib.Bits.{bit_or, or_step, or_zero_r, or_lt}
+use lib.Bits.{bit_or, or_step, or_zero_r}
 use lib.Dec.{eqb}
 use Rattle.words.specs.Bits.{bit}
 use Rattle.words.proofs.Bits.{bit-suc, bit-or, bit-power, other-power}
@@ -90,31 +90,10 @@ pub weight-below : (p : ℕ) → p < 32 → 2 ^ p < 2 ^ 32
 weight-below p h =
     let le : 2 ^ p ≤ 2 ^ 31 = pow-le-pow_right {n = 2} (omega arith) {i = p} {j = 31} (omega arith) in omega arith
 
-pub weight-under : (p n : ℕ) → 2 ^ p ≤ bit_or n (2 ^ p)
-weight-under p n = let e = set-cleared p n in omega arith
-
-pub made-below : (p : ℕ) (on : Bool) (n : ℕ) → p < 32 → n < 2 ^ 32 → with_bit p on n < 2 ^ 32
-unfolding with_bit
-made-below p true n h i = or_lt 32 n (2 ^ p) i (weight-below p h)
-made-below p false n h i = let l = or_lt 32 n (2 ^ p) i (weight-below p h) in omega arith
+pub weight_under : (p n : ℕ) → 2 ^ p ≤ bit_or n (2 ^ p)
+weight_under p n = let e = set-cleared p n in omega arith
 
 -- ---- in the code
 
 pub shifted : (p : ℕ) → p < 32 → 1 * 2 ^ p % 2 ^ 32 ≡ 2 ^ p
 shifted p h = let l = weight-below p h in omega arith
-
-pub beyond : (p : ℕ) → p ≤ 32 → 1 * 2 ^ p % 2 ^ 64 ≡ 2 ^ p
-beyond p h =
-    let le : 2 ^ p ≤ 2 ^ 32 = pow-le-pow_right {n = 2} (omega arith) {i = p} {j = 32} h in omega arith
-
-module _ (p : ℕ) (on : Bool) (n w : ℕ) (e : w ≡ 2 ^ p) where
-  pub under : w ≤ bit_or n w
-  under = subst (λ (x : ℕ). x ≤ bit_or n x) (sym e) (weight-under p n)
-
-  pub made-on : on ≡ true → bit_or n w ≡ with_bit p on n
-  unfolding with_bit
-  made-on f = ap (bit_or n) e ∙ sym (ap (λ (b : Bool). with_bit p b n) f)
-
-  pub made-off : on ≡ false → bit_or n w - w ≡ with_bit p on n
-  unfolding with_bit
-  made-off f = ap (λ (x : ℕ). bit_or n x - x) e ∙ sym (ap (λ (b : Bool). with_bit p b n) f)

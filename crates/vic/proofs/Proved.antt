@@ -1,14 +1,14 @@
 -- The theorems of specs/Theorems.
 -- Assumes nothing.
 use Prim.Native.Nat.{ℕ, ◌+◌, ◌/◌, ◌%◌, ◌^◌, ◌≤◌, ◌<◌}
-use mathlib.Core.Path.{◌≡◌, refl, sym, ap, ◌∙◌}
-use mathlib.Core.Bool.{Bool, true, false, cond, ◌&&◌}
+use mathlib.Core.Path.{◌≡◌, refl, ap, ◌∙◌}
+use mathlib.Core.Bool.{Bool, true, false}
 use mathlib.Core.List.{List}
 use native.Mathlib.Nat.{mod-lt}
 use native.Mathlib.Omega.{arith}
-use lib.Dec.{leb, ltb}
+use lib.Dec.{ltb}
 use lib.ListN.{length}
-use borrow.Author.Tests.{ltb-true, ltb-false, leb-true, leb-false}
+use borrow.Author.Tests.{ltb-true, ltb-false}
 use Rattle.words.specs.declared.Order.TheVariants.{MostFirst}
 use Rattle.words.specs.Bits.{bit}
 use Rattle.words.specs.Orders.{bytes_of, row_numbers}
@@ -20,9 +20,9 @@ use Rattle.vic.specs.Choice.{level, chosen_port, chosen_level, handler, Asks}
 use Rattle.vic.specs.Calls.{port_number, chosen, answer_widths, told}
 use Rattle.vic.specs.Theorems.{ChosenIs, ChosenOne, NothingChosen, TooLargeExactly, ToldWhole, SameCommon, OnlyPort, ConfiguredOne, MarkedOne, Configures, Drives, Triggers, Enables}
 use Rattle.vic.proofs.Marks.{bit-made, other-made}
-use Rattle.vic.proofs.Choosing.{both_true, chosen_is, chosen-one, asks-chosen}
-use Rattle.vic.proofs.Refusing.{loaded, ported, port-below, choose-by, choose-large, choose-loaded, answer-told}
-use Rattle.vic.proofs.Telling.{level-is, chosen-below}
+use Rattle.vic.proofs.Choosing.{chosen_is, chosen-one, asks-chosen}
+use Rattle.vic.proofs.Refusing.{loaded, ported, port_below, choose-large, large-chosen, choose-loaded, told-small, answer-told}
+use Rattle.vic.proofs.Telling.{level-is, chosen_below}
 
 -- ---- the choice
 
@@ -43,36 +43,23 @@ nothing-chosen xs =
     by none true e = absurd (none (chosen_port xs) (chosen_is xs (ltb-true 0 (chosen_level xs) e)).asks)
     by none false e = refl
 
-large : (b : Bool) → ◌≡◌ {A = ℕ} (cond b 22 0) 22 → b ≡ true
-large true e = refl
-large false e = absurd (omega arith)
-
 pub too_large : TooLargeExactly
 too_large xs ys l e =
     record {
-      refused = λ c h. sym (choose-large xs ys l e (ltb-true 0 (chosen_level xs) c) h);
-      only = λ n.
-          let both = both_true (chosen xs) (leb (2 ^ 32) (handler xs (chosen_port xs))) (large _ (sym (choose-by xs ys l e) ∙ n)) in
-          (both.0, leb-true (2 ^ 32) (handler xs (chosen_port xs)) both.1);
+      refused = λ c h. choose-large xs ys l e (ltb-true 0 (chosen_level xs) c) h;
+      only = λ n. large-chosen xs ys l e n;
     }
-
-small-enough : (c : Bool) (h : ℕ) → c ≡ true → ◌≡◌ {A = ℕ} (cond (c && leb (2 ^ 32) h) 22 0) 0 → h < 2 ^ 32
-small-enough c h e f = by (leb (2 ^ 32) h) refl ((λ i. cond (sym e i && leb (2 ^ 32) h) 22 0) ∙ f)
-  where
-    by : (t : Bool) → leb (2 ^ 32) h ≡ t → ◌≡◌ {A = ℕ} (cond t 22 0) 0 → h < 2 ^ 32
-    by true g z = absurd (omega arith)
-    by false g z = leb-false (2 ^ 32) h g
 
 pub told-whole : ToldWhole
 told-whole xs ys n c =
     let sizes = choose-loaded xs ys n in
     let p = chosen_port xs in
     let some : 0 < chosen_level xs = ltb-true 0 (chosen_level xs) c in
-    let below = chosen-below xs sizes.1 some in
+    let below = chosen_below xs sizes.1 some in
     let port : p < 32 = below.0 in
     let high : chosen_level xs < 64 = below.1 in
     let same : level xs p ≡ chosen_level xs = level-is xs some in
-    let address : handler xs p < 2 ^ 32 = small-enough (chosen xs) (handler xs p) c (sym (choose-by xs ys sizes.0 sizes.1) ∙ n) in
+    let address : handler xs p < 2 ^ 32 = told-small xs ys n c in
     let set : set_of (config xs p) < 64 = mod-lt (config xs p / 2 ^ 7) (omega arith) in
     let mask : mask_of (config xs p) < 2 = mod-lt (config xs p / 2 ^ 6) (omega arith) in
     ap (row_numbers MostFirst answer_widths) (answer-told xs some)
@@ -100,7 +87,7 @@ module _ (xs : List ℕ) (p : ℕ) (e : port_number xs p ≡ 0) where
   sized = (loaded xs (ported xs p e).0).0
 
   below : p < 32
-  below = port-below xs p e
+  below = port_below xs p e
 
   -- ---- a number of bits
 

@@ -1,17 +1,18 @@
 // The vectored interrupt controller. All there is of one are its 88 bytes, which the caller keeps: each call works in them, looks at
 // their size and their rules first, and where it is refused has changed nothing.
+// Numbers are read where they stand: a struct of all 39, unpacked and packed at each call, is no plainer, since a call writes only one.
 #![tactic(auto)]
 
-ghost use Rattle.std.specs.Prelude.{cond, ◌≡◌, ◌+◌, ◌*◌, ◌%◌, ◌/◌, ◌^◌, ◌≤◌, ◌<◌, length, [], ◌∷◌};
-ghost use Rattle.words.specs.Bits.{flag as flag_of};
+ghost use Rattle.std.specs.Prelude.{cond, ◌≡◌, ◌+◌, ◌*◌, ◌%◌, ◌/◌, ◌^◌, ◌≤◌, ◌<◌, length, [], ◌∷◌, MatchOption, SomeIff};
+ghost use Rattle.bus.specs.Refusal.{answer_number};
 ghost use Rattle.words.specs.Orders.{row_bytes};
 ghost use Rattle.std.specs.Int.Bits.{bit_or, bit_and};
 ghost use Rattle.words.specs.declared.Order.TheVariants.{MostFirst};
 ghost use Rattle.words.specs.Promise.{Gives, Leaves, Answers};
 ghost use Rattle.words.specs.Slices.{number_at};
-ghost use Rattle.vic.specs.Layout.{ports as ports_of, lines, software, enabled, with_bit, bit_made, config_of, set_of, mask_of};
-ghost use Rattle.vic.specs.Rules.{config_kept, bits_kept, lowest_broken, first_false, config_rules};
-ghost use Rattle.vic.specs.Choice.{most_level, best_port};
+ghost use Rattle.vic.specs.Layout.{ports as ports_of, lines, software, enabled, place, config as config_in, with_bit, bit_made, config_of, set_of, mask_of};
+ghost use Rattle.vic.specs.Rules.{ports_kept, config_kept, bits_kept, broken_config, lowest_broken};
+ghost use Rattle.vic.specs.Choice.{level as level_in, chosen_level, chosen_port};
 ghost use Rattle.vic.specs.Calls.{load_number, port_number, answer_widths, VicCreated, VicConfigured, VicEnabled, VicTriggered, VicDriven, VicChosen};
 
 use bus::Refusal;
@@ -21,6 +22,22 @@ use words::{Order, get_u16, get_u32, put_u16, put_u32, put_words};
 const SIZE: usize = 88;
 
 const ANSWER: usize = 12;
+
+// Where its numbers of 32 bits stand. In the last three, bit p is port p's.
+const PORTS: usize = 0;
+
+const VECTOR: usize = 4;
+
+const BASE: usize = 8;
+
+const LINES: usize = 12;
+
+const SOFTWARE: usize = 16;
+
+const ENABLED: usize = 20;
+
+// The count of ports stands in the highest byte of its number.
+const ONE_PORT: u32 = 0x100_0000;
 
 // The 32-bit number at a place.
 fn word(vic: &[u8], at: usize) -> u32
@@ -33,91 +50,95 @@ fn word(vic: &[u8], at: usize) -> u32
 fn ports(vic: &[u8]) -> u32
     ensures { Gives (ports_of vic.now) result }
 {
-    word(vic, 0) / 0x100_0000
+    word(vic, PORTS) / ONE_PORT
 }
 
 // The ports that are pending, bit p for port p.
 fn waiting(vic: &[u8]) -> u32
     ensures { result ≡ bit_and (bit_or (lines vic.now) (software vic.now)) (enabled vic.now) }
 {
-    let lines = word(vic, 12);
-    let software = word(vic, 16);
-    let enabled = word(vic, 20);
+    let lines = word(vic, LINES);
+    let software = word(vic, SOFTWARE);
+    let enabled = word(vic, ENABLED);
     (lines | software) & enabled
 }
 
-// One of two numbers.
-fn pick(first: bool, a: u32, b: u32) -> u32
-    ensures { result ≡ cond first a b }
+// Where the configuration of a port stands.
+fn config_at(port: u32) -> usize
+    ensures { result ≡ place port }
 {
-    if first { a } else { b }
+    24 + 2 * port as usize
+}
+
+// The configuration of a port.
+fn config(vic: &[u8], port: u32) -> u16
+    ensures { Gives (config_in vic.now port) result }
+{
+    get_u16(Order::MostFirst, vic, config_at(port))
+}
+
+// The level of a port.
+fn level(vic: &[u8], port: u32) -> u32
+    ensures { Gives (level_in vic.now port) result }
+{
+    u32::from(config(vic, port)) % 64
 }
 
 // A port and its level.
-#[derive(Clone, Copy)]
+#[derive(Clone, Copy, Debug, PartialEq, Eq)]
 struct Found {
     port: u32,
     level: u32,
 }
 
-// The port of the largest level that is pending, of the first n; the level is 0 where there is none.
-fn best(vic: &[u8], n: u32) -> Found
-    ensures { (result.port ≡ best_port vic.now n) × (result.level ≡ most_level vic.now n) }
+// The port of the largest level above 0 that is pending; of equal levels the first.
+fn best(vic: &[u8]) -> Option<Found>
+    ensures { SomeIff result (0 < chosen_level vic.now) (record { port = chosen_port vic.now; level = chosen_level vic.now }) }
 {
     let mut rest = waiting(vic);
-    let mut port: u32 = 0;
-    let mut level: u32 = 0;
-    let mut i: u32 = 0;
-    while i < n {
-        let own = get_u16(Order::MostFirst, vic, 24 + 2 * i as usize) as u32 % 64;
-        let first = (rest % 2 == 1) & (level < own);
-        port = pick(first, i, port);
-        level = pick(first, own, level);
+    let mut best: Option<Found> = None;
+    for port in 0..ports(vic) {
+        let level = level(vic, port);
+        let most = best.map_or(0, |found| found.level);
+        if rest % 2 == 1 && most < level {
+            best = Some(Found { port, level });
+        }
         rest /= 2;
-        i += 1;
     }
-    Found { port, level }
-}
-
-// The bit of a port.
-fn weight(p: u32) -> u32
-    requires { p < 32 }
-    ensures { result ≡ 2 ^ p }
-{
-    1 << p
+    best
 }
 
 // A number with the bit of a port made so.
+#[tactic(auto, using(crate::proofs::Marks::shifted, crate::proofs::Marks::weight_under), unfolding(crate::specs::Layout::with_bit))]
 fn with_bit(p: u32, on: bool, n: u32) -> u32
     requires { p < 32 }
     ensures { result ≡ with_bit p on n }
 {
-    let w = weight(p);
-    let set = n | w;
-    if on { set } else { set - w }
+    let bit = 1 << p;
+    let set = n | bit;
+    if on { set } else { set - bit }
+}
+
+// Whether a controller may have so many ports.
+fn ports_kept(ports: u32) -> bool
+    ensures { result ≡ ports_kept ports }
+{
+    (1..=32).contains(&ports)
 }
 
 // Whether a configuration keeps its rule.
 fn config_kept(ports: u32, p: u32, c: u16) -> bool
     ensures { result ≡ config_kept ports p c }
 {
-    (c / 0x2000 == 0) & ((p < ports) | (c == 0))
+    c < 0x2000 && (p < ports || c == 0)
 }
 
-// The field of the first configuration that breaks its rule, or 0.
-fn broken_config(vic: &[u8], n: u32) -> u32
-    requires { n ≡ ports_of vic.now }
-    ensures { result ≡ first_false 8 (config_rules vic.now 0 32) }
+// The first port whose configuration breaks its rule.
+fn broken_port(vic: &[u8]) -> Option<u32>
+    ensures { MatchOption result (broken_config vic.now ≡ 0) (λ port. (port < 32) × (broken_config vic.now ≡ 8 + port)) }
 {
-    let mut i: u32 = 0;
-    while i < 32 {
-        let c = get_u16(Order::MostFirst, vic, 24 + 2 * i as usize);
-        if !config_kept(n, i, c) {
-            return 8 + i;
-        }
-        i += 1;
-    }
-    0
+    let n = ports(vic);
+    (0..32).find(|&port| !config_kept(n, port, config(vic, port)))
 }
 
 // Whether the bits of ports that it lacks are zero.
@@ -126,194 +147,167 @@ fn bits_kept(ports: u32, bits: u32) -> bool
     ensures { result ≡ bits_kept ports bits }
 {
     let beyond: u64 = 1 << ports;
-    (bits as u64) < beyond
+    u64::from(bits) < beyond
 }
 
-// The lowest field that breaks a rule, or 0.
-fn broken(vic: &[u8]) -> u32
-    ensures { Gives (lowest_broken vic.now) result }
+// The lowest field that breaks a rule.
+#[tactic(auto, using(crate::proofs::Ruling::broken_is))]
+fn broken(vic: &[u8]) -> Option<u8>
+    ensures { SomeIff result (0 < lowest_broken vic.now) (lowest_broken vic.now) }
 {
-    let first = word(vic, 0);
-    let n = first / 0x100_0000;
-    if n < 1 {
-        return 1;
+    let first = word(vic, PORTS);
+    let n = first / ONE_PORT;
+    if !ports_kept(n) {
+        return Some(1);
     }
-    if 32 < n {
-        return 1;
+    if first % ONE_PORT != 0 {
+        return Some(2);
     }
-    if first % 0x100_0000 != 0 {
-        return 2;
+    if !bits_kept(n, word(vic, LINES)) {
+        return Some(5);
     }
-    if !bits_kept(n, word(vic, 12)) {
-        return 5;
+    if !bits_kept(n, word(vic, SOFTWARE)) {
+        return Some(6);
     }
-    if !bits_kept(n, word(vic, 16)) {
-        return 6;
+    if !bits_kept(n, word(vic, ENABLED)) {
+        return Some(7);
     }
-    if !bits_kept(n, word(vic, 20)) {
-        return 7;
-    }
-    broken_config(vic, n)
+    let port = broken_port(vic)?;
+    Some(8 + port as u8)
 }
 
-// Why the 88 bytes are refused, or 0.
-fn load_refusal(vic: &[u8]) -> u32
-    ensures { Gives (load_number vic.now) result }
+// Refused where the 88 bytes are not those of a controller.
+#[tactic(auto, unfolding(crate::specs::Calls::load_number))]
+fn loaded(vic: &[u8]) -> Result<(), Refusal>
+    ensures { Gives (load_number vic.now) (answer_number result) }
 {
     if vic.len() != SIZE {
-        return Refusal::BadSize.number();
+        return Err(Refusal::BadSize);
     }
-    let field = broken(vic);
-    if field != 0 {
-        let told = field as u8;
-        return Refusal::BadImage(told).number();
+    match broken(vic) {
+        Some(field) => Err(Refusal::BadImage(field)),
+        None => Ok(()),
     }
-    0
 }
 
-// Why a call on a port is refused, or 0.
-fn port_refusal(vic: &[u8], port: u32) -> u32
-    ensures { Gives (port_number vic.now port) result }
+// Refused where a call on a port is.
+#[tactic(auto, unfolding(crate::specs::Calls::port_number))]
+fn ported(vic: &[u8], port: u32) -> Result<(), Refusal>
+    ensures { Gives (port_number vic.now port) (answer_number result) }
 {
-    let why = load_refusal(vic);
-    if why != 0 {
-        return why;
-    }
+    loaded(vic)?;
     if ports(vic) <= port {
-        return Refusal::NoPort.number();
+        return Err(Refusal::NoPort);
     }
-    0
+    Ok(())
 }
 
 // A new controller: so many ports, bytes per vector and base; the rest is zero.
-pub fn create(vic: &mut [u8], ports: u32, vector: u32, base: u32) -> u32
-    ensures { VicCreated vic.old ports vector base result vic.new }
+#[tactic(auto, unfolding(crate::specs::Calls::create_number))]
+pub fn create(vic: &mut [u8], ports: u32, vector: u32, base: u32) -> Result<(), Refusal>
+    ensures { VicCreated vic.old ports vector base (answer_number result) vic.new }
 {
     if vic.len() != SIZE {
-        return Refusal::BadSize.number();
+        return Err(Refusal::BadSize);
     }
-    if ports < 1 {
-        return Refusal::NoPort.number();
+    if !ports_kept(ports) {
+        return Err(Refusal::NoPort);
     }
-    if 32 < ports {
-        return Refusal::NoPort.number();
-    }
-    let first = ports * 0x100_0000;
-    let words = [
-        first, vector, base, 0, 0, 0, 0, 0, 0, 0, 0, 0, 0, 0, 0, 0, 0, 0, 0, 0, 0, 0,
-    ];
-    put_words(Order::MostFirst, vic, 0, &words);
-    0
-}
-
-// The non-maskable flag at its place in a configuration.
-fn flag_at(nmi: bool) -> u32
-    ensures { (result ≡ flag_of nmi * 64) × (result ≤ 64) }
-{
-    if nmi { 64 } else { 0 }
+    vic.fill(0);
+    put_words(
+        Order::MostFirst,
+        vic,
+        PORTS,
+        &[ports * ONE_PORT, vector, base],
+    );
+    Ok(())
 }
 
 // A configuration: level and register set, 6 bits each, and the flag.
 fn config_of(level: u32, set: u32, nmi: bool) -> u16
     ensures { result ≡ config_of level set nmi }
 {
-    let masked = flag_at(nmi);
-    (set % 64 * 128 + masked + level % 64) as u16
+    (set % 64 * 128 + u32::from(nmi) * 64 + level % 64) as u16
 }
 
 // Configures a port: its level and register set, 6 bits each, and whether it is non-maskable.
-pub fn configure(vic: &mut [u8], port: u32, level: u32, set: u32, nmi: u32) -> u32
-    ensures { VicConfigured vic.old port level set nmi result vic.new }
+// A flag is a number here and in the calls below, since their promises (VicConfigured, ..), which the C calls make too, are of numbers.
+pub fn configure(vic: &mut [u8], port: u32, level: u32, set: u32, nmi: u32) -> Result<(), Refusal>
+    ensures { VicConfigured vic.old port level set nmi (answer_number result) vic.new }
 {
-    let why = port_refusal(vic, port);
-    if why != 0 {
-        return why;
-    }
+    ported(vic, port)?;
     let c = config_of(level, set, nmi != 0);
-    put_u16(Order::MostFirst, vic, 24 + 2 * port as usize, c);
-    0
+    put_u16(Order::MostFirst, vic, config_at(port), c);
+    Ok(())
 }
 
 // Makes the bit of a port so, in the number at a place.
-fn mark(vic: &mut [u8], at: usize, port: u32, on: bool) -> u32
-    ensures { Answers (port_number vic.old port) vic.old (bit_made vic.old at port on) result vic.new }
+#[tactic(auto, using(crate::proofs::Refusing::port_below))]
+fn mark(vic: &mut [u8], at: usize, port: u32, on: bool) -> Result<(), Refusal>
+    ensures { Answers (port_number vic.old port) vic.old (bit_made vic.old at port on) (answer_number result) vic.new }
 {
-    let why = port_refusal(vic, port);
-    if why != 0 {
-        return why;
-    }
+    ported(vic, port)?;
     let bits = with_bit(port, on, word(vic, at));
     put_u32(Order::MostFirst, vic, at, bits);
-    0
+    Ok(())
 }
 
 // Drives the line of a port.
-pub fn line(vic: &mut [u8], port: u32, up: u32) -> u32
-    ensures { VicDriven vic.old port up result vic.new }
+pub fn line(vic: &mut [u8], port: u32, up: u32) -> Result<(), Refusal>
+    ensures { VicDriven vic.old port up (answer_number result) vic.new }
 {
-    mark(vic, 12, port, up != 0)
+    mark(vic, LINES, port, up != 0)
 }
 
 // The software trigger of a port.
-pub fn trigger(vic: &mut [u8], port: u32, on: u32) -> u32
-    ensures { VicTriggered vic.old port on result vic.new }
+pub fn trigger(vic: &mut [u8], port: u32, on: u32) -> Result<(), Refusal>
+    ensures { VicTriggered vic.old port on (answer_number result) vic.new }
 {
-    mark(vic, 16, port, on != 0)
+    mark(vic, SOFTWARE, port, on != 0)
 }
 
 // Enables a port, or not.
-pub fn enable(vic: &mut [u8], port: u32, on: u32) -> u32
-    ensures { VicEnabled vic.old port on result vic.new }
+pub fn enable(vic: &mut [u8], port: u32, on: u32) -> Result<(), Refusal>
+    ensures { VicEnabled vic.old port on (answer_number result) vic.new }
 {
-    mark(vic, 20, port, on != 0)
+    mark(vic, ENABLED, port, on != 0)
 }
 
-// The handler address of a port.
-fn address_of(port: u32, each: u32, base: u32) -> u64
-    requires { port < 32 }
-    ensures { result ≡ port * each + base }
+// The handler address of a port, where it has 32 bits.
+fn address_of(port: u32, each: u32, base: u32) -> Option<u32>
+    ensures { SomeIff result (port * each + base < 2 ^ 32) (port * each + base) }
 {
-    port as u64 * each as u64 + base as u64
+    port.checked_mul(each)?.checked_add(base)
 }
 
 // What is told of a port, as the three words of the answer.
-fn tell(c: u16, port: u32, level: u32, address: u32, answer: &mut [u8])
-    requires port_bound { port < 32 }
-    requires level_bound { level < 64 }
+fn tell(found: Found, c: u16, address: u32, answer: &mut [u8])
+    requires port_bound { found.port < 32 }
+    requires level_bound { found.level < 64 }
     requires answer_len { length answer.old ≡ 12 }
-    ensures { Leaves (row_bytes MostFirst answer_widths (1 ∷ port ∷ level ∷ set_of c ∷ mask_of c ∷ address ∷ [])) answer.new }
+    ensures { Leaves (row_bytes MostFirst answer_widths (1 ∷ found.port ∷ found.level ∷ set_of c ∷ mask_of c ∷ address ∷ [])) answer.new }
 {
-    let own = c as u32;
-    let head = 0x1_0000 + port;
-    let parts = level * 0x100_0000 + own / 128 % 64 * 0x1_0000 + own / 64 % 2;
-    let words = [head, parts, address];
-    put_words(Order::MostFirst, answer, 0, &words);
+    let own = u32::from(c);
+    let head = 0x1_0000 + found.port;
+    let parts = found.level * 0x100_0000 + own / 128 % 64 * 0x1_0000 + own / 64 % 2;
+    put_words(Order::MostFirst, answer, 0, &[head, parts, address]);
 }
 
 // The chosen port: which it is, its level, register set and flag, and its handler address; or that there is none.
-pub fn choose(vic: &[u8], answer: &mut [u8]) -> u32
-    ensures { VicChosen vic.now answer.old result answer.new }
+#[tactic(auto, using(crate::proofs::Telling::chosen_below), unfolding(crate::specs::Calls::choose_number, crate::specs::Calls::answer_of))]
+pub fn choose(vic: &[u8], answer: &mut [u8]) -> Result<(), Refusal>
+    ensures { VicChosen vic.now answer.old (answer_number result) answer.new }
 {
     if answer.len() != ANSWER {
-        return Refusal::BadSize.number();
+        return Err(Refusal::BadSize);
     }
-    let why = load_refusal(vic);
-    if why != 0 {
-        return why;
-    }
-    let found = best(vic, ports(vic));
-    let port = found.port;
-    let level = found.level;
-    if level == 0 {
-        let nothing = [0, 0, 0];
-        put_words(Order::MostFirst, answer, 0, &nothing);
-        return 0;
-    }
-    let address = address_of(port, word(vic, 4), word(vic, 8));
-    if 0x1_0000_0000 <= address {
-        return Refusal::AddressTooLarge.number();
-    }
-    let c = get_u16(Order::MostFirst, vic, 24 + 2 * port as usize);
-    tell(c, port, level, address as u32, answer);
-    0
+    loaded(vic)?;
+    let Some(found) = best(vic) else {
+        answer.fill(0);
+        return Ok(());
+    };
+    let handler = address_of(found.port, word(vic, VECTOR), word(vic, BASE));
+    let address = handler.ok_or(Refusal::AddressTooLarge)?;
+    tell(found, config(vic, found.port), address, answer);
+    Ok(())
 }

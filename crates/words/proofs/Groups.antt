@@ -13,7 +13,7 @@ use Rattle.words.specs.Numbers.{total, join, recode, bytes, Fit}
 use Rattle.words.specs.Slices.{part, number_at, AllBytes}
 use Rattle.words.proofs.Recode.{join-lt, total-append, recode-append}
 use Rattle.words.proofs.Bytes.{bytes_fit, take-bytes, drop-bytes}
-use Rattle.words.proofs.Slices.{number_in}
+use Rattle.words.proofs.Slices.{length-part, number_in}
 
 -- runs one after the other
 abbrev pub concat : List (List ℕ) → List ℕ
@@ -108,15 +108,12 @@ fours (f ∷ fs) = bytes 4 ∷ fours fs
 -- ---- a number as a reader meets it
 
 module _ (xs : List ℕ) (at n : ℕ) (h : at + n ≤ length xs) where
-  length_part : length (part xs at n) ≡ n
-  length_part = length-take-le n (drop at xs) (simp length-drop (omega arith))
-
   -- it is that of its bytes side by side
   pub number-join : join (bytes n) (part xs at n) ≡ number_at MostFirst n xs at
-  number-join = sym (number_in xs at MostFirst n h ∙ rw length_part)
+  number-join = sym (number_in xs at MostFirst n h ∙ rw (length-part xs at n h))
 
   pub number_lt : AllBytes xs → number_at MostFirst n xs at < 2 ^ total (bytes n)
   number_lt g =
       subst (λ (k : ℕ). k < 2 ^ total (bytes n)) number-join
       (join-lt (bytes n) (part xs at n)
-      (subst (λ (k : ℕ). Fit (bytes k) (part xs at n)) length_part (bytes_fit (part xs at n) (take-bytes n (drop at xs) (drop-bytes at xs g)))))
+      (subst (λ (k : ℕ). Fit (bytes k) (part xs at n)) (length-part xs at n h) (bytes_fit (part xs at n) (take-bytes n (drop at xs) (drop-bytes at xs g)))))

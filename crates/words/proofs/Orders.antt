@@ -3,14 +3,14 @@
 -- Assumes nothing.
 use Prim.Native.Nat.{ℕ, zero, suc, ◌*◌, ◌%◌, ◌^◌}
 use mathlib.Core.Path.{◌≡◌, refl, sym, ap, subst, ◌∙◌}
-use mathlib.Core.List.{List, [], ◌∷◌, ◌++◌, append_assoc, reverse, reverse-reverse}
+use mathlib.Core.List.{List, [], ◌∷◌, ◌++◌, append_assoc, reverse-reverse}
 use native.Mathlib.Nat.{mod-lt, mod-eq_of_lt, suc-ne-zero}
 use native.Mathlib.Omega.{arith}
 use lib.ListN.{length, take, drop, length-append, length-replicate, length-reverse, length-drop, take-append-drop}
 use lib.Seq.{take_at, drop_at, length-take-le}
 use Rattle.words.specs.declared.Order.{Order}
 use Rattle.words.specs.declared.Order.TheVariants.{MostFirst, LeastFirst}
-use Rattle.words.specs.Numbers.{total, join, split, bytes, Fit}
+use Rattle.words.specs.Numbers.{total, split, bytes, Fit}
 use Rattle.words.specs.Orders.{in_order, bytes_of, number_of, row_bytes, word_bytes}
 use Rattle.words.specs.Slices.{AllBytes}
 use Rattle.words.specs.Theorems.{RowBack, RowThere}
@@ -54,17 +54,6 @@ bytes-number order xs g =
     let fit : Fit (bytes (length xs)) (in_order order xs) =
     subst (λ (n : ℕ). Fit (bytes n) (in_order order xs)) (length-order order xs) (bytes_fit (in_order order xs) (order-bytes order xs g)) in
     rw (split-join (bytes (length xs)) (in_order order xs) fit) (order-back order xs)
-
--- four bytes that are taken least first and then turned are taken in the order asked for
-pub turn-number : (order : Order) (a b c d : ℕ) → AllBytes (a ∷ b ∷ c ∷ d ∷ [])
-    → join (bytes 4) (in_order order (bytes_of LeastFirst 4 (join (bytes 4) (d ∷ c ∷ b ∷ a ∷ [])))) ≡ join (bytes 4) (in_order order (a ∷ b ∷ c ∷ d ∷ []))
-turn-number order a b c d g = ap (λ (xs : List ℕ). join (bytes 4) (in_order order xs)) (bytes-number LeastFirst (a ∷ b ∷ c ∷ d ∷ []) g)
-
--- a number that is turned and then put least first stands in the order asked for
-pub turn-bytes : (order : Order) (v : ℕ) → bytes_of LeastFirst 4 (join (bytes 4) (in_order order (bytes_of LeastFirst 4 v))) ≡ bytes_of order 4 v
-turn-bytes MostFirst v = bytes-number LeastFirst (split (bytes 4) v) (split-bytes 4 v)
-turn-bytes LeastFirst v =
-    bytes-number LeastFirst (reverse (split (bytes 4) v)) (order-bytes LeastFirst (split (bytes 4) v) (split-bytes 4 v))
 
 -- a row of numbers comes back from its bytes
 pub row_back : RowBack

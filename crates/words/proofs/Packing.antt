@@ -4,25 +4,33 @@ use Prim.Native.Nat.{ℕ, zero, suc, ◌+◌, ◌*◌, ◌-◌, ◌/◌, ◌%◌
 use mathlib.Core.Path.{◌≡◌, refl, sym, ap, subst, ◌∙◌}
 use mathlib.Core.Bool.{Bool, true, false}
 use mathlib.Core.List.{List, [], ◌∷◌, ◌++◌}
-use native.Mathlib.Nat.{zero-add, add-zero, mul-one, zero-mul, add_assoc, add-mul, mul_assoc, suc-mul, mul-le-mul_right, mod-lt, mod-eq_of_lt}
+use native.Mathlib.Nat.{div-one, zero-add, add-zero, mul-one, zero-mul, add_assoc, add-mul, mul_assoc, suc-mul, mul-le-mul_right, mod-lt, mod-eq_of_lt}
 use native.Mathlib.Numerals.{add-one}
 use native.Mathlib.Omega.{arith}
-use lib.ListN.{length, take, get_or, set, length-set, length-append, length-replicate, replicate-append-replicate}
-use lib.Seq.{length-take-le, take-suc-set}
+use lib.ListN.{length, take, drop, set, length-set, length-replicate, replicate-append-replicate}
+use lib.Seq.{take_all, length-take-le, take-suc-set}
 use lib.Pow.{pow_pos, pow_mono, pow-add, shr_lt, shr_mod}
 use lib.Pow as pow
 use lib.Dec.{ltb}
 use borrow.Author.Tests.{le-leb, lt-leb, lt-ltb, le-ltb, ltb-true, ltb-false, eq-eqb}
+use Rattle.std.specs.Int.{w32, to_be_bytes, from_bool}
+use Rattle.words.specs.Bits.{flag}
+use Rattle.words.specs.Promise.{Gives}
 use Rattle.words.specs.declared.Order.TheVariants.{MostFirst}
 use Rattle.words.specs.declared.packer.Packer.{Packer}
 use Rattle.words.specs.Numbers.{total, join, split, bytes, Fit}
 use Rattle.words.specs.Orders.{word_bytes}
-use Rattle.words.specs.Slices.{put, put_at}
+use Rattle.words.specs.Slices.{put_at}
 use Rattle.words.specs.Packed.{no_fields, field_put, packed_bytes, packed_over, fields_put, Narrow}
 use Rattle.words.specs.Theorems.{FieldsPacked}
 use Rattle.words.proofs.Orders.{length-split, length-words, words_append}
 use Rattle.words.proofs.Recode.{split-append}
-use Rattle.words.proofs.Slices.{put_in, put_all, put-put}
+use Rattle.words.proofs.Slices.{filled}
+
+-- a flag as std takes it for a number
+as_flag : (b : Bool) → from_bool b ≡ flag b
+as_flag true = refl
+as_flag false = refl
 
 -- ---- the bytes of a number, one by one
 
@@ -33,34 +41,30 @@ total-bytes (suc n) = let more = total-bytes n in omega arith
 pub many : (n v : ℕ) → length (split (bytes n) v) ≡ n
 many n v = length-split (bytes n) v ∙ length-replicate n 8
 
-pub byte_at : (n v i : ℕ) → i < n → get_or (split (bytes n) v) i 0 ≡ v / 2 ^ (8 * (n - 1 - i)) % 256
-byte_at zero v i h = absurd (omega arith)
-byte_at (suc n) v zero h =
-    let e : total (bytes n) ≡ 8 * (suc n - 1 - 0) = let t = total-bytes n in omega arith in
-    ap (λ (k : ℕ). v / 2 ^ k % 256) e
-byte_at (suc n) v (suc i) h =
-    let e : 8 * (n - 1 - i) ≡ 8 * (suc n - 1 - suc i) = omega arith in
-    byte_at n v i (omega arith) ∙ ap (λ (k : ℕ). v / 2 ^ k % 256) e
+low-bytes : (n k m v : ℕ) → m ≡ n + k → drop n (split (bytes m) v) ≡ split (bytes k) v
+low-bytes zero k m v e = let same : m ≡ k = omega arith in ap (λ (j : ℕ). split (bytes j) v) same
+low-bytes (suc n) k (suc m) v e = low-bytes n k m v (omega arith)
+low-bytes (suc n) k zero v e = absurd (omega arith)
+
+-- the last of a word's bytes, as std gives them
+pub last-bytes : (k v : ℕ) {bs : List ℕ} → k ≤ 4 → bs ≡ to_be_bytes w32 v → take (4 - (4 - k)) (drop (4 - k) bs) ≡ split (bytes k) v
+last-bytes k v h e =
+    let all : to_be_bytes w32 v ≡ split (bytes 4) v = simp div-one in
+    rw (e, all, low-bytes (4 - k) k 4 v (omega arith)) (take_all (4 - (4 - k)) (split (bytes k) v) (omega (arith, many k v)))
 
 -- ---- what is written
 
 -- whole words and then the bytes of the rest, over a slice of their size
 pub written : (p : Packer) (xs : List ℕ) {ys zs : List ℕ} → p.whole ≤ length p.words → length xs ≡ 4 * p.whole + p.count % 32 / 8
-    → ys ≡ put_at xs 0 (word_bytes MostFirst (take p.whole p.words)) → zs ≡ put ys (4 * p.whole) (split (bytes (p.count % 32 / 8)) p.rest)
+    → ys ≡ put_at xs 0 (word_bytes MostFirst (take p.whole p.words)) → zs ≡ put_at ys (4 * p.whole) (split (bytes (p.count % 32 / 8)) p.rest)
     → zs ≡ packed_bytes p
-written p xs {ys} h l e f =
+written p xs h l e f =
     let front = word_bytes MostFirst (take p.whole p.words) in
     let back = split (bytes (p.count % 32 / 8)) p.rest in
     let m : length front ≡ 4 * p.whole =
     length-words MostFirst (take p.whole p.words) ∙ ap (λ (n : ℕ). 4 * n) (length-take-le p.whole p.words h) in
     let n : length back ≡ p.count % 32 / 8 = many (p.count % 32 / 8) p.rest in
-    let all : length (front ++ back) ≡ length xs = simp length-append (omega arith) in
-    f
-    ∙ ap (λ (k : ℕ). put ys k back) (sym (zero-add (length front) ∙ m))
-    ∙ ap (λ (us : List ℕ). put us (0 + length front) back) (e ∙ put_in xs 0 front (omega arith))
-    ∙ put-put xs 0 front back (omega arith)
-    ∙ sym (put_in xs 0 (front ++ back) (omega arith))
-    ∙ put_all xs (front ++ back) all
+    f ∙ ap (λ (us : List ℕ). put_at us (4 * p.whole) back) e ∙ filled xs front back (4 * p.whole) m (omega arith)
 
 -- ---- what a packer holds: a number of so many bits, those of its whole words and then those of the rest
 
@@ -214,3 +218,13 @@ fields-packed ws vs xs f m e l =
     let whole : p.whole ≤ 24 = omega arith in
     let size : length xs ≡ 4 * p.whole + p.count % 32 / 8 = omega arith in
     rw (le-leb p.whole 24 whole, eq-eqb (length xs) (4 * p.whole + p.count % 32 / 8) size) (held_bytes (length xs) p e h)
+
+-- ---- as a layout is read down its lines
+
+module _ (width : ℕ) {p q r : Packer} where
+  -- a field more, behind those that were put: of what converts to a number, or of a flag
+  pub more : (value : ℕ) → (number : ℕ) × (number ≡ value) × Gives (field_put width number p) r → p ≡ q → r ≡ field_put width value q
+  more value put h = put.2.value ∙ ap (λ (n : ℕ). field_put width n p) put.1 ∙ ap (field_put width value) h
+
+  pub more_flag : (on : Bool) → (number : ℕ) × (number ≡ from_bool on) × Gives (field_put width number p) r → p ≡ q → r ≡ field_put width (flag on) q
+  more_flag on put = more (flag on) (put.0, put.1 ∙ as_flag on, put.2)

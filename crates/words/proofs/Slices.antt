@@ -6,10 +6,12 @@ use mathlib.Core.List.{List, [], ◌∷◌, ◌++◌, append_assoc, append-nil}
 use native.Mathlib.Nat.{zero-add, add_assoc, add-zero, sub-zero, zero-sub, suc-sub-suc}
 use native.Mathlib.Omega.{arith}
 use lib.ListN.{length, take, drop, get_or, set, length-append, length-drop, drop_of_length-le, take-append-drop}
-use lib.Seq.{take_at, drop_at, drop-drop, drop-cons, sets, sets-eq, length-take-le, take-take, take-nil}
+use lib.Seq.{take_at, drop_at, drop-drop, drop-cons, sets, sets-eq, length-take-le, take_all, take-take, take-nil}
 use borrow.Author.Tests.{le-leb, lt-leb}
 use Rattle.words.specs.declared.Order.{Order}
-use Rattle.words.specs.Orders.{number_of, row_numbers}
+use Rattle.std.specs.Int.{w16, w32, from_be_bytes}
+use Rattle.words.specs.Numbers.{join, bytes}
+use Rattle.words.specs.Orders.{in_order, number_of, row_numbers}
 use Rattle.words.specs.Slices.{part, put, put_at, number_at}
 
 module _ (xs : List ℕ) (at : ℕ) where
@@ -28,6 +30,10 @@ module _ (xs : List ℕ) (at : ℕ) where
   pub number-out : (order : Order) (n : ℕ) → length xs < at + n → number_at order n xs at ≡ 0
   unfolding number_at
   number-out order n h = rw (lt-leb (at + n) (length xs) h)
+
+-- a part is as long as was asked
+pub length-part : (xs : List ℕ) (at n : ℕ) → at + n ≤ length xs → length (part xs at n) ≡ n
+length-part xs at n h = length-take-le n (drop at xs) (simp length-drop (omega arith))
 
 -- what is put leaves the length
 pub length-put : (xs : List ℕ) (at : ℕ) (ys : List ℕ) → at + length ys ≤ length xs → length (put xs at ys) ≡ length xs
@@ -134,5 +140,31 @@ part-put xs at ys n h e =
 -- what stands there, put there again, changes nothing
 pub put-part : (xs : List ℕ) (at n : ℕ) → at + n ≤ length xs → put xs at (part xs at n) ≡ xs
 put-part xs at n h =
-    let l : length (part xs at n) ≡ n = length-take-le n (drop at xs) (simp length-drop (omega arith)) in
+    let l : length (part xs at n) ≡ n = length-part xs at n h in
     rw (l, ← drop-drop n at xs, take-append-drop n (drop at xs)) (take-append-drop at xs)
+
+-- as std takes a number from its bytes
+elements_all : (xs : List ℕ) (n : ℕ) → length xs ≡ n → elements xs 0 n ≡ xs
+elements_all xs n e = elements-part xs 0 n (omega arith) ∙ take_all n xs (omega arith)
+
+pub half-join : (xs : List ℕ) → length xs ≡ 2 → from_be_bytes w16 xs ≡ join (bytes 2) xs
+half-join xs e =
+    let same : from_be_bytes w16 xs ≡ join (bytes 2) (elements xs 0 2) = omega arith in
+    same ∙ ap (join (bytes 2)) (elements_all xs 2 e)
+
+pub word-join : (xs : List ℕ) → length xs ≡ 4 → from_be_bytes w32 xs ≡ join (bytes 4) xs
+word-join xs e =
+    let same : from_be_bytes w32 xs ≡ join (bytes 4) (elements xs 0 4) = omega arith in
+    same ∙ ap (join (bytes 4)) (elements_all xs 4 e)
+
+-- the bytes of a part, in the order asked for, are its number
+pub number-arranged : (order : Order) (xs : List ℕ) (at n : ℕ) {bs cs : List ℕ} → at + n ≤ length xs → bs ≡ part xs at n → cs ≡ in_order order bs
+    → join (bytes n) cs ≡ number_at order n xs at
+number-arranged order xs at n h e f =
+    let l : length (part xs at n) ≡ n = length-part xs at n h in
+    rw (f, e, number_in xs at order n h, l)
+
+-- bytes that take the place of a part are put there
+pub put-middle : (xs : List ℕ) (at : ℕ) {k : ℕ} (ys : List ℕ) {zs : List ℕ} → zs ≡ ys → at + length ys ≤ length xs → k ≡ length ys
+    → take at xs ++ (zs ++ drop k (drop at xs)) ≡ put_at xs at ys
+put-middle xs at ys e h f = rw (e, f, drop-drop, put_in xs at ys h)

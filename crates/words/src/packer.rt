@@ -1,39 +1,24 @@
 // A packer: fields are put one behind the other, each with its own width, so that a layout is read down its lines.
 //
 // It goes from line to line by value, and the widths are constants there: the compiler works out beforehand where each field stands.
-ghost use Rattle.std.specs.Prelude.{◌≡◌, ◌+◌, ◌≤◌, length};
-ghost use Rattle.words.specs.Bits.{flag as flag_of};
-ghost use Rattle.words.specs.Numbers.{split, bytes};
-ghost use Rattle.words.specs.Slices.{put};
+ghost use Rattle.std.specs.Prelude.{ℕ};
 ghost use Rattle.words.specs.Packed.{no_fields, field_put, packed_over};
 ghost use Rattle.words.specs.Promise.{Gives, Leaves};
 
-use crate::{Order, flag, put_words};
+use crate::{Order, put_words};
 
 // How many words there is room for.
 const ROOM: usize = 24;
 
 // Words of 32 bits, the first foremost, of which so many are whole; and the rest, so many bits that do not fill a word yet.
+//
+// The words are an array with a count beside it, and no `Vec`: nothing in this library is on a heap.
 #[derive(Clone, Copy)]
 pub struct Packer {
-    words: [u32; 24],
+    words: [u32; ROOM],
     whole: usize,
     rest: u32,
     count: u32,
-}
-
-// Writes the lowest n bytes of a number, the most significant first.
-fn put_bytes(to: &mut [u8], at: usize, n: usize, v: u32)
-    requires n_bound { n ≤ 3 }
-    requires n_in_bounds { at + n ≤ length to.old }
-    ensures { to.new ≡ put to.old at (split (bytes n) v) }
-{
-    let mut i = 0;
-    while i < n {
-        let behind = 8 * (n - 1 - i) as u32;
-        to[at + i] = ((v >> behind) % 256) as u8;
-        i += 1;
-    }
 }
 
 impl Packer {
@@ -42,22 +27,30 @@ impl Packer {
         ensures { Gives no_fields result }
     {
         Packer {
-            words: [0; 24],
+            words: [0; ROOM],
             whole: 0,
             rest: 0,
             count: 0,
         }
     }
 
-    // Puts a field of so many bits. One of more than 32, or for which there is no room, is not put; a number with more bits than its
-    // field runs over into the one before.
-    pub fn put32(self, width: u32, value: u32) -> Self
-        ensures { Gives (field_put width value self) result }
+    // Puts a number or a flag as a field of so many bits. A field of more than 32, or for which there is no room, is not put; a number
+    // with more bits than its field runs over into the one before.
+    pub fn put<V: Into<u32>>(self, width: u32, value: V) -> Self
+        ensures { (number : ℕ) × V.converts value number × Gives (field_put width number self) result }
+    {
+        let number: u32 = value.into();
+        self.put_number(width, number)
+    }
+
+    // The same of the number that is to stand in the field, whatever type it came from.
+    fn put_number(self, width: u32, number: u32) -> Self
+        ensures { Gives (field_put width number self) result }
     {
         if 32 < width {
             return self;
         }
-        let rest = ((self.rest as u64) << width) + value as u64;
+        let rest = (u64::from(self.rest) << width) + u64::from(number);
         let count = self.count % 32 + width;
         let whole = self.whole;
         let mut words = self.words;
@@ -82,40 +75,16 @@ impl Packer {
         }
     }
 
-    // The same of a smaller number.
-    pub fn put16(self, width: u32, half: u16) -> Self
-        ensures { Gives (field_put width half self) result }
-    {
-        self.put32(width, half as u32)
-    }
-
-    pub fn put8(self, width: u32, byte: u8) -> Self
-        ensures { Gives (field_put width byte self) result }
-    {
-        self.put32(width, byte as u32)
-    }
-
-    // The same of a flag.
-    pub fn put1(self, width: u32, on: bool) -> Self
-        ensures { Gives (field_put width (flag_of on) self) result }
-    {
-        self.put8(width, flag(on))
-    }
-
     // Writes what was put into a slice of just as many bytes. Another is left as it was.
     pub fn write(self, to: &mut [u8])
         ensures { Leaves (packed_over self to.old) to.new }
     {
-        let words = self.words;
         let whole = self.whole;
         let left = (self.count % 32 / 8) as usize;
-        if ROOM < whole {
+        if ROOM < whole || to.len() != 4 * whole + left {
             return;
         }
-        if to.len() != 4 * whole + left {
-            return;
-        }
-        put_words(Order::MostFirst, to, 0, &words[..whole]);
-        put_bytes(to, 4 * whole, left, self.rest);
+        put_words(Order::MostFirst, to, 0, &self.words[..whole]);
+        to[4 * whole..].copy_from_slice(&self.rest.to_be_bytes()[4 - left..]);
     }
 }

@@ -5,7 +5,6 @@ use Rattle.words.specs.declared.Order.TheVariants.{MostFirst}
 use Rattle.words.specs.Orders.{bytes_of}
 use Rattle.words.specs.Slices.{put_at}
 use Rattle.answers.proofs.Filled.{not-put, finding-filled}
-use borrow.Author.Rules.{rules}
 use Rattle.answers.proofs.put_finding.Goals as goal
 
 pub returns-then-answer-ne-FINDING : goal.returns-then-answer-ne-FINDING

@@ -5,7 +5,6 @@ use Rattle.words.specs.declared.Order.TheVariants.{MostFirst}
 use Rattle.words.specs.Orders.{word_bytes}
 use Rattle.words.specs.Slices.{put_at}
 use Rattle.answers.proofs.Filled.{not-put, report-filled}
-use borrow.Author.Rules.{rules}
 use Rattle.answers.proofs.put_report.Goals as goal
 
 pub returns-then-report-ne-REPORT : goal.returns-then-report-ne-REPORT

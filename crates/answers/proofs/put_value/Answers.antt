@@ -1,6 +1,5 @@
 use mathlib.Core.Path.{sym, ◌∙◌}
 use Rattle.answers.proofs.Filled.{not-put, value-filled}
-use borrow.Author.Rules.{rules}
 use Rattle.answers.proofs.put_value.Goals as goal
 
 pub returns-then-value-ne-VALUE : goal.returns-then-value-ne-VALUE

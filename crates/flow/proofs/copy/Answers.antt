@@ -1,23 +1,34 @@
-use mathlib.Core.Path.{sym, ap, ◌∙◌}
-use mathlib.Core.Bool.{Bool, cond}
-use Rattle.flow.specs.Rows.{copied, copied_over}
-use Rattle.flow.proofs.Fitting.{by-extent, told, in-range}
+use Prim.Native.Nat.{ℕ, ◌+◌}
+use mathlib.Core.Path.{◌≡◌, refl, ap, sym, ◌∙◌}
+use mathlib.Core.Bool.{Bool, true, false}
+use mathlib.Core.List.{List}
+use native.Mathlib.Numerals.{add-one}
+use native.Mathlib.Omega.{arith}
+use lib.ListN.{get_or, set}
+use Rattle.flow.specs.Rows.{landing, copied, copied_over}
+use Rattle.flow.proofs.Fitting.{told}
 use Rattle.flow.proofs.copy.Goals as goal
 
-pub copy_all-requires : goal.copy_all-requires
-copy_all-requires c = let a = c.args in let r = in-range a.stays a.fixed a.from a.to a.n _ _ (told _ (by-extent a.stays a.from a.n _ c.fits.ensures c.extent.ensures) (by-extent a.fixed a.to a.n _ c.fits-2.ensures c.extent-2.ensures) c.if-both.true) in record { n_in_bounds = r.0; n_in_bounds_2 = r.1 }
+-- one turn
+turn : (w now : List ℕ) (stays : Bool) (from : ℕ) (fixed : Bool) (to i : ℕ) {at source : ℕ} → now ≡ copied w stays from fixed to i
+    → at ≡ landing fixed to i → source ≡ landing stays from i → set now at (get_or now source 0) ≡ copied w stays from fixed to (i + 1)
+unfolding copied
+turn w now stays from fixed to i e p q = rw (add-one i) (λ x. set (e x) (p x) (get_or (e x) (q x) 0))
 
-pub returns-then-both : goal.returns-then-both
+pub loop-i-init : goal.loop-i-init
+unfolding copied
+loop-i-init c = refl
+
+pub loop-i-preserved : goal.loop-i-preserved
+loop-i-preserved c = let a = c.args in
+    turn a.window.now c.loop-i.window a.from.fixed a.from.first a.to.fixed a.to.first c.loop-i.i c.loop-i.invariant c.place-in-loop-i.ensures c.place.ensures
+
+pub returns-after-loop-i : goal.returns-after-loop-i
 unfolding copied_over
-returns-then-both c = let a = c.args in
-    record {
-      lent = c.copy_all.ensures.lent
-          ∙ sym (ap (λ (t : Bool). cond t (copied a.window.now a.stays a.from a.fixed a.to a.n) a.window.now) (told _ (by-extent a.stays a.from a.n _ c.fits.ensures c.extent.ensures) (by-extent a.fixed a.to a.n _ c.fits-2.ensures c.extent-2.ensures) c.if-both.true));
-    }
+returns-after-loop-i c = let a = c.args in
+    let all : c.loop-i.i ≡ a.n = omega arith in
+    record { lent = c.loop-i.invariant ∙ ap (copied a.window.now a.from.fixed a.from.first a.to.fixed a.to.first) all ∙ sym (told _ _ true c.fits.ensures c.fits-2.ensures c.if-both.true) }
 
 pub returns-else-both : goal.returns-else-both
 unfolding copied_over
-returns-else-both c = let a = c.args in
-    record {
-      lent = sym (ap (λ (t : Bool). cond t (copied a.window.now a.stays a.from a.fixed a.to a.n) a.window.now) (told _ (by-extent a.stays a.from a.n _ c.fits.ensures c.extent.ensures) (by-extent a.fixed a.to a.n _ c.fits-2.ensures c.extent-2.ensures) c.if-both.false));
-    }
+returns-else-both c = record { lent = sym (told _ _ false c.fits.ensures c.fits-2.ensures c.if-both.false) }

@@ -1,20 +1,12 @@
 use Rattle.image.proofs.RoundTrip.{image-put}
 use lib.Seq.{length-take-le}
-use Prim.Native.Nat.{ℕ}
 use lib.ListN.{take}
-use mathlib.Core.Path.{◌≡◌, sym, ap, ◌∙◌}
+use mathlib.Core.Path.{sym, ap, ◌∙◌}
 use Rattle.words.specs.declared.packer.Packer.{Packer}
-use Rattle.words.specs.Packed.{field_put, packed_over}
+use Rattle.words.specs.Packed.{packed_over}
+use Rattle.words.proofs.Packing.{more, more_flag}
 use native.Mathlib.Omega.{arith}
 use Rattle.image.proofs.pack.Goals as goal
-
--- a line more, behind those that were put
-onto : (width value : ℕ) {p q r : Packer} → r ≡ field_put width value p → p ≡ q → r ≡ field_put width value q
-onto width value e h = e ∙ ap (field_put width value) h
-
-pub slice_bounds-write-end : goal.slice_bounds-write-end
-slice_bounds-write-end c = let l = c.requires.to_len in
-    omega arith
 
 pub slice_bounds-write-end-2 : goal.slice_bounds-write-end-2
 slice_bounds-write-end-2 c = let l = c.requires.to_len in
@@ -22,34 +14,34 @@ slice_bounds-write-end-2 c = let l = c.requires.to_len in
 
 pub returns : goal.returns
 returns c = let put0 = c.new.ensures.value in
-    let put1 = onto _ _ c.put8.ensures.value put0 in
-    let put2 = onto _ _ c.put8-2.ensures.value put1 in
-    let put3 = onto _ _ c.put8-3.ensures.value put2 in
-    let put4 = onto _ _ c.put1.ensures.value put3 in
-    let put5 = onto _ _ c.put1-2.ensures.value put4 in
-    let put6 = onto _ _ c.put8-4.ensures.value put5 in
-    let put7 = onto _ _ c.put8-5.ensures.value put6 in
-    let put8 = onto _ _ c.put8-6.ensures.value put7 in
-    let put9 = onto _ _ c.put32.ensures.value put8 in
-    let put10 = onto _ _ c.put32-2.ensures.value put9 in
-    let put11 = onto _ _ c.put32-3.ensures.value put10 in
-    let put12 = onto _ _ c.put32-4.ensures.value put11 in
-    let put13 = onto _ _ c.put32-5.ensures.value put12 in
-    let put14 = onto _ _ c.put32-6.ensures.value put13 in
-    let put15 = onto _ _ c.put32-7.ensures.value put14 in
-    let put16 = onto _ _ c.put16.ensures.value put15 in
-    let put17 = onto _ _ c.put8-7.ensures.value put16 in
-    let put18 = onto _ _ c.put8-8.ensures.value put17 in
-    let put19 = onto _ _ c.put16-2.ensures.value put18 in
-    let put20 = onto _ _ c.put1-3.ensures.value put19 in
-    let put21 = onto _ _ c.put16-3.ensures.value put20 in
-    let put22 = onto _ _ c.put32-8.ensures.value put21 in
-    let put23 = onto _ _ c.put8-9.ensures.value put22 in
-    let put24 = onto _ _ c.put8-10.ensures.value put23 in
-    let put25 = onto _ _ c.put32-9.ensures.value put24 in
+    let put1 = more _ _ c.put.ensures put0 in
+    let put2 = more _ _ c.put-2.ensures put1 in
+    let put3 = more _ _ c.put-3.ensures put2 in
+    let put4 = more_flag _ _ c.put-4.ensures put3 in
+    let put5 = more_flag _ _ c.put-5.ensures put4 in
+    let put6 = more _ _ c.put-6.ensures put5 in
+    let put7 = more _ _ c.put-7.ensures put6 in
+    let put8 = more _ _ c.put-8.ensures put7 in
+    let put9 = more _ _ c.put-9.ensures put8 in
+    let put10 = more _ _ c.put-10.ensures put9 in
+    let put11 = more _ _ c.put-11.ensures put10 in
+    let put12 = more _ _ c.put-12.ensures put11 in
+    let put13 = more _ _ c.put-13.ensures put12 in
+    let put14 = more _ _ c.put-14.ensures put13 in
+    let put15 = more _ _ c.put-15.ensures put14 in
+    let put16 = more _ _ c.put-16.ensures put15 in
+    let put17 = more _ _ c.put-17.ensures put16 in
+    let put18 = more _ _ c.put-18.ensures put17 in
+    let put19 = more _ _ c.put-19.ensures put18 in
+    let put20 = more_flag _ _ c.put-20.ensures put19 in
+    let put21 = more _ _ c.put-21.ensures put20 in
+    let put22 = more _ _ c.put-22.ensures put21 in
+    let put23 = more _ _ c.put-23.ensures put22 in
+    let put24 = more _ _ c.put-24.ensures put23 in
+    let put25 = more _ _ c.put-25.ensures put24 in
     record {
       lent = image-put c.args.f c.args.t c.args.to.now c.requires.to_len c.requires.fit
           (c.write.ensures.lent ∙ ap (λ (p : Packer). packed_over p (take 49 c.args.to.now)) put25)
-          c.put.ensures.lent
+          c.put-26.ensures.lent
           c.put_u32.ensures.lent;
     }

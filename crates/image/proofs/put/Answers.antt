@@ -12,8 +12,8 @@ typed c = search rules
 stored : (c : Start) → Stored c.args.f
 stored c = search rules
 
-pub pack-requires : goal.pack-requires
-pack-requires c = record { to_len = c.if-to-eq-SIZE.true; fit = fits-fit _ _ (typed (goal.at.pack-requires c).Start) (stored (goal.at.pack-requires c).Start) (sym c.fit.ensures ∙ c.if-fit.true) }
+pub pack-requires-clause-fit : goal.pack-requires-clause-fit
+pack-requires-clause-fit c = let start = (goal.at.pack-requires-clause-fit c).Start in fits-fit _ _ (typed start) (stored start) (sym c.fit.ensures ∙ c.if-fit.true)
 
 pub returns-then-fit : goal.returns-then-fit
 returns-then-fit c = wrote-done _ _ _ c.if-to-eq-SIZE.true (sym c.fit.ensures ∙ c.if-fit.true) _
@@ -21,7 +21,7 @@ returns-then-fit c = wrote-done _ _ _ c.if-to-eq-SIZE.true (sym c.fit.ensures �
 
 pub returns-else-fit : goal.returns-else-fit
 returns-else-fit c = wrote-broken _ _ _ c.if-to-eq-SIZE.true (sym c.fit.ensures ∙ c.if-fit.false)
-    c.broken.ensures.value
+    c.refused.ensures.value
 
 pub returns-else-to-eq-SIZE : goal.returns-else-to-eq-SIZE
 returns-else-to-eq-SIZE c = wrote-size _ _ _ c.if-to-eq-SIZE.false

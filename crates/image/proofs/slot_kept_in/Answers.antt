@@ -6,7 +6,8 @@ pub returns : goal.returns
 returns c = let xs = c.args.from.now in
     let all = all-bytes xs (λ i. (c.type_inv.from i).fits) in
     rw (
-      c.slot_kept.ensures,
+      c.held_kept.ensures,
+      c.slot_at_kept.ensures,
       c.word.ensures.value,
       c.word-2.ensures.value,
       c.word-3.ensures.value,

@@ -14,10 +14,10 @@ returns-then-to-ne-SIZE c = wrote-size _ _ _ c.if-to-ne-SIZE.true
 
 pub returns-then-not-keeps : goal.returns-then-not-keeps
 returns-then-not-keeps c = wrote-broken _ _ _ c.if-to-ne-SIZE.false (sym c.keeps.ensures.value ∙ c.if-not-keeps.true)
-    c.broken.ensures.value
+    c.refused.ensures.value
 
-pub pack-requires : goal.pack-requires
-pack-requires c = let none = kept-none _ _ (sym c.keeps.ensures.value ∙ c.if-not-keeps.false) in record { to_len = c.if-to-ne-SIZE.false; fit = keeps-fit _ _ (typed (goal.at.pack-requires c).Start) none }
+pub pack-requires-clause-fit : goal.pack-requires-clause-fit
+pack-requires-clause-fit c = keeps-fit _ _ (typed (goal.at.pack-requires-clause-fit c).Start) (kept-none _ _ (sym c.keeps.ensures.value ∙ c.if-not-keeps.false))
 
 pub returns : goal.returns
 returns c = wrote-done _ _ _ c.if-to-ne-SIZE.false (sym c.keeps.ensures.value ∙ c.if-not-keeps.false) _

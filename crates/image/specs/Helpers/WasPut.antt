@@ -1,10 +1,10 @@
 -- What `put` promises: it writes fields that may break a rule, for another crate of this repository. It is the promise of writing,
 -- with another test of the fields; `wrote-unique` is its law too.
 -- Assumes nothing.
-use Rattle.std.specs.Prelude.{ℕ, Bool, ◌&&◌, List}
+use Rattle.std.specs.Prelude.{ℕ, Bool, ◌&&◌, List, Result}
 use Rattle.image.specs.declared.Fields.{Fields}
 use Rattle.image.specs.declared.Tail.{Tail}
-use Rattle.image.specs.declared.WroteImage.{WroteImage}
+use Rattle.bus.specs.declared.Refusal.{Refusal}
 use Rattle.image.specs.Tests.{zero_from}
 use Rattle.image.specs.Promise.{wrote_if, image_if, WroteIf}
 
@@ -15,11 +15,11 @@ fits f t =
     && zero_from 2 t.kind && zero_from 6 t.zero6
 
 -- 8 where a number does not fit its width: then a rule is broken too
-abbrev pub image_put_of : Fields → Tail → List ℕ → WroteImage
+abbrev pub image_put_of : Fields → Tail → List ℕ → Result Unit Refusal
 image_put_of f t xs = wrote_if (fits f t) f t xs
 
 abbrev pub image_put : Fields → Tail → List ℕ → List ℕ
 image_put f t xs = image_if (fits f t) f t xs
 
-abbrev pub ImageWasPut : Fields → Tail → List ℕ → WroteImage → List ℕ → Type 0
+abbrev pub ImageWasPut : Fields → Tail → List ℕ → Result Unit Refusal → List ℕ → Type 0
 ImageWasPut f t xs r xs' = WroteIf (fits f t) f t xs r xs'

@@ -1,9 +1,5 @@
-use Prim.Native.Nat.{◌-◌}
 use Rattle.links.proofs.Turns.{Turn}
 use Rattle.links.proofs.walk.Given as goal
 
 abbrev pub invariant-loop-position : goal.invariant-loop-position
 invariant-loop-position l = Turn l.window l.bytes l.pointer l.cells l.last l.address l.position
-
-abbrev pub decreases-loop-position : goal.decreases-loop-position
-decreases-loop-position l = 2049 - l.position

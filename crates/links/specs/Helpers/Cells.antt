@@ -7,16 +7,6 @@ pub data Clear (p q : ℕ) : Type 0 where
   below : q + 32 ≤ p → Clear p q
   above : p + 32 ≤ q → Clear p q
 
--- one and all of those
-abbrev pub ClearOf : ℕ → List ℕ → Type 0
-ClearOf p [] = Unit {0}
-ClearOf p (q ∷ qs) = Clear p q × ClearOf p qs
-
--- each and every later one
-abbrev pub AllClear : List ℕ → Type 0
-AllClear [] = Unit {0}
-AllClear (q ∷ qs) = ClearOf q qs × AllClear qs
-
 -- what a cell says: 0, or one more than where in it a block starts
 abbrev pub mark_of : ℕ → List ℕ → ℕ
 mark_of c [] = 0
@@ -29,7 +19,7 @@ pub record Free (p : ℕ) (qs : List ℕ) : Type 0 where
   pub high : 1 ≤ mark_of (p / 32 + 1) qs → p % 32 < mark_of (p / 32 + 1) qs
 
 -- the same three looks at cells; the places are from 32 on, so that a cell is below each
-unfoldable pub free_in : List ℕ → ℕ → Bool
+abbrev pub free_in : List ℕ → ℕ → Bool
 free_in cells p =
     eqb (get_or cells (p / 32) 0) 0 && leb (get_or cells (p / 32 - 1) 0) (p % 32 + 1)
     && (eqb (get_or cells (p / 32 + 1) 0) 0 || ltb (p % 32) (get_or cells (p / 32 + 1) 0))

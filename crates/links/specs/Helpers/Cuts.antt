@@ -1,9 +1,10 @@
 -- What the parts of mending meet.
 -- Assumes nothing.
-use Rattle.std.specs.Prelude.{ℕ, zero, suc, ◌≤◌, ◌≡◌, true, List}
+use Rattle.std.specs.Prelude.{ℕ, zero, suc, ◌≤◌, ◌≡◌, true, List, Result, Option}
+use Rattle.bus.specs.declared.Refusal.{Refusal}
 use Rattle.bus.specs.declared.Window.{Window}
 use Rattle.bus.specs.Window.{in_window}
-use Rattle.links.specs.declared.mending.Mended.{Mended}
+use Rattle.links.specs.declared.mending.Change.{Change}
 use Rattle.links.specs.Mending.{Cut, before_all, behind, mended_by, left_by}
 
 -- where a chain is cut that has a defect at a position, the one before it being at `last`
@@ -16,6 +17,6 @@ pub record KeepsFront (window : Window) (position last : ℕ) : Type 0 where
   pub inside : 1 ≤ position → in_window window last 32 ≡ true
 
 -- what is told and left of a chain that is cut there
-pub record WasCut (window : Window) (memory : List ℕ) (cut : Cut) (r : Mended) (memory' : List ℕ) : Type 0 where
+pub record WasCut (window : Window) (memory : List ℕ) (cut : Cut) (r : Result (Option Change) Refusal) (memory' : List ℕ) : Type 0 where
   pub answer : r ≡ mended_by window memory cut
   pub lent : memory' ≡ left_by window memory cut

@@ -51,8 +51,8 @@ pub record Row (window : Window) (fixed : Bool) (a at n : ℕ) : Type 0 where
 
 -- so many bytes are in reach from the address a on
 pub record Reaches (fixed : Bool) (window : Window) (a : ℕ) (r : Reach) : Type 0 where
-  pub is_fixed : r.fixed ≡ fixed
-  pub row : (n : ℕ) → 1 ≤ n → n ≤ r.bytes → Row window fixed a r.at n
+  pub is_fixed : r.row.fixed ≡ fixed
+  pub row : (n : ℕ) → 1 ≤ n → n ≤ r.bytes → Row window fixed a r.row.first n
 
 -- the next n bytes make beats with neither SOP nor EOP
 abbrev pub Unmarked : Work → ℕ → Type 0

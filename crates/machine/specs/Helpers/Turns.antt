@@ -4,14 +4,11 @@ use Rattle.std.specs.Prelude.{ℕ, zero, suc, ◌+◌, ◌-◌, ◌*◌, ◌/◌
 use Rattle.words.specs.Slices.{put}
 use Rattle.flow.specs.Beats.{beat_bytes}
 use Rattle.machine.specs.declared.Core.{Core}
-use Rattle.machine.specs.declared.Slot.{Slot}
 use Rattle.machine.specs.declared.fetch.Fetched.{Fetched}
 use Rattle.machine.specs.declared.Work.{Work}
-use Rattle.machine.specs.declared.runs.Advanced.{Advanced}
-use Rattle.machine.specs.declared.steps.Reached.{Reached}
 use Rattle.machine.specs.Step.{World, Answer, taken, stopped, stored, noted, holding, entry_for, back_to, settle, step}
-use Rattle.machine.specs.State.{settled}
-use Rattle.machine.specs.Helpers.Worlds.{world_at, midway, Within}
+use Rattle.machine.specs.State.{settled, Slot}
+use Rattle.machine.specs.Helpers.Worlds.{Reached, world_at, midway, Within}
 
 -- n steps after an answer; no step after one that could not be taken
 abbrev pub steps_on : ℕ → Answer → Answer
@@ -38,14 +35,14 @@ pub record Went (rule : World → Answer) (m : Core) (window beats : List ℕ) (
       → rule (midway w m window beats took out made)
       ≡ taken (world_at w r.core window' beats r.taken (w.output ++ new) (length out / 2 - r.made))
 
--- several steps at once: where they led, and how many they were; the slot is as the last of them leaves it
-pub record Advances (m : Core) (window beats : List ℕ) (took : ℕ) (out : List ℕ) (made : ℕ) (r : Advanced) (window' out' : List ℕ) : Type 0 where
+-- several steps at once, so many: where they led; the slot is as the last of them leaves it
+pub record Advances (m : Core) (window beats : List ℕ) (took : ℕ) (out : List ℕ) (made n : ℕ) (r : Reached) (window' out' : List ℕ) : Type 0 where
   pub within : Within beats out r.taken r.made
   pub new : List ℕ
   pub counted : r.made ≡ made + length new
   pub wrote : out' ≡ put out (2 * made) (beat_bytes new)
   pub goes : (w : World)
-      → steps r.steps (midway w m window beats took out made)
+      → steps n (midway w m window beats took out made)
       ≡ taken (world_at (holding w (settled r.core.phase w.slot)) r.core window' beats r.taken (w.output ++ new) (length out / 2 - r.made))
 
 -- a rule of Fetch, applied and settled: the core and the slot change

@@ -1,13 +1,11 @@
 -- A world in the middle of what is lent, the machine in a fault, and the phases that stand.
 -- Assumes nothing.
-use Rattle.std.specs.Prelude.{ℕ, ◌-◌, ◌/◌, ◌≤◌, Bool, true, false, List, length, drop}
+use Rattle.std.specs.Prelude.{ℕ, ◌-◌, ◌/◌, ◌≤◌, Bool, true, false, List, length, drop, Result, Ok, Err}
 use Rattle.flow.specs.Beats.{beats_in}
 use Rattle.machine.specs.declared.Core.{Core}
 use Rattle.machine.specs.declared.Phase.{Phase}
 use Rattle.machine.specs.declared.Phase.TheVariants.{Rest, Fetch, Move, WriteBack, Ended, Halted, Faulted}
-use Rattle.machine.specs.declared.steps.Reached.{Reached}
-use Rattle.machine.specs.declared.steps.Served as code
-use Rattle.machine.specs.declared.steps.Served.TheVariants as served
+use Rattle.bus.specs.declared.Refusal.{Refusal}
 use Rattle.machine.specs.State.{with_phase, with_busy}
 use Rattle.machine.specs.Step.{World, laid}
 use Rattle.machine.specs.Run.{Served, serves, refused}
@@ -22,14 +20,20 @@ world_at w m window beats took output room = laid w m window (drop took (beats_i
 abbrev pub midway : World → Core → (window beats : List ℕ) (took : ℕ) (out : List ℕ) (made : ℕ) → World
 midway w m window beats took out made = world_at w m window beats took w.output (length out / 2 - made)
 
+-- where steps led, with the beats taken and made then
+pub record Reached : Type 0 where
+  pub core : Core
+  pub taken : ℕ
+  pub made : ℕ
+
 abbrev pub reached_as : Core → (took made : ℕ) → Reached
 reached_as m took made = record { core = m; taken = took; made = made }
 
 -- ---- what is lent
 
-abbrev pub served_as : code.Served → Served
-served_as served.Serves = serves
-served_as (served.Refused why) = refused why
+abbrev pub served_as : Result Unit Refusal → Served
+served_as (Ok tt) = serves
+served_as (Err why) = refused why
 
 -- no more beats are taken than there are, or made than there is room for
 pub record Within (beats out : List ℕ) (took made : ℕ) : Type 0 where

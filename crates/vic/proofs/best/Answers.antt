@@ -1,18 +1,30 @@
-use Prim.Native.Nat.{ℕ, ◌/◌, ◌%◌}
-use mathlib.Core.Path.{◌≡◌, refl, sym, ap, ◌∙◌}
+use Prim.Native.Nat.{ℕ, ◌/◌}
+use mathlib.Core.Path.{◌≡◌, sym, ap, ◌∙◌}
 use native.Mathlib.Nat.{div-one}
 use native.Mathlib.Omega.{arith}
-use borrow.Author.Rules.{rules}
-use Rattle.vic.specs.Choice.{best_port, most_level}
-use Rattle.vic.proofs.Choosing.{mask-half, level-turn, port-turn}
+use Rattle.vic.specs.Choice.{most_level}
+use Rattle.vic.proofs.Choosing.{mask-half, turn_won, turn_idle, turn_lost}
+use Rattle.vic.proofs.best.Goals.{then-rest-eq1+then-most-level, else-rest-eq1, else-rest-eq1-via-then-rest-eq1+else-most-level, else-rest-eq1-via-else-rest-eq1}
 use Rattle.vic.proofs.best.Goals as goal
 
-pub loop-i-init : goal.loop-i-init
-unfolding best_port most_level
-loop-i-init c = (search rules, c.waiting-rest.ensures ∙ sym (div-one _), refl, refl)
+pub loop-port-init : goal.loop-port-init
+unfolding most_level
+loop-port-init c = record { half = c.waiting-rest.ensures ∙ sym (div-one _); found = λ h. omega (arith, h) }
 
-pub loop-i-preserved : goal.loop-i-preserved
-loop-i-preserved c = (search rules, ap (λ (x : ℕ). x / 2) c.loop-i.invariant.1 ∙ mask-half _ c.loop-i.i, c.pick-port.ensures ∙ port-turn c.args.vic.now c.loop-i.i c.loop-i.rest _ c.loop-i.level c.loop-i.port c.loop-i.invariant.1 (ap (λ (x : ℕ). x % 64) c.get_u16.ensures.value) c.loop-i.invariant.3 c.loop-i.invariant.2, c.pick-level.ensures ∙ level-turn c.args.vic.now c.loop-i.i c.loop-i.rest _ c.loop-i.level c.loop-i.port c.loop-i.invariant.1 (ap (λ (x : ℕ). x % 64) c.get_u16.ensures.value) c.loop-i.invariant.3)
-
-pub returns : goal.returns
-returns c = (c.loop-i.invariant.2 ∙ ap (best_port _) (let all : c.loop-i.i ≡ c.args.n = omega arith in all), c.loop-i.invariant.3 ∙ ap (most_level _) (let all : c.loop-i.i ≡ c.args.n = omega arith in all))
+pub loop-port-preserved : goal.loop-port-preserved
+loop-port-preserved c =
+    let loop = c.loop-port in
+    let before : c.map_or-most.result ≡ most_level c.args.vic.now loop.port = grind arith in
+    record {
+      half = ap (λ (x : ℕ). x / 2) loop.invariant.half ∙ mask-half _ loop.port;
+      found = elim c.if-rest-eq1.branch [
+        | then-rest-eq1+then-most-level w ↦
+            (let won = turn_won c.args.vic.now loop.port loop.rest c.level-level.result c.map_or-most.result loop.invariant.half c.level-level.ensures.value before w.if-rest-eq1.true w.if-most-level.true in grind arith)
+        | else-rest-eq1 w ↦ elim w.else-rest-eq1.branch [
+          | else-rest-eq1-via-then-rest-eq1+else-most-level w' ↦
+              (let lost = turn_lost c.args.vic.now loop.port loop.rest c.level-level.result c.map_or-most.result loop.invariant.half c.level-level.ensures.value before w'.if-rest-eq1.true w'.if-most-level.false in grind arith)
+          | else-rest-eq1-via-else-rest-eq1 w' ↦
+              (let idle = turn_idle c.args.vic.now loop.port loop.rest c.level-level.result c.map_or-most.result loop.invariant.half c.level-level.ensures.value before w'.if-rest-eq1.false in grind arith)
+        ]
+      ];
+    }

@@ -30,24 +30,17 @@ turn order xs ys at ws i h f e =
 pub returns-then-to-ws : goal.returns-then-to-ws
 returns-then-to-ws c = record { lent = sym (put-out _ _ _ (omega (arith, length-words c.args.order c.args.ws.now))) }
 
-pub returns-then-to-ws-2 : goal.returns-then-to-ws-2
-returns-then-to-ws-2 c = record { lent = sym (put-out _ _ _ (omega (arith, length-words c.args.order c.args.ws.now))) }
-
 pub loop-i-init : goal.loop-i-init
-loop-i-init c = let a = c.args in (search rules, search rules, sym (put-none a.to.now a.at))
+loop-i-init c = sym (put-none c.args.to.now c.args.at)
 
 pub loop-i-preserved : goal.loop-i-preserved
-loop-i-preserved c = let a = c.args in (
-  search rules,
-  search rules,
-  c.put_u32.ensures.lent
-      ∙ turn a.order a.to.now c.loop-i.to a.at a.ws.now c.loop-i.i (search rules) (search rules) c.loop-i.invariant.2,
-)
+loop-i-preserved c = let a = c.args in
+    c.put_u32.ensures.lent ∙ turn a.order a.to.now c.loop-i.to a.at a.ws.now c.loop-i.i (search rules) (omega arith) c.loop-i.invariant
 
 pub returns : goal.returns
 returns c = let a = c.args in
     let all : take c.loop-i.i a.ws.now ≡ a.ws.now = take_all c.loop-i.i a.ws.now (omega arith) in
     record {
-      lent = c.loop-i.invariant.2 ∙ ap (λ (ws : List ℕ). put a.to.now a.at (word_bytes a.order ws)) all
+      lent = c.loop-i.invariant ∙ ap (λ (ws : List ℕ). put a.to.now a.at (word_bytes a.order ws)) all
           ∙ sym (put_in a.to.now a.at _ (omega (arith, length-words a.order a.ws.now)));
     }

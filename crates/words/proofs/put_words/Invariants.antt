@@ -1,13 +1,9 @@
-use Prim.Native.Nat.{◌-◌, ◌≤◌}
 use mathlib.Core.Path.{◌≡◌}
-use lib.ListN.{length, take}
+use lib.ListN.{take}
 use Rattle.words.specs.Orders.{word_bytes}
 use Rattle.words.specs.Slices.{put}
 use Rattle.words.proofs.put_words.Given as goal
 
 -- after i words, their bytes stand in the slice
 abbrev pub invariant-loop-i : goal.invariant-loop-i
-invariant-loop-i l = (l.i ≤ length l.ws) × (length l.to ≡ length l.initial.to) × (l.to ≡ put l.initial.to l.at (word_bytes l.order (take l.i l.ws)))
-
-abbrev pub decreases-loop-i : goal.decreases-loop-i
-decreases-loop-i l = length l.ws - l.i
+invariant-loop-i l = l.to ≡ put l.initial.to l.at (word_bytes l.order (take l.i l.ws))

@@ -1,9 +1,10 @@
+use Rattle.descriptor.specs.Looking.{Look}
+use Rattle.std.specs.Prelude.{Err}
 use Rattle.machine.proofs.AtFetch.{not-running, running, no_address, no-descriptor}
 use Rattle.machine.specs.Helpers.Turns.{Looks}
 use Rattle.machine.specs.Step.{World, meets, fetch_step}
 use Rattle.machine.specs.declared.fetch.Fetched.{Fetched}
-use Rattle.descriptor.specs.declared.Look.{Look}
-use mathlib.Core.Path.{◌≡◌, sym, ◌∙◌}
+use mathlib.Core.Path.{◌≡◌, sym, ap, ◌∙◌}
 use Rattle.machine.proofs.Core.fetch_step.Goals as goal
 use Rattle.machine.proofs.Core.fetch_step.Goals.{After-seen-look}
 
@@ -18,10 +19,10 @@ pub returns-then-not-has : goal.returns-then-not-has
 returns-then-not-has c = not-running _ _ _ _ (sym c.has.ensures.value ∙ c.if-not-has.true) c.rested.ensures c.alone.ensures
 
 pub returns-in-Misaligned : goal.returns-in-Misaligned
-returns-in-Misaligned c = finds (goal.at.returns-in-Misaligned c).After-seen-look c.in-Misaligned.is _ (let a = c.args in no_address a.self _ a.slot a.window.now c.faulted.ensures c.alone-in-Misaligned.ensures)
+returns-in-Misaligned c = finds (goal.at.returns-in-Misaligned c).After-seen-look (c.in-Err.is ∙ ap Err c.in-Misaligned.is) _ (let a = c.args in no_address a.self _ a.slot a.window.now c.faulted.ensures c.alone-in-Misaligned.ensures)
 
 pub returns-in-Outside : goal.returns-in-Outside
-returns-in-Outside c = finds (goal.at.returns-in-Outside c).After-seen-look c.in-Outside.is _ (let a = c.args in no-descriptor a.self _ a.slot a.window.now c.faulted-in-Outside.ensures c.alone-in-Outside.ensures)
+returns-in-Outside c = finds (goal.at.returns-in-Outside c).After-seen-look (c.in-Err.is ∙ ap Err c.in-Outside.is) _ (let a = c.args in no-descriptor a.self _ a.slot a.window.now c.faulted-in-Outside.ensures c.alone-in-Outside.ensures)
 
-pub returns-in-There : goal.returns-in-There
-returns-in-There c = finds (goal.at.returns-in-There c).After-seen-look c.in-There.is _ (rw (sym c.named.ensures.value) (c.fetched.ensures _))
+pub returns-in-Ok : goal.returns-in-Ok
+returns-in-Ok c = finds (goal.at.returns-in-Ok c).After-seen-look c.in-Ok.is _ (rw (sym c.named.ensures.value) (c.fetched.ensures _))

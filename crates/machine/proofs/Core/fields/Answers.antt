@@ -3,7 +3,7 @@ use borrow.Author.Rules.{rules}
 use Rattle.machine.proofs.Core.fields.Goals as goal
 
 pub overflow_cast-result : goal.overflow_cast-result
-overflow_cast-result c = let told = c.number-3.ensures.value in
+overflow_cast-result c = let told = c.from.ensures.value in
     let h = status-below c.args.self.status in
     search rules
 
@@ -11,10 +11,10 @@ pub returns : goal.returns
 returns c = rw (
   c.size.ensures.value,
   c.base.ensures.value,
-  c.number-3.ensures.value,
+  c.from.ensures.value,
   c.has.ensures.value,
-  c.number-2.ensures.value,
-  c.number.ensures.value,
+  c.into-2.ensures.value,
+  c.into.ensures.value,
   c.fault_in-fault.ensures,
   c.in_hand-work.ensures,
 )

@@ -12,13 +12,13 @@ pub returns-in-MemoryToMemory : goal.returns-in-MemoryToMemory
 returns-in-MemoryToMemory c = let a = c.args in
     λ w p q h. sym (move-waits a.self.mode (became w a.self) a.k ∙ simp c.in-MemoryToMemory.is)
 
-pub returns-in-Outside : goal.returns-in-Outside
-returns-in-Outside c = let a = c.args in
-    λ w p q h. sym (move-waits a.self.mode (became w a.self) a.k ∙ simp (c.in-MemoryToStream.is, outside c.locate-found.ensures c.read_address.ensures c.in-Outside.is))
+pub returns-in-None : goal.returns-in-None
+returns-in-None c = let a = c.args in
+    λ w p q h. sym (move-waits a.self.mode (became w a.self) a.k ∙ simp (c.in-MemoryToStream.is, outside c.locate-found.ensures c.read_address.ensures c.in-None.is))
 
-pub returns-in-At : goal.returns-in-At
-returns-in-At c = let a = c.args in
-    λ w p q h. sym (move-waits a.self.mode (became w a.self) a.k ∙ simp (c.in-MemoryToStream.is, inside c.locate-found.ensures c.read_address.ensures c.in-At.is, sym q, c.if-room.false))
+pub returns-in-Some : goal.returns-in-Some
+returns-in-Some c = let a = c.args in
+    λ w p q h. sym (move-waits a.self.mode (became w a.self) a.k ∙ simp (c.in-MemoryToStream.is, inside c.locate-found.ensures c.read_address.ensures c.in-Some.is, sym q, c.if-room.false))
 
 pub returns-then-more : goal.returns-then-more
 returns-then-more c = let a = c.args in

@@ -7,8 +7,8 @@ use mathlib.Core.Bool.{true≢false}
 use Rattle.machine.proofs.Core.put_back.Goals as goal
 
 pub returns-in_default : goal.returns-in_default
-returns-in_default c = absurd (true≢false (sym c.requires ∙ ap (λ (v : Window). in_window v c.args.k.at 32) (sym c.home.ensures) ∙ outside c.locate-found.ensures refl c.in_default.is))
+returns-in_default c = absurd (true≢false (sym c.requires ∙ ap (λ (v : Window). in_window v c.args.k.at 32) (sym c.home.ensures) ∙ outside c.locate.ensures refl c.in_default.is))
 
 pub returns : goal.returns
 unfolding written_back
-returns c = λ w. c.write_back.ensures.lent ∙ simp (place c.locate-found.ensures refl c.in-At.is, c.home.ensures, c.written_control-control.ensures)
+returns c = λ w. c.write_back.ensures.lent ∙ simp (place c.locate.ensures refl c.in-Some.is, c.home.ensures, c.written_control-control.ensures)

@@ -2,15 +2,8 @@ use mathlib.Core.Path.{sym, ap, ◌∙◌}
 use mathlib.Core.Bool.{not, ◌&&◌}
 use lib.Dec.{ltb}
 use Rattle.machine.specs.Helpers.Resume.{ready_in, ready_of}
+use Rattle.machine.proofs.Readiness.{idle-ready}
 use Rattle.machine.proofs.Core.ready.Goals as goal
-
-pub returns-in-Rest : goal.returns-in-Rest
-unfolding ready_of
-returns-in-Rest c = sym (ap (ready_in c.args.self) c.in-Rest.is)
-
-pub returns-in-Fetch : goal.returns-in-Fetch
-unfolding ready_of
-returns-in-Fetch c = sym (ap (ready_in c.args.self) c.in-Fetch.is)
 
 pub returns-in-Move : goal.returns-in-Move
 unfolding ready_of
@@ -23,14 +16,6 @@ pub returns-in-WriteBack : goal.returns-in-WriteBack
 unfolding ready_of
 returns-in-WriteBack c = c.holds-in-WriteBack.ensures ∙ sym (ap (ready_in c.args.self) c.in-WriteBack.is)
 
-pub returns-in-Ended : goal.returns-in-Ended
+pub returns-in-Rest : goal.returns-in-Rest
 unfolding ready_of
-returns-in-Ended c = sym (ap (ready_in c.args.self) c.in-Ended.is)
-
-pub returns-in-Halted : goal.returns-in-Halted
-unfolding ready_of
-returns-in-Halted c = sym (ap (ready_in c.args.self) c.in-Halted.is)
-
-pub returns-in-Faulted : goal.returns-in-Faulted
-unfolding ready_of
-returns-in-Faulted c = sym (ap (ready_in c.args.self) c.in-Faulted.is)
+returns-in-Rest c = sym (idle-ready c.args.self c.in-Rest.is)

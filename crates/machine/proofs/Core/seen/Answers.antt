@@ -4,10 +4,10 @@ use Rattle.descriptor.specs.Looking.{look_at}
 use Rattle.bus.specs.declared.Window.{Window}
 use Rattle.machine.proofs.Core.seen.Goals as goal
 
-pub returns-in-Empty : goal.returns-in-Empty
+pub returns-in-None : goal.returns-in-None
 unfolding seen
-returns-in-Empty c = let a = c.args in λ w. c.look_at.ensures.value ∙ ap (λ (v : Window). look_at v a.window.now a.self.pointer.0) c.home.ensures ∙ ap (seen_in (holding (stored w a.self a.window.now) a.slot)) (sym c.in-Empty.is)
+returns-in-None c = let a = c.args in λ w. c.look_at.ensures.value ∙ ap (λ (v : Window). look_at v a.window.now a.self.pointer.0) c.home.ensures ∙ ap (seen_in (holding (stored w a.self a.window.now) a.slot)) (sym c.in-None.is)
 
-pub returns-in-Ahead : goal.returns-in-Ahead
+pub returns-in-Some : goal.returns-in-Some
 unfolding seen
-returns-in-Ahead c = let a = c.args in λ w. ap (seen_in (holding (stored w a.self a.window.now) a.slot)) (sym c.in-Ahead.is)
+returns-in-Some c = let a = c.args in λ w. ap (seen_in (holding (stored w a.self a.window.now) a.slot)) (sym c.in-Some.is)

@@ -1,7 +1,7 @@
+use Rattle.std.specs.Prelude.{Some, None}
 use Rattle.machine.proofs.Waiting.{fetch_goes, back-waits, waits-by}
 use Rattle.machine.specs.Step.{became, rest_step}
 use Rattle.machine.specs.declared.Reason.TheVariants as reason
-use Rattle.machine.specs.declared.steps.Wait.TheVariants.{Go, Stop}
 use mathlib.Core.Bool.{Bool, cond}
 use mathlib.Core.Path.{◌∙◌, sym, ap}
 use Rattle.machine.proofs.Core.wait.Goals as goal
@@ -26,11 +26,11 @@ returns-in-Move c = let m = c.args.self in
 
 pub returns-then-keeps : goal.returns-then-keeps
 returns-then-keeps c = let m = c.args.self in
-    λ w p q h. sym (waits-by (became w m) c.in-WriteBack.is ∙ back-waits _ _ ∙ ap (λ (b : Bool). cond b Go (Stop reason.LedgerFull)) (sym h ∙ c.if-keeps.true))
+    λ w p q h. sym (waits-by (became w m) c.in-WriteBack.is ∙ back-waits _ _ ∙ ap (λ (b : Bool). cond b None (Some reason.LedgerFull)) (sym h ∙ c.if-keeps.true))
 
 pub returns-else-keeps : goal.returns-else-keeps
 returns-else-keeps c = let m = c.args.self in
-    λ w p q h. sym (waits-by (became w m) c.in-WriteBack.is ∙ back-waits _ _ ∙ ap (λ (b : Bool). cond b Go (Stop reason.LedgerFull)) (sym h ∙ c.if-keeps.false))
+    λ w p q h. sym (waits-by (became w m) c.in-WriteBack.is ∙ back-waits _ _ ∙ ap (λ (b : Bool). cond b None (Some reason.LedgerFull)) (sym h ∙ c.if-keeps.false))
 
 pub returns-in-Ended : goal.returns-in-Ended
 returns-in-Ended c = let m = c.args.self in

@@ -8,6 +8,6 @@ pub run_if-requires : goal.run_if-requires
 run_if-requires c = let m = c.args.self in
     let told = c.keeps.ensures in record { ready = (λ e. keeps-ready m _ (sym told ∙ e) refl); seated = (λ e. keeps-seated m (sym told ∙ e)) }
 
-pub returns : goal.returns
+pub returns-clause-runs : goal.returns-clause-runs
 unfolding served_of
-returns c = runs_as _ _ c.keeps.ensures c.run_if.ensures
+returns-clause-runs c = runs_as _ _ c.keeps.ensures c.run_if.ensures.runs

@@ -1,9 +1,11 @@
 use Rattle.machine.proofs.Outcomes.{run-of-one}
-use mathlib.Core.Path.{refl}
+use Rattle.std.specs.Prelude.{Ok}
+use Rattle.bus.proofs.Passed.{handed-on}
+use mathlib.Core.Path.{ap}
 use Rattle.machine.proofs.Machine.step.Goals as goal
 
-pub returns-in-Refused : goal.returns-in-Refused
-returns-in-Refused c = run-of-one c.run-answer.ensures c.in-Refused.is refl
+pub returns-in_err-ran-clause-stepped : goal.returns-in_err-ran-clause-stepped
+returns-in_err-ran-clause-stepped c = run-of-one c.run.ensures.runs c.in_err-ran.was (handed-on _ c.from_residual.ensures.1)
 
-pub returns-in-Done : goal.returns-in-Done
-returns-in-Done c = run-of-one c.run-answer.ensures c.in-Done.is c.stepped.ensures
+pub returns-clause-stepped : goal.returns-clause-stepped
+returns-clause-stepped c = run-of-one c.run.ensures.runs c.in_ok-ran.was (ap Ok c.stepped.ensures)

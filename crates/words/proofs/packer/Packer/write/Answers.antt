@@ -1,13 +1,15 @@
-use mathlib.Core.Path.{◌≡◌, sym, ◌∙◌}
+use mathlib.Core.Path.{◌≡◌, ◌∙◌}
 use native.Mathlib.Omega.{arith}
 use lib.ListN.{length}
-use lib.Seq.{length-take-le}
 use borrow.Author.Tests.{le-leb, lt-leb, eq-eqb, ne_eqb}
 use borrow.Author.Rules.{rules}
 use Rattle.words.specs.Packed.{packed_over}
-use Rattle.words.proofs.Packing.{written}
+use Rattle.words.specs.Numbers.{split, bytes}
+use Prim.Native.Nat.{◌*◌, ◌/◌, ◌%◌, ◌≤◌}
+use Rattle.words.proofs.Slices.{put-middle}
+use Rattle.words.proofs.Packing.{written, many, last-bytes}
 use Rattle.words.proofs.packer.Packer.write.Goals as goal
-use Rattle.words.proofs.packer.Packer.write.Goals.{Start}
+use Rattle.words.proofs.packer.Packer.write.Goals.{Start, then-whole-gt-ROOM-via-then-whole-gt-ROOM, then-whole-gt-ROOM-via-else-whole-gt-ROOM+then-to-whole}
 
 -- the words that there is room for
 room : (c : Start) → length c.args.self.words ≡ 24
@@ -15,23 +17,24 @@ room c = search rules
 
 pub returns-then-whole-gt-ROOM : goal.returns-then-whole-gt-ROOM
 unfolding packed_over
-returns-then-whole-gt-ROOM c = record { lent = rw (lt-leb _ _ c.if-whole-gt-ROOM.true) }
-
-pub returns-then-to-whole : goal.returns-then-to-whole
-unfolding packed_over
-returns-then-to-whole c = record { lent = rw (le-leb _ _ c.if-whole-gt-ROOM.false, ne_eqb _ _ c.if-to-whole.true) }
-
-pub slice_bounds-words-end : goal.slice_bounds-words-end
-slice_bounds-words-end c = let l = room (goal.at.slice_bounds-words-end c).Start in omega arith
-
-pub slice_bounds-put_words-end : goal.slice_bounds-put_words-end
-slice_bounds-put_words-end c = let l = room (goal.at.slice_bounds-put_words-end c).Start in
-    sym (length-take-le _ _ (omega arith))
+returns-then-whole-gt-ROOM c = record {
+  lent = elim c.then-whole-gt-ROOM.branch [
+    | then-whole-gt-ROOM-via-then-whole-gt-ROOM w ↦ rw (lt-leb _ _ w.if-whole-gt-ROOM.true)
+    | then-whole-gt-ROOM-via-else-whole-gt-ROOM+then-to-whole w ↦ rw (le-leb _ _ w.if-whole-gt-ROOM.false, ne_eqb _ _ w.if-to-whole.true)
+  ];
+}
 
 pub returns : goal.returns
 unfolding packed_over
-returns c = let l = room (goal.at.returns c).Start in
+returns c = let p = c.args.self in
+    let left = p.count % 32 / 8 in
+    let l = room (goal.at.returns c).Start in
+    let n : length (split (bytes left) p.rest) ≡ left = many left p.rest in
+    let few : left ≤ 4 = omega arith in
+    let back : c.copy_from_slice.new.self ≡ split (bytes left) p.rest =
+    c.copy_from_slice.ensures.after ∙ last-bytes left p.rest few c.to_be_bytes.ensures in
     record {
-      lent = written c.args.self c.args.to.now (omega arith) c.if-to-whole.false c.put_words.ensures.lent c.put_bytes.ensures
+      lent = written p c.args.to.now (omega arith) c.if-to-whole.false c.put_words.ensures.lent
+          (put-middle _ (4 * p.whole) (split (bytes left) p.rest) back (omega arith) (omega arith))
           ∙ rw (le-leb _ _ c.if-whole-gt-ROOM.false, eq-eqb _ _ c.if-to-whole.false);
     }

@@ -1,4 +1,0 @@
-use Rattle.regs.proofs.Status.of.Goals as goal
-
-pub returns : goal.returns
-returns c = record { value = rw (c.has-5.ensures.value, c.has-4.ensures.value, c.has-3.ensures.value, c.has-2.ensures.value, c.has.ensures.value) }
