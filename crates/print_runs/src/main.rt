@@ -1,5 +1,6 @@
 // Makes the paper's eleven known runs through the C calls and prints a line for each: the reason, the steps, the beats taken, the
-// status, the pointer, the descriptor's last four bytes, the fault, and the beats made. It ends with the error of a write that failed.
+// status, the pointer, the descriptor's last four bytes, the fault, and the beats made. It ends with the error of a write that
+// failed, or of a call that is refused.
 #![tactic(auto)]
 
 use bus::Refusal;
@@ -136,83 +137,85 @@ const SENT: Row = Row {
     ..FIRST
 };
 
+// The runs, each with its name, what differs, and the beats that it is lent.
+const RUNS: [(&str, Row, &[u8]); 15] = [
+    ("1.", FIRST, &FOUR),
+    ("2.", FIRST, &[0, 0x11, 1, 0x22, 0, 0x33, 0, 0x44]),
+    (
+        "3.",
+        Row {
+            pointer: 4128,
+            ..FIRST
+        },
+        &FOUR,
+    ),
+    ("4.", FIRST, &[0, 0x11, 0, 0x22, 0, 0x33]),
+    (
+        "5.",
+        Row {
+            control: 0x60,
+            ..FIRST
+        },
+        &[0, 0x11, 0, 0x22, 6, 0x33, 0, 0x44],
+    ),
+    (
+        "6.",
+        Row {
+            control: 0x2_0020,
+            next: 4096,
+            ..FIRST
+        },
+        &EIGHT,
+    ),
+    (
+        "7.",
+        Row {
+            destination: 4350,
+            ..FIRST
+        },
+        &FOUR,
+    ),
+    (
+        "8. 4098",
+        Row {
+            pointer: 4098,
+            ..FIRST
+        },
+        &FOUR,
+    ),
+    (
+        "8. 4324",
+        Row {
+            pointer: 4324,
+            ..FIRST
+        },
+        &FOUR,
+    ),
+    (
+        "8. 4320",
+        Row {
+            pointer: 4320,
+            ..FIRST
+        },
+        &FOUR,
+    ),
+    (
+        "9.",
+        Row {
+            mode: 0,
+            length: 0,
+            ..FIRST
+        },
+        &FOUR,
+    ),
+    ("10. length 2", SENT, &FOUR),
+    ("10. length 1", Row { length: 1, ..SENT }, &FOUR),
+    ("11. budget 8", Row { budget: 8, ..FIRST }, &FOUR),
+    ("11. budget 7", Row { budget: 7, ..FIRST }, &FOUR),
+];
+
 fn main(rt: HostRuntime) -> io::Result<()> {
-    let runs: [(&str, Row, &[u8]); 15] = [
-        ("1.", FIRST, &FOUR),
-        ("2.", FIRST, &[0, 0x11, 1, 0x22, 0, 0x33, 0, 0x44]),
-        (
-            "3.",
-            Row {
-                pointer: 4128,
-                ..FIRST
-            },
-            &FOUR,
-        ),
-        ("4.", FIRST, &[0, 0x11, 0, 0x22, 0, 0x33]),
-        (
-            "5.",
-            Row {
-                control: 0x60,
-                ..FIRST
-            },
-            &[0, 0x11, 0, 0x22, 6, 0x33, 0, 0x44],
-        ),
-        (
-            "6.",
-            Row {
-                control: 0x2_0020,
-                next: 4096,
-                ..FIRST
-            },
-            &EIGHT,
-        ),
-        (
-            "7.",
-            Row {
-                destination: 4350,
-                ..FIRST
-            },
-            &FOUR,
-        ),
-        (
-            "8. 4098",
-            Row {
-                pointer: 4098,
-                ..FIRST
-            },
-            &FOUR,
-        ),
-        (
-            "8. 4324",
-            Row {
-                pointer: 4324,
-                ..FIRST
-            },
-            &FOUR,
-        ),
-        (
-            "8. 4320",
-            Row {
-                pointer: 4320,
-                ..FIRST
-            },
-            &FOUR,
-        ),
-        (
-            "9.",
-            Row {
-                mode: 0,
-                length: 0,
-                ..FIRST
-            },
-            &FOUR,
-        ),
-        ("10. length 2", SENT, &FOUR),
-        ("10. length 1", Row { length: 1, ..SENT }, &FOUR),
-        ("11. budget 8", Row { budget: 8, ..FIRST }, &FOUR),
-        ("11. budget 7", Row { budget: 7, ..FIRST }, &FOUR),
-    ];
-    for (name, row, beats) in runs {
+    for (name, row, beats) in RUNS {
         made(&rt, name, row, beats)?;
     }
     Ok(())
