@@ -80,11 +80,13 @@ lent_in l = lent l.window.now l.beats.now l.out.now l.ledger.now l.used
 abbrev pub back_in : Loan → Returned
 back_in l = back l.window.now l.out.now l.ledger.now
 
--- a loan of the same slices
+-- a loan of the same slices, with the same beats and as many records used
 pub record Held (l l' : Loan) : Type 0 where
   pub window : l'.window.ghost_name ≡ l.window.ghost_name
+  pub beats : l'.beats.now ≡ l.beats.now
   pub out : l'.out.ghost_name ≡ l.out.ghost_name
   pub ledger : l'.ledger.ghost_name ≡ l.ledger.ghost_name
+  pub used : l'.used ≡ l.used
 
 -- as it was lent
 abbrev pub as_lent : Lent → Returned
