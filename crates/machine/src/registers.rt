@@ -3,8 +3,8 @@ ghost use Rattle.std.specs.Prelude.{◌≡◌};
 ghost use Rattle.words.specs.Promise.{Gives};
 ghost use Rattle.regs.specs.Control.{line_up};
 ghost use Rattle.regs.specs.Offsets.{register_at};
-ghost use Rattle.machine.specs.State.{with_phase, with_busy, rested as rested_of, fresh_core, settled as settled_of, machine_with, fresh as fresh_of};
-ghost use Rattle.machine.specs.Helpers.Worlds.{stands};
+ghost use Rattle.machine.specs.State.{with_phase, with_busy, rested as rested_of, fresh_core, machine_with, fresh as fresh_of};
+ghost use Rattle.machine.specs.Helpers.Worlds.{stands, reads_ahead};
 ghost use Rattle.machine.specs.Registers.{core_written, written_to, wrote_to, RegisterWasRead, WasWritten, WasLine};
 
 use crate::{Core, Machine, Phase, Slot};
@@ -20,14 +20,11 @@ impl Phase {
         matches!(self, Phase::Ended | Phase::Halted)
     }
 
-    // What it leaves of a slot: only Fetch, Move and WriteBack hold one.
-    pub(crate) fn settled(self, slot: Slot) -> Slot
-        ensures { result ≡ settled_of self slot }
+    // Whether it holds what was read ahead: Fetch, Move and WriteBack do.
+    fn reads_ahead(self) -> bool
+        ensures { result ≡ reads_ahead self }
     {
-        match self {
-            Phase::Fetch | Phase::Move(_) | Phase::WriteBack(_) => slot,
-            Phase::Rest | Phase::Ended | Phase::Halted | Phase::Faulted(_) => None,
-        }
+        matches!(self, Phase::Fetch | Phase::Move(_) | Phase::WriteBack(_))
     }
 }
 
@@ -109,16 +106,23 @@ impl Core {
 }
 
 impl Machine {
+    // With its slot emptied, where its phase holds none. In place, as the machine is written: a slot that is handed on is copied in pieces.
+    fn settled(self) -> Machine
+        ensures { result ≡ machine_with self.core self.slot self.run }
+    {
+        let phase = self.core.phase;
+        let mut m = self;
+        if !phase.reads_ahead() {
+            m.slot = None;
+        }
+        m
+    }
+
     // The machine of a core, of what it has read ahead, which its phase may empty, and of a run number.
     pub(crate) fn of(core: Core, slot: Slot, run: u32) -> Machine
         ensures { result ≡ machine_with core slot run }
     {
-        let phase = core.phase;
-        Machine {
-            core,
-            slot: phase.settled(slot),
-            run,
-        }
+        Machine { core, slot, run }.settled()
     }
 
     // A fresh machine: all registers 0, at rest, nothing read ahead, no run begun.
@@ -133,16 +137,16 @@ impl Machine {
         ensures { result ≡ written_to self offset value }
     {
         let core = self.core;
-        let next = core.written(offset, value);
+        let mut m = self;
+        m.core = core.written(offset, value);
         if offset == Pointer::OFFSET {
-            return Machine::of(next, None, self.run);
+            m.slot = None;
         }
-        let slot = self.slot;
-        if offset != Control::OFFSET {
-            return Machine::of(next, slot, self.run);
+        if offset == Control::OFFSET {
+            let control = core.control;
+            m.run = control.run_from(value, m.run);
         }
-        let control = core.control;
-        Machine::of(next, slot, control.run_from(value, self.run))
+        m.settled()
     }
 }
 

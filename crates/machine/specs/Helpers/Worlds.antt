@@ -55,3 +55,14 @@ stands (WriteBack k) = false
 stands Ended = true
 stands Halted = true
 stands (Faulted f) = false
+
+-- ---- the phases that hold what was read ahead
+
+abbrev pub reads_ahead : Phase → Bool
+reads_ahead Rest = false
+reads_ahead Fetch = true
+reads_ahead (Move k) = true
+reads_ahead (WriteBack k) = true
+reads_ahead Ended = false
+reads_ahead Halted = false
+reads_ahead (Faulted f) = false
