@@ -76,14 +76,18 @@ impl From<Miss> for Refusal {
     }
 }
 
-// One look at a descriptor's address: misaligned comes first, then that its 32 bytes are not wholly in the window.
+// One look at a descriptor's address: misaligned comes first, then that its 32 bytes are not wholly in the window. By `let .. else`: an
+// `ok_or` puts a choice of the place between a link and the next, for which the walk along a chain waits.
 pub fn spot_of(window: Window, address: BusAddress) -> Result<Place, Miss>
     ensures { Gives (spot_of window address.0) result }
 {
     if address.0 % 4 != 0 {
         return Err(Miss::Misaligned);
     }
-    window.locate(address, 32).ok_or(Miss::Outside)
+    let Some(place) = window.locate(address, 32) else {
+        return Err(Miss::Outside);
+    };
+    Ok(place)
 }
 
 // The 32 bytes of a descriptor as they stand in memory: four words of eight bytes, the least significant byte of each first.
