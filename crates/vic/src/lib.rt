@@ -91,21 +91,21 @@ struct Found {
     level: u32,
 }
 
-// The port of the largest level above 0 that is pending; of equal levels the first.
+// The port of the largest level above 0 that is pending; of equal levels the first. In the loop a level of 0 says that there is none: an
+// `Option` that is carried round is put together and taken apart at each port.
 fn best(vic: &[u8]) -> Option<Found>
     ensures { SomeIff result (0 < chosen_level vic.now) (record { port = chosen_port vic.now; level = chosen_level vic.now }) }
 {
     let mut rest = waiting(vic);
-    let mut best: Option<Found> = None;
+    let mut best = Found { port: 0, level: 0 };
     for port in 0..ports(vic) {
         let level = level(vic, port);
-        let most = best.map_or(0, |found| found.level);
-        if rest % 2 == 1 && most < level {
-            best = Some(Found { port, level });
+        if rest % 2 == 1 && best.level < level {
+            best = Found { port, level };
         }
         rest /= 2;
     }
-    best
+    if 0 < best.level { Some(best) } else { None }
 }
 
 // A number with the bit of a port made so.
