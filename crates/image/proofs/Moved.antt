@@ -5,16 +5,15 @@ use Rattle.std.specs.Prelude.{Option, Some, None, Result, Ok, Err, ok_or}
 use Rattle.bus.specs.declared.Refusal.{Refusal}
 use Rattle.bus.specs.declared.Refusal.TheVariants.{BadSize}
 use Rattle.image.proofs.Foremost.{told-some, told-none}
-use Prim.Native.Nat.{ℕ, zero, suc, min, ◌+◌, ◌-◌, ◌*◌, ◌%◌, ◌^◌, ◌≤◌, ◌<◌}
+use Prim.Native.Nat.{ℕ, zero, suc, ◌+◌, ◌*◌, ◌%◌, ◌^◌, ◌≤◌, ◌<◌}
 use mathlib.Core.Path.{◌≡◌, refl, sym, ap, subst, ◌∙◌}
 use mathlib.Core.Bool.{Bool, true, false, not, cond, ◌&&◌}
 use mathlib.Core.List.{List, [], ◌∷◌, ◌++◌}
-use native.Mathlib.Nat.{min-le_left, min-le_right, min-eq_left, min-eq_right, sub_self, add_assoc, mul_assoc, add-mul, mod-eq_of_lt, mul-add-mod_self_right}
+use native.Mathlib.Nat.{add_assoc, mul_assoc, add-mul, mod-eq_of_lt, mul-add-mod_self_right}
 use native.Mathlib.Omega.{arith}
-use borrow.Author.Tests.{eq-eqb, ne_eqb, eqb-true, leb-true, leb-false}
-use lib.Dec.{eqb, leb, ltb}
-use lib.ListN.{length, take, drop, get_or, set, replicate, length-drop, drop_of_length-le}
-use Rattle.std.proofs.lemmas.List.{append-nil, take-append-le, length-append}
+use borrow.Author.Tests.{eq-eqb, ne_eqb, eqb-true}
+use lib.Dec.{eqb, ltb}
+use lib.ListN.{length, take, drop, get_or, set, replicate}
 use lib.Pow.{pow-add, pow_pos, high, mod-pow-add}
 use lib.Seq.{take_all, length-take-le, get_or-take, set-append_left}
 use Rattle.words.specs.Fields.{first_false}
@@ -74,6 +73,17 @@ sized-none {n} {why} e h = let o = by (told n) (sym e ∙ h) in (told-none n o.0
 
 -- ---- bytes, as many as asked for
 
+pub resized-next : (n : ℕ) (xs : List ℕ) → resized (suc n) xs ≡ resized n xs ++ (get_or xs n 0 ∷ [])
+resized-next zero [] = refl
+resized-next zero (x ∷ xs) = refl
+resized-next (suc n) [] = ap (λ (ys : List ℕ). 0 ∷ ys) (resized-next n [])
+resized-next (suc n) (x ∷ xs) = ap (λ (ys : List ℕ). x ∷ ys) (resized-next n xs)
+
+pub length-resized : (n : ℕ) (xs : List ℕ) → length (resized n xs) ≡ n
+length-resized zero xs = refl
+length-resized (suc n) [] = ap suc (length-resized n [])
+length-resized (suc n) (x ∷ xs) = ap suc (length-resized n xs)
+
 resized-front : (n : ℕ) (xs : List ℕ) → n ≤ length xs → resized n xs ≡ take n xs
 resized-front zero xs h = refl
 resized-front (suc n) [] h = absurd (omega arith)
@@ -92,38 +102,6 @@ resized-more (suc n) k (x ∷ xs) e = ap (λ (ys : List ℕ). x ∷ ys) (resized
 
 resized-same : (n : ℕ) (xs : List ℕ) → length xs ≡ n → resized n xs ≡ xs
 resized-same n xs e = resized-front n xs (omega arith) ∙ take_all n xs (omega arith)
-
--- as many bytes as both have, and zeros behind them
-module _ (xs to : List ℕ) (n : ℕ) (l : n ≡ min (length xs) (length to)) where
-  n-fits : (n ≤ length xs) × (n ≤ length to)
-  n-fits = (rw l (min-le_left _ _), rw l (min-le_right _ _))
-
-  n-front : take n xs ++ replicate (length to - n) 0 ≡ resized (length to) xs
-  n-front = by (leb (length to) (length xs)) refl
-    where
-      parts : (k : ℕ) → n ≡ k → take n xs ++ replicate (length to - n) 0 ≡ take k xs ++ replicate (length to - k) 0
-      parts k p = ap (λ (j : ℕ). take j xs ++ replicate (length to - j) 0) p
-
-      by : (b : Bool) → leb (length to) (length xs) ≡ b → take n xs ++ replicate (length to - n) 0 ≡ resized (length to) xs
-      by true p =
-          let h = leb-true (length to) (length xs) p in
-          parts (length to) (l ∙ min-eq_right h) ∙ rw (sub_self (length to), append-nil) (sym (resized-front (length to) xs h))
-      by false p =
-          let h = leb-false (length to) (length xs) p in
-          parts (length xs) (l ∙ min-eq_left (omega arith)) ∙ rw (take_all (length xs) xs (omega arith)) (sym (resized-more (length to) (length to - length xs) xs (omega arith)))
-
-  pub copied-front : {front rest : List ℕ} → front ≡ take n xs
-      → rest ≡ replicate (length (take (length (front ++ drop n to) - n) (drop n (front ++ drop n to)))) 0
-      → take n (front ++ drop n to) ++ (rest ++ drop (length (front ++ drop n to) - n) (drop n (front ++ drop n to))) ≡ resized (length to) xs
-  copied-front {front} {rest} e p =
-      let zs = front ++ drop n to in
-      let f : length front ≡ n = ap length e ∙ length-take-le n xs n-fits.0 in
-      let size : length zs ≡ length to = simp (length-append, length-drop) (let h = n-fits.1 in omega arith) in
-      let before : take n zs ≡ take n xs = take-append-le n front (drop n to) (omega arith) ∙ take_all n front (omega arith) ∙ e in
-      let none : drop (length zs - n) (drop n zs) ≡ [] = drop_of_length-le (drop n zs) (simp length-drop (omega arith)) in
-      let zeros : rest ≡ replicate (length to - n) 0 =
-      p ∙ ap (λ (k : ℕ). replicate k 0) (length-take-le (length zs - n) (drop n zs) (simp length-drop (omega arith)) ∙ ap (λ (k : ℕ). k - n) size) in
-      rw (before, none, append-nil, zeros) n-front
 
 pub put_as : (edition n : ℕ) (xs : List ℕ) {ys : List ℕ} {b : ℕ} → ys ≡ resized n xs → b ≡ get_or xs 0 0
     → set ys 0 (edition * 16 + b % 16) ≡ moved_bytes edition n xs

@@ -38,13 +38,14 @@ pub(crate) fn broken_in(edition: u8, from: &[u8]) -> Option<u8>
     broken(f, tail_in(from))
 }
 
-// Fills `to` with the bytes of `from`, and with zeros where there are no more.
+// Fills `to` with the bytes of `from`, and with zeros where there are no more. A loop, since a copy by the library would be a call of
+// memmove, which the archive for C would then need from outside.
 fn copy_front(from: &[u8], to: &mut [u8])
     ensures { Leaves (resized (length to.old) from.now) to.new }
 {
-    let n = from.len().min(to.len());
-    to[..n].copy_from_slice(&from[..n]);
-    to[n..].fill(0);
+    for (i, byte) in to.iter_mut().enumerate() {
+        *byte = from.get(i).copied().unwrap_or(0);
+    }
 }
 
 // The same, with the number of an edition.
