@@ -55,7 +55,7 @@ fn put_moved(edition: u8, from: &[u8], to: &mut [u8])
     ensures { Leaves (moved_bytes edition (length to.old) from.now) to.new }
 {
     copy_front(from, to);
-    let first = from.first().copied().unwrap_or(0);
+    let first = from.get(0).copied().unwrap_or(0);
     to[0] = edition * 16 + first % 16;
 }
 
