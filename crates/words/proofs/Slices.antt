@@ -13,6 +13,7 @@ use Rattle.std.specs.Int.{w16, w32, from_be_bytes}
 use Rattle.words.specs.Numbers.{join, bytes}
 use Rattle.words.specs.Orders.{in_order, number_of, row_numbers}
 use Rattle.words.specs.Slices.{part, put, put_at, number_at}
+use Rattle.words.proofs.Orders.{length-order}
 
 module _ (xs : List ℕ) (at : ℕ) where
   pub put_in : (ys : List ℕ) → at + length ys ≤ length xs → put_at xs at ys ≡ put xs at ys
@@ -163,6 +164,28 @@ pub number-arranged : (order : Order) (xs : List ℕ) (at n : ℕ) {bs cs : List
 number-arranged order xs at n h e f =
     let l : length (part xs at n) ≡ n = length-part xs at n h in
     rw (f, e, number_in xs at order n h, l)
+
+-- a number by its part, in the order asked for, as std takes it
+module _ (order : Order) (xs : List ℕ) (at : ℕ) where
+  pub half_read : at + 2 ≤ length xs → number_at order 2 xs at ≡ from_be_bytes w16 (in_order order (part xs at 2))
+  half_read h =
+      let l : length (in_order order (part xs at 2)) ≡ 2 = length-order order (part xs at 2) ∙ length-part xs at 2 h in
+      sym (half-join (in_order order (part xs at 2)) l ∙ number-arranged order xs at 2 h refl refl)
+
+  pub word_read : at + 4 ≤ length xs → number_at order 4 xs at ≡ from_be_bytes w32 (in_order order (part xs at 4))
+  word_read h =
+      let l : length (in_order order (part xs at 4)) ≡ 4 = length-order order (part xs at 4) ∙ length-part xs at 4 h in
+      sym (word-join (in_order order (part xs at 4)) l ∙ number-arranged order xs at 4 h refl refl)
+
+-- all the bytes of a list, one by one, are the list
+pub two_bytes : (xs : List ℕ) → length xs ≡ 2 → get_or xs 0 0 ∷ get_or xs 1 0 ∷ [] ≡ xs
+two_bytes xs e = elements_all xs 2 e
+
+pub four_bytes : (xs : List ℕ) → length xs ≡ 4 → get_or xs 0 0 ∷ get_or xs 1 0 ∷ get_or xs 2 0 ∷ get_or xs 3 0 ∷ [] ≡ xs
+four_bytes xs e = elements_all xs 4 e
+
+-- what the calls that read a number need, in whatever form they hand the bytes on
+pub ruleset numbers_read = (number-out, half_read, word_read, two_bytes, four_bytes)
 
 -- bytes that take the place of a part are put there
 pub put-middle : (xs : List ℕ) (at : ℕ) {k : ℕ} (ys : List ℕ) {zs : List ℕ} → zs ≡ ys → at + length ys ≤ length xs → k ≡ length ys

@@ -65,6 +65,7 @@ fn put_bytes<const N: usize>(to: &mut [u8], at: usize, bytes: [u8; N])
 // The 16-bit number at a place.
 //
 // There are two calls to read and two to write, since a number's width is its type, as at `from_be_bytes` and `to_be_bytes` of std.
+#[tactic(auto, using(crate::proofs::Slices::numbers_read))]
 pub fn get_u16(order: Order, from: &[u8], at: usize) -> u16
     ensures { Gives (number_at order 2 from.now at) result }
 {
@@ -75,6 +76,7 @@ pub fn get_u16(order: Order, from: &[u8], at: usize) -> u16
 }
 
 // The 32-bit number at a place.
+#[tactic(auto, using(crate::proofs::Slices::numbers_read))]
 pub fn get_u32(order: Order, from: &[u8], at: usize) -> u32
     ensures { Gives (number_at order 4 from.now at) result }
 {
