@@ -14,10 +14,9 @@ use Rattle.bus.specs.declared.Refusal.{Refusal}
 use Rattle.bus.specs.declared.Refusal.TheVariants.{BadSize}
 use Rattle.bus.specs.Refusal.{refusal_number, answer_number}
 use Rattle.descriptor.specs.declared.Descriptor.{Descriptor}
-use Rattle.descriptor.specs.Calls.{DescriptorWasRead}
 use Rattle.regs.specs.Control.{line_up}
 use Rattle.regs.specs.Offsets.{register_at}
-use Rattle.answers.specs.Answers.{value_bytes, report_bytes, finding_bytes, answer_put}
+use Rattle.answers.specs.Answers.{value_bytes, report_bytes, descriptor_bytes, finding_bytes, answer_put}
 use Rattle.answers.proofs.Filled.{is-put}
 use Rattle.ledger.specs.Finding.{finding_in}
 use Rattle.machine.specs.declared.Machine.{Machine}
@@ -109,10 +108,11 @@ module _ {window answer ys : List ℕ} {base a r : ℕ} where
   unfolding descriptor_call
   answer-short h p q = found_as (Err BadSize) (rw (ne_eqb (length answer) 18 h)) p q
 
-  pub descriptor-answers : {d e : Result Descriptor Refusal} → length answer ≡ 18 → DescriptorWasRead window base a d → d ≡ e
-      → r ≡ answer_number e → ys ≡ answer_over e answer → DescriptorRead window base a answer r ys
-  unfolding descriptor_call
-  descriptor-answers {d} {e} l w f p q = found_as e (rw (eq-eqb (length answer) 18 l) (sym w.answer ∙ f)) p q
+-- the bytes of a descriptor, put in a slice of their size
+pub descriptor-put : (d : Descriptor) (xs : List ℕ) → length xs ≡ 18 → answer_put (descriptor_bytes d) xs ≡ descriptor_bytes d
+descriptor-put d xs l = is-put (descriptor_bytes d) xs l
+
+pub ruleset in_place = (descriptor-put)
 
 -- ---- sgdma_find_record
 

@@ -25,11 +25,12 @@ use Rattle.machine.specs.State.{fresh}
 use Rattle.machine.specs.Saved.{keeps, loaded_as, load_of, WasLoaded}
 use Rattle.machine.specs.Registers.{wrote_to, WasWritten}
 use Rattle.machine.proofs.Answers.{was-loaded}
+use Rattle.machine.proofs.Writes.{write_kept}
 use Rattle.met.specs.Sound.{Sound}
 use Rattle.met.proofs.RoundTrip.{loaded-keeps, loaded-typed}
 use Rattle.met.proofs.Writes.{fresh_keeps, write_keeps}
 use Rattle.sgdma.specs.Calls.{image_of, create_number, Created, written_in, written_over, RegisterWritten}
-use Rattle.sgdma.proofs.Opened.{write-loaded}
+use Rattle.sgdma.proofs.Opened.{keeps-loaded, write-loaded}
 
 -- ---- sgdma_write_register
 
@@ -44,6 +45,20 @@ pub written_keeps : (xs : List ℕ) {m n : Machine} {w : Result Machine Refusal}
 written_keeps xs {m} {n} offset v e h g f =
     (write_keeps m n offset v (sound-loaded xs e) h (subst (λ (x : Result Machine Refusal). WasWritten m offset v x) f (write-loaded xs e offset v g))).rules
 
+-- a write to what was loaded goes by the offset alone
+abbrev pub wrote_in : Result Machine Refusal → (offset v : ℕ) → Result Machine Refusal
+wrote_in (Ok m) offset v = wrote_to m offset v
+wrote_in (Err why) offset v = Err why
+
+pub loaded-wrote : (xs : List ℕ) (offset v : ℕ) → written_in (load_of xs) offset v ≡ wrote_in (load_of xs) offset v
+loaded-wrote xs offset v = by (load_of xs) refl
+  where
+    by : (l : Result Machine Refusal) → load_of xs ≡ l → written_in l offset v ≡ wrote_in l offset v
+    by (Ok m) e = sym (write_kept m offset v (keeps-loaded xs e))
+    by (Err why) e = refl
+
+pub ruleset by_loaded = (loaded-wrote)
+
 module _ {xs ys : List ℕ} {offset v r : ℕ} where
   says : (a : Result Machine Refusal) → written_in (load_of xs) offset v ≡ a → r ≡ answer_number a → ys ≡ written_over a xs → RegisterWritten xs offset v r ys
   says a e p q =
@@ -55,11 +70,6 @@ module _ {xs ys : List ℕ} {offset v r : ℕ} where
 
   pub image-spoiled : {why : Refusal} → load_of xs ≡ Err why → r ≡ refusal_number why → ys ≡ xs → RegisterWritten xs offset v r ys
   image-spoiled {why} e p q = says (Err why) (ap (λ (x : Result Machine Refusal). written_in x offset v) e) p q
-
-  pub write-answers : {m : Machine} {w b : Result Machine Refusal} → load_of xs ≡ Ok m → Gives (wrote_to m offset v) w → w ≡ b
-      → r ≡ answer_number b → ys ≡ written_over b xs → RegisterWritten xs offset v r ys
-  write-answers {m} {w} {b} e g f p q =
-      says b (ap (λ (x : Result Machine Refusal). written_in x offset v) e ∙ sym (write-loaded xs e offset v g).answer ∙ f) p q
 
 -- ---- sgdma_create
 

@@ -45,6 +45,7 @@ pub fn sgdma_create(image: &mut [u8], mode: u32, base: u64, length: u64) -> Resu
 }
 
 // Writes the register at `offset`.
+#[tactic(auto, using(crate::proofs::Changed::by_loaded))]
 pub fn sgdma_write_register(image: &mut [u8], offset: u32, value: u32) -> Result<(), Refusal>
     ensures { RegisterWritten image.old offset value (answer_number result) image.new }
 {
@@ -180,6 +181,7 @@ pub fn sgdma_build_descriptor(
 }
 
 // Reads a descriptor of the lent window that stands at `base` into the 18 bytes of `answer`.
+#[tactic(auto, using(crate::proofs::Answered::in_place), unfolding(crate::specs::Calls::descriptor_call))]
 pub fn sgdma_read_descriptor(
     window: &[u8],
     base: u64,

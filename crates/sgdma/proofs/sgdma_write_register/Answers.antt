@@ -1,6 +1,6 @@
 use Rattle.bus.proofs.Passed.{handed-number, told-by}
 use mathlib.Core.Path.{refl, sym, ◌∙◌}
-use Rattle.sgdma.proofs.Changed.{written_keeps, image-short, image-spoiled, write-answers}
+use Rattle.sgdma.proofs.Changed.{written_keeps, image-short, image-spoiled}
 use borrow.Author.Rules.{rules}
 use Rattle.sgdma.proofs.sgdma_write_register.Goals as goal
 
@@ -11,10 +11,4 @@ pub returns-in_default : goal.returns-in_default
 returns-in_default c = image-spoiled (sym c.load-loaded.ensures.answer ∙ c.in_default.is) (handed-number _ _ (told-by c.in_default.is c.and.ensures)) refl
 
 pub put_image-requires : goal.put_image-requires
-put_image-requires c = record { m_value = written_keeps _ c.args.offset c.args.value (sym c.load-loaded.ensures.answer ∙ c.in-Ok.is) c.ranges.value.fits c.write.ensures c.in_ok-n.was; image_len = search rules }
-
-pub returns-in_err-n : goal.returns-in_err-n
-returns-in_err-n c = write-answers (sym c.load-loaded.ensures.answer ∙ c.in-Ok.is) c.write.ensures c.in_err-n.was (handed-number _ _ c.from_residual.ensures.1) refl
-
-pub returns : goal.returns
-returns c = write-answers (sym c.load-loaded.ensures.answer ∙ c.in-Ok.is) c.write.ensures c.in_ok-n.was refl c.put_image.ensures.lent
+put_image-requires c = record { m_value = written_keeps _ c.args.offset c.args.value (sym c.load-loaded.ensures.answer ∙ c.in-Ok.is) c.ranges.value.fits c.write.ensures (search rules); image_len = search rules }
