@@ -246,6 +246,7 @@ impl Machine {
 
     // Writes the 85 bytes of a machine that is known to keep the rules. It looks at the size and the widths alone: where the
     // slice is not of 85 bytes or a number does not fit its width it is refused, and nothing is written.
+    #[tactic(auto, unfolding(crate::specs::Helpers::Put::put_of))]
     pub fn put(self, to: &mut [u8]) -> Result<(), Refusal>
         ensures { MachineWasPut self to.old result to.new }
     {
