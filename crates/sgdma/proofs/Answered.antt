@@ -79,11 +79,23 @@ module _ {xs value ys : List ℕ} {r : ℕ} where
       unfolding line_call
       line-spoiled {why} e p q = line-says (Err why) (sizes-right _ _ 4 xs value l k ∙ ap line_in e) p q
 
-      pub line-answers : {m : Machine} {up : Bool} → load_of xs ≡ Ok m → Gives (line_up m.core.control m.core.pending) up
-          → r ≡ 0 → Leaves (answer_put (value_bytes (flag up)) value) ys → LineRead xs value r ys
-      unfolding line_call
-      line-answers {up = up} e g p q =
-          line-says (Ok up) (sizes-right _ _ 4 xs value l k ∙ ap line_in e ∙ line-loaded xs e g) p (q.lent ∙ is-put (value_bytes (flag up)) value k)
+-- the line of what was loaded goes by its control and what pends alone
+abbrev pub line_seen : Result Machine Refusal → Result Bool Refusal
+line_seen (Ok m) = Ok (line_up m.core.control m.core.pending)
+line_seen (Err why) = Err why
+
+pub loaded-line : (xs : List ℕ) → line_in (load_of xs) ≡ line_seen (load_of xs)
+loaded-line xs = by (load_of xs) refl
+  where
+    by : (l : Result Machine Refusal) → load_of xs ≡ l → line_in l ≡ line_seen l
+    by (Ok m) e = line-loaded xs e
+    by (Err why) e = refl
+
+-- the bytes of a value, put in a slice of their size
+pub value-put : (v : ℕ) (xs : List ℕ) → length xs ≡ 4 → answer_put (value_bytes v) xs ≡ value_bytes v
+value-put v xs l = is-put (value_bytes v) xs l
+
+pub ruleset line_told = (loaded-line, value-put, flag-byte)
 
 -- ---- sgdma_run
 

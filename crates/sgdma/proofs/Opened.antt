@@ -2,7 +2,7 @@
 -- Assumes nothing.
 use Rattle.std.specs.Prelude.{Result, Ok}
 use Prim.Native.Nat.{ℕ}
-use mathlib.Core.Path.{◌≡◌, sym, ◌∙◌, ap}
+use mathlib.Core.Path.{◌≡◌, sym, ◌∙◌}
 use mathlib.Core.Bool.{Bool, true, cond, ◌&&◌}
 use mathlib.Core.List.{List}
 use lib.ListN.{length}
@@ -45,6 +45,6 @@ module _ (xs : List ℕ) {m : Machine} (e : load_of xs ≡ Ok m) where
   pub write-loaded : (offset v : ℕ) {w : Result Machine Refusal} → Gives (wrote_to m offset v) w → WasWritten m offset v w
   write-loaded offset v g = was-written (g.value ∙ write_kept m offset v keeps-loaded)
 
-  pub line-loaded : {up : Bool} → Gives (line_up m.core.control m.core.pending) up → line_of m ≡ Ok up
+  pub line-loaded : line_of m ≡ Ok (line_up m.core.control m.core.pending)
   unfolding line_of
-  line-loaded g = rw keeps-loaded (ap Ok (sym g.value))
+  line-loaded = rw keeps-loaded

@@ -81,6 +81,7 @@ pub fn sgdma_read_register(image: &[u8], offset: u32, value: &mut [u8]) -> Resul
 }
 
 // Writes 1 into the four bytes of `value` where the interrupt line is up, else 0.
+#[tactic(auto, using(crate::proofs::Answered::line_told), unfolding(crate::specs::Calls::line_call))]
 pub fn sgdma_line(image: &[u8], value: &mut [u8]) -> Result<(), Refusal>
     ensures { LineRead image.now value.old (answer_number result) value.new }
 {
