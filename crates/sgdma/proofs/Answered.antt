@@ -7,7 +7,7 @@ use mathlib.Core.Bool.{Bool, true, false}
 use mir.Val.{bool_byte}
 use mathlib.Core.List.{List, []}
 use lib.ListN.{length}
-use borrow.Author.Tests.{eq-eqb, ne_eqb}
+use borrow.Author.Tests.{ne_eqb}
 use Rattle.words.specs.Bits.{flag}
 use Rattle.words.specs.Promise.{Gives, Leaves}
 use Rattle.bus.specs.declared.Refusal.{Refusal}
@@ -18,7 +18,6 @@ use Rattle.regs.specs.Control.{line_up}
 use Rattle.regs.specs.Offsets.{register_at}
 use Rattle.answers.specs.Answers.{value_bytes, report_bytes, descriptor_bytes, finding_bytes, answer_put}
 use Rattle.answers.proofs.Filled.{is-put}
-use Rattle.ledger.specs.Finding.{finding_in}
 use Rattle.machine.specs.declared.Machine.{Machine}
 use Rattle.machine.specs.declared.Ran.{Ran}
 use Rattle.machine.specs.Run.{reason_number}
@@ -138,12 +137,13 @@ module _ {ledger answer ys : List ℕ} {used run address r : ℕ} where
   unfolding find_call
   finding-short h p q = told-as (Err BadSize) (rw (ne_eqb (length answer) 4 h)) p q
 
-  pub finding-answers : {f g : Result (Option ℕ) Refusal} → length answer ≡ 4 → Gives (finding_in ledger used run address) f → f ≡ g
-      → r ≡ answer_number g → ys ≡ finding_over g answer → RecordFound ledger used run address answer r ys
-  unfolding find_call
-  finding-answers {f} {g} l w e p q = told-as g (rw (eq-eqb (length answer) 4 l) (sym w.value ∙ e)) p q
+-- the bytes of a finding, put in a slice of their size
+pub finding-put : (found : Bool) (count : ℕ) (xs : List ℕ) → length xs ≡ 4 → answer_put (finding_bytes found count) xs ≡ finding_bytes found count
+finding-put found count xs l = is-put (finding_bytes found count) xs l
 
 -- what was put, found or not
 pub finding-told : (found : Option ℕ) (answer : List ℕ) → finding_bytes (is_some found) (unwrap_or found 0) ≡ finding_over (Ok found) answer
 finding-told (Some count) answer = refl
 finding-told None answer = refl
+
+pub ruleset found_told = (finding-put, finding-told)

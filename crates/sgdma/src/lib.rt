@@ -200,6 +200,7 @@ pub fn sgdma_read_descriptor(
 }
 
 // Tells in the 4 bytes of `answer` whether the descriptor at `address` was written back in this run, and its latest byte count there.
+#[tactic(auto, using(crate::proofs::Answered::found_told), unfolding(crate::specs::Calls::find_call))]
 pub fn sgdma_find_record(
     ledger: &[u8],
     used: u32,
