@@ -32,6 +32,7 @@ fn put_image(m: Machine, image: &mut [u8])
 }
 
 // Makes the image of a fresh core.
+#[tactic(auto, unfolding(regs::specs::Modes::checked_mode, bus::specs::Window::checked_of))]
 pub fn sgdma_create(image: &mut [u8], mode: u32, base: u64, length: u64) -> Result<(), Refusal>
     ensures { Created image.old mode base length (answer_number result) image.new }
 {
